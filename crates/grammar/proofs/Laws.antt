@@ -1,0 +1,122 @@
+-- Laws of `read` and `readAt`, which stay shut elsewhere. Assumes nothing.
+use mathlib.Core.Path.{_≡_, refl, sym, ap, _∙_}
+use mathlib.Core.Bool.{Bool, true, false, cond}
+use mathlib.Core.List.{List, [], _∷_, _++_, append-assoc}
+use Prim.Native.Nat.{ℕ, zero, suc, _+_, _-_, _/_, _≤_, _<_}
+use native.Mathlib.Nat.{add-zero}
+use native.Mathlib.Omega.{arith}
+use lib.ListN.{length, drop}
+use Rattle.spelling.specs.declared.Line.{Line}
+use Rattle.spelling.specs.declared.Line.the-variants.{Spelt, Misspelt}
+use Rattle.spelling.specs.Spelling.{lineAt, linesFrom}
+use Rattle.spelling.proofs.Laws.{length-lines, lines-cons, lines-nil, past-end}
+use Rattle.grammar.specs.declared.Got.{Got}
+use Rattle.grammar.specs.declared.Got.the-variants.{Next, Refused}
+use Rattle.grammar.specs.Grammar.{Item, part, entries, goal, ok, due, read, readAt}
+
+abbrev andThen : Got → (ℕ → Got) → Got
+andThen (Next k) f = f k
+andThen (Refused l) f = Refused l
+
+-- ---- a list of lines
+pub nothing : (ls : List Line) (at : ℕ) → read ls [] at ≡ Next at
+unfolding read
+nothing [] at = refl
+nothing (l ∷ ls) at = refl
+
+pub cond-next : (t : Bool) (Y : Got) (l k : ℕ) → cond t Y (Refused l) ≡ Next k → (t ≡ true) × (Y ≡ Next k)
+cond-next true Y l k e = (refl, e)
+cond-next false Y l k e = absurd (let z : _≡_ {A = ℕ} 0 1 = cc in omega arith)
+
+-- a line that is read, and the rest
+pub one : (l : Line) (ls : List Line) (x : Item) (todo : List Item) (at k : ℕ) → read (l ∷ ls) (x ∷ todo) at ≡ Next k
+    → (ok x l ≡ true) × (read ls (due x l ++ todo) (at + 1) ≡ Next k)
+unfolding read
+one l ls x todo at k e = cond-next (ok x l) _ _ k e
+
+pub no-line : (x : Item) (todo : List Item) (at k : ℕ) → read [] (x ∷ todo) at ≡ Next k → ⊥
+unfolding read
+no-line x todo at k e = let z : _≡_ {A = ℕ} 0 1 = cc in omega arith
+
+pub bounds : (ls : List Line) (todo : List Item) (at k : ℕ) → read ls todo at ≡ Next k → (at ≤ k) × (k ≤ at + length ls)
+bounds [] [] at k e = let z : at ≡ k = cc (nothing [] at) in omega arith
+bounds [] (x ∷ todo) at k e = absurd (no-line x todo at k e)
+bounds (l ∷ ls) [] at k e = let z : at ≡ k = cc (nothing (l ∷ ls) at) in omega arith
+bounds (l ∷ ls) (x ∷ todo) at k e = let h = bounds ls (due x l ++ todo) (at + 1) k (one l ls x todo at k e .1) in omega arith
+
+strict : (ls : List Line) (x : Item) (todo : List Item) (at k : ℕ) → read ls (x ∷ todo) at ≡ Next k → at < k
+strict [] x todo at k e = absurd (no-line x todo at k e)
+strict (l ∷ ls) x todo at k e = let h = bounds ls (due x l ++ todo) (at + 1) k (one l ls x todo at k e .1) in omega arith
+
+cond-then : (t : Bool) (X Y R : Got) (K : ℕ → Got) → X ≡ andThen Y K → R ≡ andThen R K → cond t X R ≡ andThen (cond t Y R) K
+cond-then true X Y R K p q = p
+cond-then false X Y R K p q = q
+
+-- ---- a sheet
+module _ (s : List ℕ) where
+  appended : (N n : ℕ) (a b : List Item) (at : ℕ) → N - at ≡ n
+      → read (linesFrom s at n) (a ++ b) at ≡ andThen (read (linesFrom s at n) a at) (λ k. read (linesFrom s k (N - k)) b k)
+  unfolding read linesFrom
+  appended N zero [] b at e = rw e
+  appended N zero (x ∷ a) b at e = refl
+  appended N (suc n) [] b at e = rw e
+  appended N (suc n) (x ∷ a) b at e =
+      cond-then (ok x (lineAt s at)) _ _ (Refused (at + 1)) (λ k. read (linesFrom s k (N - k)) b k)
+      (rw (← append-assoc (due x (lineAt s at)) a b) (appended N n (due x (lineAt s at) ++ a) b (at + 1) (omega arith))) refl
+
+  pub done : (at : ℕ) → readAt s [] at ≡ Next at
+  unfolding readAt
+  done at = nothing _ at
+
+  pub lacking : (x : Item) (todo : List Item) (at : ℕ) → length s / 29 ≤ at → readAt s (x ∷ todo) at ≡ Refused (at + 1)
+  unfolding readAt read
+  lacking x todo at h = rw (lines-nil s at (length s / 29) h)
+
+  here : (x : Item) (todo : List Item) (at : ℕ) → at < length s / 29
+      → readAt s (x ∷ todo) at ≡ cond (ok x (lineAt s at)) (readAt s (due x (lineAt s at) ++ todo) (at + 1)) (Refused (at + 1))
+  unfolding readAt read
+  here x todo at h = rw (lines-cons s at (length s / 29) h)
+
+  -- no item is met past the last line
+  past : (x : Item) → ok x Misspelt ≡ false
+  past (part k) = refl
+  past (entries k n) = refl
+  past goal = refl
+
+  pub inside : (x : Item) (at : ℕ) → ok x (lineAt s at) ≡ true → at < length s / 29
+  inside x at e = go (lib.Dec.ltb at (length s / 29)) refl
+    where
+      go : (b : Bool) → lib.Dec.ltb at (length s / 29) ≡ b → at < length s / 29
+      go true h = borrow.Author.Tests.ltb-true at _ h
+      go false h =
+          let p : ok x (lineAt s at) ≡ false = rw (past-end s at (borrow.Author.Tests.ltb-false at _ h)) (past x) in
+          absurd (let z : _≡_ {A = ℕ} 0 1 = cc in omega arith)
+
+  pub refused : (x : Item) (todo : List Item) (at : ℕ) → ok x (lineAt s at) ≡ false → readAt s (x ∷ todo) at ≡ Refused (at + 1)
+  refused x todo at e = go (lib.Dec.ltb at (length s / 29)) refl
+    where
+      go : (b : Bool) → lib.Dec.ltb at (length s / 29) ≡ b → readAt s (x ∷ todo) at ≡ Refused (at + 1)
+      go true h = here x todo at (borrow.Author.Tests.ltb-true at _ h) ∙ rw e
+      go false h = lacking x todo at (borrow.Author.Tests.ltb-false at _ h)
+
+  pub goes-on : (x : Item) (todo : List Item) (at : ℕ) → ok x (lineAt s at) ≡ true → readAt s (x ∷ todo) at ≡ readAt s (due x (lineAt s at) ++ todo) (at + 1)
+  goes-on x todo at e = here x todo at (inside x at e) ∙ rw e
+
+  pub follow : (a b : List Item) (at k : ℕ) → readAt s a at ≡ Next k → readAt s (a ++ b) at ≡ readAt s b k
+  unfolding readAt
+  follow a b at k e = appended (length s / 29) _ a b at refl ∙ rw e
+
+  pub stops : (a b : List Item) (at l : ℕ) → readAt s a at ≡ Refused l → readAt s (a ++ b) at ≡ Refused l
+  unfolding readAt
+  stops a b at l e = appended (length s / 29) _ a b at refl ∙ rw e
+
+  pub within : (todo : List Item) (at k : ℕ) → at ≤ length s / 29 → readAt s todo at ≡ Next k → (at ≤ k) × (k ≤ length s / 29)
+  unfolding readAt
+  within todo at k h e =
+      let b = bounds (linesFrom s at (length s / 29 - at)) todo at k e in
+      let n = length-lines s at (length s / 29 - at) in
+      omega arith
+
+  pub beyond : (x : Item) (todo : List Item) (at k : ℕ) → readAt s (x ∷ todo) at ≡ Next k → at < k
+  unfolding readAt
+  beyond x todo at k e = strict _ x todo at k e

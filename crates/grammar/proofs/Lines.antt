@@ -1,0 +1,84 @@
+-- Which lines are refused: none past the line after the last. Assumes nothing.
+use mathlib.Core.Path.{_≡_, refl, sym, ap, _∙_}
+use mathlib.Core.Bool.{Bool, true, false, cond, _&&_}
+use mathlib.Core.List.{List, [], _∷_, _++_}
+use Prim.Native.Nat.{ℕ, zero, suc, _+_, _-_, _/_, _%_, _≤_, _<_}
+use native.Mathlib.Omega.{arith}
+use lib.ListN.{length}
+use lib.Dec.{ltb, leb, eqb}
+use borrow.Author.Tests.{ltb-true, leb-true}
+use Rattle.spelling.specs.declared.Line.{Line}
+use Rattle.spelling.specs.Spelling.{linesFrom, linesOf, firstMisspelt}
+use Rattle.spelling.proofs.Laws.{length-lines}
+use Rattle.grammar.specs.declared.Got.{Got}
+use Rattle.grammar.specs.declared.Got.the-variants.{Next, Refused}
+use Rattle.grammar.specs.declared.Check.{Check}
+use Rattle.grammar.specs.declared.Check.the-variants.{Plan, Length, Misspelt, Unfit}
+use Rattle.grammar.specs.Grammar.{Item, entries, ok, due, read, readAt}
+use Rattle.grammar.specs.Check.{lengthOk, endOf, readSheet, fitting, check, checkLine}
+use Rattle.grammar.proofs.Laws.{within}
+
+-- where reading stops: at most one line past the last
+abbrev Stop : ℕ → Got → Type 0
+Stop n (Next k) = Unit {0}
+Stop n (Refused l) = l ≤ n + 1
+
+cond-stop : (n : ℕ) (t : Bool) (x y : Got) → Stop n x → Stop n y → Stop n (cond t x y)
+cond-stop n true x y p q = p
+cond-stop n false x y p q = q
+
+later : (m n : ℕ) (r : Got) → m ≤ n → Stop m r → Stop n r
+later m n (Next k) h s = tt
+later m n (Refused l) h s = omega arith
+
+read-stop : (ls : List Line) (todo : List Item) (at : ℕ) → Stop (at + length ls) (read ls todo at)
+unfolding read
+read-stop [] [] at = tt
+read-stop [] (x ∷ todo) at = omega arith
+read-stop (l ∷ ls) [] at = tt
+read-stop (l ∷ ls) (x ∷ todo) at =
+    cond-stop (at + length (l ∷ ls)) (ok x l) (read ls (due x l ++ todo) (at + 1)) (Refused (at + 1))
+    (later (at + 1 + length ls) (at + length (l ∷ ls)) (read ls (due x l ++ todo) (at + 1)) (omega arith) (read-stop ls (due x l ++ todo) (at + 1)))
+    (omega arith)
+
+entries-stop : (s : List ℕ) → Stop (length s / 29) (readAt s (entries 1 0 ∷ []) 0)
+unfolding readAt
+entries-stop s =
+    let n = length s / 29 - 0 in
+    later (0 + length (linesFrom s 0 n)) (length s / 29) (read (linesFrom s 0 n) (entries 1 0 ∷ []) 0) (omega (arith, length-lines s 0 n)) (read-stop (linesFrom s 0 n) (entries 1 0 ∷ []) 0)
+
+sheet-stop : (s : List ℕ) → Stop (length s / 29) (readSheet s)
+unfolding readSheet
+sheet-stop s = go (readAt s (entries 1 0 ∷ []) 0) refl
+  where
+    go : (r : Got) → readAt s (entries 1 0 ∷ []) 0 ≡ r → Stop (length s / 29) (endOf (length s / 29) r)
+    go (Next k) e = cond-stop (length s / 29) (eqb k (length s / 29)) (Next k) (Refused (k + 1)) tt (let w = within s (entries 1 0 ∷ []) 0 k (omega arith) e in omega arith)
+    go (Refused l) e = rw e at (entries-stop s)
+
+-- a sheet that is read at all has at most 2,000 lines
+few-lines : (n : ℕ) → lengthOk n ≡ true → n / 29 ≤ 2000
+few-lines n = go (ltb 0 n) (leb n 58000) refl
+  where
+    go : (a b : Bool) → leb n 58000 ≡ b → (a && (b && eqb (n % 29) 0)) ≡ true → n / 29 ≤ 2000
+    go true true h e = let l = leb-true n 58000 h in omega arith
+    go true false h e = absurd (let z : _≡_ {A = ℕ} 0 1 = cc in omega arith)
+    go false b h e = absurd (let z : _≡_ {A = ℕ} 0 1 = cc in omega arith)
+
+pub line-small : (s : List ℕ) → checkLine (check s) ≤ 2001
+unfolding check
+line-small s = length-test (lengthOk (length s)) refl
+  where
+    m : ℕ
+    m = firstMisspelt (linesOf s)
+
+    fitted : length s / 29 ≤ 2000 → (r : Got) → Stop (length s / 29) r → checkLine (fitting r) ≤ 2001
+    fitted n (Next k) h = omega arith
+    fitted n (Refused l) h = omega arith
+
+    spelt : length s / 29 ≤ 2000 → (t : Bool) → ltb m (length s / 29) ≡ t → checkLine (cond t (Misspelt (m + 1)) (fitting (readSheet s))) ≤ 2001
+    spelt n true e = let l = ltb-true m (length s / 29) e in omega arith
+    spelt n false e = fitted n (readSheet s) (sheet-stop s)
+
+    length-test : (t : Bool) → lengthOk (length s) ≡ t → checkLine (cond t (cond (ltb m (length s / 29)) (Misspelt (m + 1)) (fitting (readSheet s))) Length) ≤ 2001
+    length-test true e = spelt (few-lines (length s) e) (ltb m (length s / 29)) refl
+    length-test false e = omega arith

@@ -1,0 +1,51 @@
+-- What holds of every row of the table. Assumes nothing.
+use mathlib.Core.Path.{_≡_, refl}
+use mathlib.Core.Bool.{Bool, true, false, cond, _&&_}
+use mathlib.Core.List.{List, [], _∷_}
+use Prim.Native.Nat.{ℕ, _≤_, _<_, max}
+use native.Mathlib.Omega.{arith}
+use lib.Dec.{eqb, leb}
+use borrow.Author.Tests.{ne-eqb, leb-true}
+use Rattle.kinds.specs.declared.Row.{Row}
+use Rattle.kinds.specs.Kinds.{Listed, find, table, rowOf, unlisted}
+
+-- the largest kind listed
+abbrev pub most : List Listed → ℕ
+most [] = 0
+most (l ∷ ls) = max (l .kind) (most ls)
+
+pub above : (k : ℕ) (ls : List Listed) → most ls < k → find k ls ≡ unlisted
+unfolding find
+above k [] h = refl
+above k (l ∷ ls) h = rw (ne-eqb k (l .kind) (omega arith)) (above k ls (omega arith))
+
+-- a test that every row passes, and the empty row, holds of the row of each kind
+abbrev every : (Row → Bool) → List Listed → Bool
+every p [] = p unlisted
+every p (l ∷ ls) = p (l .is) && every p ls
+
+both : (a b : Bool) → (a && b) ≡ true → (a ≡ true) × (b ≡ true)
+both true b e = (refl, e)
+both false b e = absurd (let z : _≡_ {A = ℕ} 0 1 = cc in omega arith)
+
+found : (p : Row → Bool) (k : ℕ) (ls : List Listed) → every p ls ≡ true → p (find k ls) ≡ true
+unfolding find
+found p k [] e = e
+found p k (l ∷ ls) e = go (eqb k (l .kind)) (both (p (l .is)) (every p ls) e) (found p k ls (both (p (l .is)) (every p ls) e .1))
+  where
+    go : (t : Bool) → (p (l .is) ≡ true) × (every p ls ≡ true) → p (find k ls) ≡ true → p (cond t (l .is) (find k ls)) ≡ true
+    go true h r = h .0
+    go false h r = r
+
+pub row-passes : (p : Row → Bool) (k : ℕ) → every p table ≡ true → p (rowOf k) ≡ true
+unfolding rowOf
+row-passes p k e = found p k table e
+
+-- few parts follow whatever the count says
+pub few-types : (k : ℕ) → rowOf k .types ≤ 2
+unfolding table
+few-types k = leb-true _ 2 (row-passes (λ r. leb (r .types) 2) k refl)
+
+pub few-terms : (k : ℕ) → rowOf k .terms ≤ 3
+unfolding table
+few-terms k = leb-true _ 3 (row-passes (λ r. leb (r .terms) 3) k refl)

@@ -1,0 +1,163 @@
+-- Laws of `words`, `nodesAt` and `sets`. Assumes nothing.
+use mathlib.Core.Path.{_≡_, refl, sym, ap, ap₂, _∙_, subst}
+use mathlib.Core.Logic.{_≢_}
+use mathlib.Core.List.{List, [], _∷_, _++_, append-assoc}
+use Prim.Native.Nat.{ℕ, zero, suc, _+_, _*_, _-_, _≤_, _<_}
+use native.Mathlib.Nat.{add-zero, add-suc, suc-add, not-suc-le-zero}
+use native.Mathlib.Numerals.{add-one, add-two}
+use native.Mathlib.Omega.{arith}
+use lib.ListN.{length, getD, set, take, drop, length-set, length-append}
+use lib.Seq.{sets, length-sets, getD-set-same, getD-set-other}
+use Rattle.nodes.specs.Nodes.{Node, node, words, nodesAt}
+
+-- ---- stores one after another
+
+pub sets-append : (l : List ℕ) (i : ℕ) (vs ws : List ℕ) → sets l i (vs ++ ws) ≡ sets (sets l i vs) (i + length vs) ws
+sets-append l i [] ws = ap (λ (k : ℕ). sets l k ws) (sym (add-zero i))
+sets-append l i (a ∷ vs) ws =
+    let e : suc i + length vs ≡ i + suc (length vs) = omega arith in
+    sets-append (set l i a) (suc i) vs ws ∙ ap (λ (k : ℕ). sets (sets (set l i a) (suc i) vs) k ws) e
+
+pub getD-sets-below : (l : List ℕ) (i : ℕ) (vs : List ℕ) (j : ℕ) → j < i → getD (sets l i vs) j 0 ≡ getD l j 0
+getD-sets-below l i [] j h = refl
+getD-sets-below l i (a ∷ vs) j h =
+    getD-sets-below (set l i a) (suc i) vs j (omega arith) ∙ getD-set-other l i j a 0 (omega arith)
+
+pub getD-sets-above : (l : List ℕ) (i : ℕ) (vs : List ℕ) (j : ℕ) → i + length vs ≤ j → getD (sets l i vs) j 0 ≡ getD l j 0
+getD-sets-above l i [] j h = refl
+getD-sets-above l i (a ∷ vs) j h =
+    let h' : i + suc (length vs) ≤ j = h in
+    getD-sets-above (set l i a) (suc i) vs j (omega arith) ∙ getD-set-other l i j a 0 (omega arith)
+
+-- ---- words and nodes
+
+pub length-words : (t : List Node) → length (words t) ≡ 2 * length t
+unfolding words
+length-words [] = refl
+length-words (node k v ∷ t) = let ih = length-words t in omega arith
+
+pub words-append : (s t : List Node) → words (s ++ t) ≡ words s ++ words t
+unfolding words
+words-append [] t = refl
+words-append (node k v ∷ s) t = ap (λ (r : List ℕ). k ∷ v ∷ r) (words-append s t)
+
+pub length-nodesAt : (b : List ℕ) (p n : ℕ) → length (nodesAt b p n) ≡ n
+unfolding nodesAt
+length-nodesAt b p zero = refl
+length-nodesAt b p (suc n) = ap suc (length-nodesAt b (p + 2) n)
+
+-- the first node and the others
+pub nodesAt-cons : (b : List ℕ) (p n : ℕ) → 0 < n → nodesAt b p n ≡ node (getD b p 0) (getD b (p + 1) 0) ∷ nodesAt b (p + 2) (n - 1)
+unfolding nodesAt
+nodesAt-cons b p zero h = absurd (not-suc-le-zero h)
+nodesAt-cons b p (suc n) h =
+    let e : n ≡ suc n - 1 = omega arith in
+    ap (λ (k : ℕ). node (getD b p 0) (getD b (p + 1) 0) ∷ nodesAt b (p + 2) k) e
+
+pub nodesAt-append : (b : List ℕ) (p n m : ℕ) → nodesAt b p (n + m) ≡ nodesAt b p n ++ nodesAt b (p + 2 * n) m
+unfolding nodesAt
+nodesAt-append b p zero m =
+    let e : 0 + m ≡ m = omega arith in
+    let f : p ≡ p + 2 * 0 = omega arith in
+    ap₂ (λ (x y : ℕ). nodesAt b x y) f e
+nodesAt-append b p (suc n) m =
+    let e : suc n + m ≡ suc (n + m) = omega arith in
+    let f : (p + 2) + 2 * n ≡ p + 2 * suc n = omega arith in
+    ap (λ (k : ℕ). nodesAt b p k) e
+    ∙ ap (λ (r : List Node). node (getD b p 0) (getD b (p + 1) 0) ∷ r)
+    (nodesAt-append b (p + 2) n m ∙ ap (λ (k : ℕ). nodesAt b (p + 2) n ++ nodesAt b k m) f)
+
+-- one more node at the end
+pub nodesAt-snoc : (b : List ℕ) (p n : ℕ) → nodesAt b p (n + 1) ≡ nodesAt b p n ++ (node (getD b (p + 2 * n) 0) (getD b (p + 2 * n + 1) 0) ∷ [])
+unfolding nodesAt
+nodesAt-snoc b p n = nodesAt-append b p n 1
+
+-- ---- what a run of stores leaves of nodes
+
+pub nodesAt-below : (b : List ℕ) (i : ℕ) (vs : List ℕ) (p n : ℕ) → p + 2 * n ≤ i → nodesAt (sets b i vs) p n ≡ nodesAt b p n
+unfolding nodesAt
+nodesAt-below b i vs p zero h = refl
+nodesAt-below b i vs p (suc n) h =
+    rw (getD-sets-below b i vs p (omega arith), getD-sets-below b i vs (p + 1) (omega arith), nodesAt-below b i vs (p + 2) n (omega arith))
+
+pub nodesAt-above : (b : List ℕ) (i : ℕ) (vs : List ℕ) (p n : ℕ) → i + length vs ≤ p → nodesAt (sets b i vs) p n ≡ nodesAt b p n
+unfolding nodesAt
+nodesAt-above b i vs p zero h = refl
+nodesAt-above b i vs p (suc n) h =
+    rw (getD-sets-above b i vs p h, getD-sets-above b i vs (p + 1) (omega arith), nodesAt-above b i vs (p + 2) n (omega arith))
+
+pub nodesAt-same : (t : List Node) (b : List ℕ) (p : ℕ) → p + 2 * length t ≤ length b → nodesAt (sets b p (words t)) p (length t) ≡ t
+unfolding nodesAt words
+nodesAt-same [] b p h = refl
+nodesAt-same (node k v ∷ t) b p h =
+    let h' : p + 2 * suc (length t) ≤ length b = h in
+    let b₂ : List ℕ = set (set b p k) (suc p) v in
+    let e₀ : getD (sets b₂ (suc (suc p)) (words t)) p 0 ≡ k =
+    getD-sets-below b₂ (suc (suc p)) (words t) p (omega arith)
+    ∙ getD-set-other (set b p k) (suc p) p v 0 (omega arith)
+    ∙ getD-set-same b p k 0 (omega arith) in
+    let e₁ : getD (sets b₂ (suc (suc p)) (words t)) (p + 1) 0 ≡ v =
+    ap (λ (j : ℕ). getD (sets b₂ (suc (suc p)) (words t)) j 0) (add-one p)
+    ∙ getD-sets-below b₂ (suc (suc p)) (words t) (suc p) (omega arith)
+    ∙ getD-set-same (set b p k) (suc p) v 0 (omega (arith, length-set b p k)) in
+    let e₂ : nodesAt (sets b₂ (suc (suc p)) (words t)) (p + 2) (length t) ≡ t =
+    ap (λ (j : ℕ). nodesAt (sets b₂ (suc (suc p)) (words t)) j (length t)) (add-two p)
+    ∙ nodesAt-same t b₂ (suc (suc p)) (omega (arith, length-set (set b p k) (suc p) v, length-set b p k)) in
+    rw (e₀, e₁, e₂)
+
+-- a turn of the loop that copies: two more stores
+pub two-more : (l : List ℕ) (i : ℕ) (t : List Node) (k v : ℕ)
+    → set (set (sets l i (words t)) (i + 2 * length t) k) (i + 2 * length t + 1) v ≡ sets l i (words (t ++ (node k v ∷ [])))
+unfolding words
+two-more l i t k v =
+    let j : ℕ = i + 2 * length t in
+    let e : i + length (words t) ≡ j = ap (λ (x : ℕ). i + x) (length-words t) in
+    ap (λ (x : ℕ). set (set (sets l i (words t)) j k) x v) (add-one j)
+    ∙ ap (λ (x : ℕ). sets (sets l i (words t)) x (k ∷ v ∷ [])) (sym e)
+    ∙ sym (sets-append l i (words t) (k ∷ v ∷ []))
+    ∙ ap (λ (r : List ℕ). sets l i r) (sym (words-append t (node k v ∷ [])))
+
+pub copy-step : (d s : List ℕ) (at from i : ℕ) (e : List ℕ) → e ≡ sets d at (words (nodesAt s from i))
+    → set (set e (at + 2 * i) (getD s (from + 2 * i) 0)) (at + 2 * i + 1) (getD s (from + 2 * i + 1) 0) ≡ sets d at (words (nodesAt s from (i + 1)))
+copy-step d s at from i e h =
+    let k : ℕ = getD s (from + 2 * i) 0 in
+    let v : ℕ = getD s (from + 2 * i + 1) 0 in
+    let t : List Node = nodesAt s from i in
+    ap (λ (r : List ℕ). set (set r (at + 2 * i) k) (at + 2 * i + 1) v) h
+    ∙ ap (λ (n : ℕ). set (set (sets d at (words t)) (at + 2 * n) k) (at + 2 * n + 1) v) (sym (length-nodesAt s from i))
+    ∙ two-more d at t k v
+    ∙ ap (λ (r : List Node). sets d at (words r)) (sym (nodesAt-snoc s from i))
+
+-- what a run of stores stored
+pub getD-sets-in : (l : List ℕ) (i : ℕ) (vs : List ℕ) (k : ℕ) → k < length vs → i + length vs ≤ length l → getD (sets l i vs) (i + k) 0 ≡ getD vs k 0
+getD-sets-in l i [] k h f = absurd (not-suc-le-zero h)
+getD-sets-in l i (a ∷ vs) zero h f =
+    rw (add-zero i) (getD-sets-below (set l i a) (suc i) vs i (omega arith) ∙ getD-set-same l i a 0 (omega arith))
+getD-sets-in l i (a ∷ vs) (suc k) h f =
+    let e : i + suc k ≡ suc i + k = omega arith in
+    rw e (getD-sets-in (set l i a) (suc i) vs k (omega arith) (omega (arith, length-set l i a)))
+
+pub take-nodesAt : (b : List ℕ) (p n k : ℕ) → k ≤ n → take k (nodesAt b p n) ≡ nodesAt b p k
+unfolding nodesAt
+take-nodesAt b p n zero h = refl
+take-nodesAt b p zero (suc k) h = absurd (not-suc-le-zero h)
+take-nodesAt b p (suc n) (suc k) h = ap (λ (r : List Node). node (getD b p 0) (getD b (p + 1) 0) ∷ r) (take-nodesAt b (p + 2) n k (omega arith))
+
+pub drop-nodesAt : (b : List ℕ) (p n k : ℕ) → k ≤ n → drop k (nodesAt b p n) ≡ nodesAt b (p + 2 * k) (n - k)
+unfolding nodesAt
+drop-nodesAt b p n zero h =
+    let e : p ≡ p + 2 * 0 = omega arith in
+    let f : n ≡ n - 0 = omega arith in
+    ap₂ (λ (x y : ℕ). nodesAt b x y) e f
+drop-nodesAt b p zero (suc k) h = absurd (not-suc-le-zero h)
+drop-nodesAt b p (suc n) (suc k) h =
+    let e : p + 2 + 2 * k ≡ p + 2 * suc k = omega arith in
+    let f : n - k ≡ suc n - suc k = omega arith in
+    drop-nodesAt b (p + 2) n k (omega arith) ∙ ap₂ (λ (x y : ℕ). nodesAt b x y) e f
+
+-- words that do not change keep the nodes
+pub nodesAt-agree : (b b' : List ℕ) (p n : ℕ) → ((j : ℕ) → p ≤ j → j < p + 2 * n → getD b' j 0 ≡ getD b j 0) → nodesAt b' p n ≡ nodesAt b p n
+unfolding nodesAt
+nodesAt-agree b b' p zero f = refl
+nodesAt-agree b b' p (suc n) f =
+    rw (f p (omega arith) (omega arith), f (p + 1) (omega arith) (omega arith), nodesAt-agree b b' (p + 2) n (λ j l q. f j (omega arith) (omega arith)))

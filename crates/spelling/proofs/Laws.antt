@@ -1,0 +1,80 @@
+-- One byte of a field, and one line of a sheet, taken off the front.
+-- Assumes nothing.
+use mathlib.Core.Path.{_≡_, refl, sym, _∙_, ap}
+use mathlib.Core.Bool.{Bool, true, false, cond, _&&_}
+use mathlib.Core.List.{List, [], _∷_}
+use Prim.Native.Nat.{ℕ, zero, suc, _+_, _*_, _-_, _/_, _≤_, _<_}
+use native.Mathlib.Omega.{arith}
+use native.Mathlib.Nat.{add-assoc, add-zero, zero-add, sub-zero}
+use lib.ListN.{length, getD, List·getD-eq-default}
+use Rattle.spelling.specs.Spelling.{fieldFrom, step, unsigned, magnitude, signOk, lineOf, lineAt, linesFrom, linesOf, firstMisspelt}
+use Rattle.spelling.specs.declared.Field.{Field}
+use Rattle.spelling.specs.declared.Field.the-variants.{Blank}
+use Rattle.spelling.specs.declared.Triple.{Triple}
+use Rattle.spelling.specs.declared.Line.{Line}
+use Rattle.spelling.specs.declared.Line.the-variants.{Spelt, Misspelt}
+
+field-step : (s : List ℕ) (at n m : ℕ) (f : Field) → n ≡ suc m → fieldFrom s at n f ≡ fieldFrom s (at + 1) m (step f (getD s at 0))
+unfolding fieldFrom
+field-step s at n m f e = rw e
+
+pub field-again : (s : List ℕ) (at w i : ℕ) (f g : Field) → i < w → g ≡ step f (getD s (at + i) 0) → fieldFrom s (at + (i + 1)) (w - (i + 1)) g ≡ fieldFrom s (at + i) (w - i) f
+field-again s at w i f g h e = rw (e, ← add-assoc at i 1) (sym (field-step s (at + i) (w - i) (w - (i + 1)) f (omega arith)))
+
+pub field-done : (s : List ℕ) (at n : ℕ) (f : Field) → n ≡ 0 → fieldFrom s at n f ≡ f
+unfolding fieldFrom
+field-done s at n f e = rw e
+
+-- past the last whole line stands no LF
+pub past-end : (s : List ℕ) (i : ℕ) → length s / 29 ≤ i → lineAt s i ≡ Misspelt
+unfolding lineAt lineOf
+past-end s i h =
+    let z : getD s (29 * i + 28) 0 ≡ 0 = List·getD-eq-default s 0 (omega arith) in
+    rw z (none (unsigned (fieldFrom s (29 * i) 3 Blank)) (signOk (fieldFrom s (29 * i + 3) 20 Blank) (magnitude (fieldFrom s (29 * i) 3 Blank))) (unsigned (fieldFrom s (29 * i + 23) 5 Blank)) _)
+  where
+    none : (a b c : Bool) (t : Triple) → cond (a && (b && (c && false))) (Spelt t) Misspelt ≡ Misspelt
+    none true true true t = refl
+    none true true false t = refl
+    none true false c t = refl
+    none false b c t = refl
+
+-- ---- lines
+pub length-lines : (s : List ℕ) (i n : ℕ) → length (linesFrom s i n) ≡ n
+unfolding linesFrom
+length-lines s i zero = refl
+length-lines s i (suc n) = ap suc (length-lines s (i + 1) n)
+
+pub lines-cons : (s : List ℕ) (i n : ℕ) → i < n → linesFrom s i (n - i) ≡ lineAt s i ∷ linesFrom s (i + 1) (n - (i + 1))
+unfolding linesFrom
+lines-cons s i n h = let e : n - i ≡ suc (n - (i + 1)) = omega arith in rw e
+
+pub lines-nil : (s : List ℕ) (i n : ℕ) → n ≤ i → linesFrom s i (n - i) ≡ []
+unfolding linesFrom
+lines-nil s i n h = let e : n - i ≡ 0 = omega arith in rw e
+
+-- ---- the first misspelt line
+abbrev pub Left : List ℕ → ℕ → ℕ → ℕ
+Left s i n = i + firstMisspelt (linesFrom s i (n - i))
+
+pub first-start : (s : List ℕ) (n : ℕ) → n ≡ length s / 29 → Left s 0 n ≡ firstMisspelt (linesOf s)
+unfolding linesOf
+first-start s n e = rw (e, zero-add, sub-zero)
+
+pub first-again : (s : List ℕ) (i n : ℕ) (t : Triple) → i < n → lineAt s i ≡ Spelt t → Left s (i + 1) n ≡ Left s i n
+unfolding firstMisspelt
+first-again s i n t h e =
+    let m = firstMisspelt (linesFrom s (i + 1) (n - (i + 1))) in
+    let k : firstMisspelt (linesFrom s i (n - i)) ≡ suc m = rw (lines-cons s i n h, e) in
+    rw k (omega arith)
+
+pub first-here : (s : List ℕ) (i n : ℕ) → i < n → lineAt s i ≡ Misspelt → i ≡ Left s i n
+unfolding firstMisspelt
+first-here s i n h e =
+    let k : firstMisspelt (linesFrom s i (n - i)) ≡ 0 = rw (lines-cons s i n h, e) in
+    rw (k, add-zero)
+
+pub first-none : (s : List ℕ) (i n : ℕ) → n ≤ i → i ≡ Left s i n
+unfolding firstMisspelt
+first-none s i n h =
+    let k : firstMisspelt (linesFrom s i (n - i)) ≡ 0 = rw (lines-nil s i n h) in
+    rw (k, add-zero)

@@ -1,0 +1,4 @@
+pub mod Laws
+pub mod Fields
+pub mod Texts
+pub mod Tests

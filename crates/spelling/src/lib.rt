@@ -1,0 +1,217 @@
+// How a sheet's lines are spelt: fields of decimal numbers, lines of 29 bytes.
+ghost use mathlib.Core.Path.{_≡_};
+ghost use Prim.Native.Nat.{ℕ, _+_, _*_, _-_, _/_, _≤_, _<_};
+ghost use lib.ListN.{length, getD};
+ghost use Rattle.spelling.specs.Spelling.{digitStep, otherStep, step, fieldFrom, unsigned, magnitude, minus, signOk, lineOf, lineAt, linesOf, firstMisspelt};
+
+// What the bytes of a field read so far spell.
+pub enum Field {
+    // Spaces only.
+    Blank,
+    // Spaces and a minus sign.
+    Minus,
+    // A number: its sign and its magnitude.
+    Number(bool, u64),
+    // No number.
+    Bad,
+}
+
+// What a line says: its kind, its value as a sign and a magnitude, and its count.
+pub struct Triple {
+    pub kind: u64,
+    pub negative: bool,
+    pub value: u64,
+    pub count: u64,
+}
+
+pub enum Line {
+    Spelt(Triple),
+    Misspelt,
+}
+
+// One digit more. A number that starts with 0 takes none, and no number passes 2^63.
+fn digit_step(f: Field, d: u64) -> Field
+    requires { ⌜ d ≤ 9 ⌝ }
+    ensures { λ r. ⌜ r ≡ digitStep f d ⌝ }
+{
+    match f {
+        Field::Blank => Field::Number(false, d),
+        Field::Minus => {
+            if d == 0 {
+                Field::Bad
+            } else {
+                Field::Number(true, d)
+            }
+        }
+        Field::Number(n, m) => {
+            if m == 0 {
+                Field::Bad
+            } else if m <= 922337203685477580 {
+                let x = 10 * m + d;
+                if x <= 9223372036854775808 {
+                    Field::Number(n, x)
+                } else {
+                    Field::Bad
+                }
+            } else {
+                Field::Bad
+            }
+        }
+        Field::Bad => Field::Bad,
+    }
+}
+
+// One byte more that is no digit: a space or a minus sign, before any digit.
+fn other_step(f: Field, b: u8) -> Field
+    ensures { λ r. ⌜ r ≡ otherStep f b ⌝ }
+{
+    match f {
+        Field::Blank => {
+            if b == 32 {
+                Field::Blank
+            } else if b == 45 {
+                Field::Minus
+            } else {
+                Field::Bad
+            }
+        }
+        Field::Minus => Field::Bad,
+        Field::Number(_, _) => Field::Bad,
+        Field::Bad => Field::Bad,
+    }
+}
+
+fn byte_step(f: Field, b: u8) -> Field
+    ensures { λ r. ⌜ r ≡ step f b ⌝ }
+{
+    if b < 48 {
+        other_step(f, b)
+    } else if b <= 57 {
+        digit_step(f, (b - 48) as u64)
+    } else {
+        other_step(f, b)
+    }
+}
+
+// The field of w bytes from at.
+fn field_at(s: &[u8], at: usize, w: usize) -> Field
+    requires { ⌜ at + w ≤ length (now s) ⌝ }
+    ensures { λ r. ⌜ r ≡ fieldFrom (now (s .entry)) at w Field.Blank ⌝ }
+{
+    let mut f = Field::Blank;
+    let mut i = 0;
+    while i < w {
+        f = byte_step(f, s[at + i]);
+        i += 1;
+    }
+    f
+}
+
+fn is_unsigned(f: Field) -> bool
+    ensures { λ r. ⌜ r ≡ unsigned f ⌝ }
+{
+    match f {
+        Field::Number(n, _) => !n,
+        Field::Blank => false,
+        Field::Minus => false,
+        Field::Bad => false,
+    }
+}
+
+fn magnitude_of(f: Field) -> u64
+    ensures { λ r. ⌜ r ≡ magnitude f ⌝ }
+{
+    match f {
+        Field::Number(_, m) => m,
+        Field::Blank => 0,
+        Field::Minus => 0,
+        Field::Bad => 0,
+    }
+}
+
+fn is_minus(f: Field) -> bool
+    ensures { λ r. ⌜ r ≡ minus f ⌝ }
+{
+    match f {
+        Field::Number(n, _) => n,
+        Field::Blank => false,
+        Field::Minus => false,
+        Field::Bad => false,
+    }
+}
+
+// Only a kind 22 value may be negative, and a positive one is below 2^63.
+fn sign_ok(f: Field, kind: u64) -> bool
+    ensures { λ r. ⌜ r ≡ signOk f kind ⌝ }
+{
+    match f {
+        Field::Number(n, m) => {
+            if n {
+                kind == 22
+            } else {
+                m < 9223372036854775808
+            }
+        }
+        Field::Blank => false,
+        Field::Minus => false,
+        Field::Bad => false,
+    }
+}
+
+fn line_of(k: Field, v: Field, c: Field, e: u8) -> Line
+    ensures { λ r. ⌜ r ≡ lineOf k v c e ⌝ }
+{
+    let kind = magnitude_of(k);
+    if !is_unsigned(k) {
+        return Line::Misspelt;
+    }
+    if !sign_ok(v, kind) {
+        return Line::Misspelt;
+    }
+    if !is_unsigned(c) {
+        return Line::Misspelt;
+    }
+    if e != 10 {
+        return Line::Misspelt;
+    }
+    Line::Spelt(Triple {
+        kind: kind,
+        negative: is_minus(v),
+        value: magnitude_of(v),
+        count: magnitude_of(c),
+    })
+}
+
+// The line at i, counted from 0. What lies past the last whole line is misspelt.
+pub fn line_at(s: &[u8], i: usize) -> Line
+    ensures { λ r. ⌜ r ≡ lineAt (now (s .entry)) i ⌝ }
+{
+    if i < s.len() / 29 {
+        let at = 29 * i;
+        let k = field_at(s, at, 3);
+        let v = field_at(s, at + 3, 20);
+        let c = field_at(s, at + 23, 5);
+        line_of(k, v, c, s[at + 28])
+    } else {
+        Line::Misspelt
+    }
+}
+
+// How many lines stand before the first misspelt one; all, if there is none.
+pub fn first_misspelt(s: &[u8]) -> usize
+    ensures { λ r. ⌜ r ≡ firstMisspelt (linesOf (now (s .entry))) ⌝ }
+{
+    let n = s.len() / 29;
+    let mut i = 0;
+    while i < n {
+        match line_at(s, i) {
+            Line::Spelt(_) => {
+                i += 1;
+            }
+            Line::Misspelt => {
+                return i;
+            }
+        }
+    }
+    i
+}
