@@ -15,7 +15,7 @@ use Rattle.grammar.specs.declared.Declared.{Declared}
 use Rattle.grammar.specs.declared.Declared.the-variants.{Named, Expected, Not}
 use Rattle.grammar.specs.Grammar.{Item, part, entries, goal, arms, repeated, following, headIn, declaredIn, goalIn, ok, due, readAt}
 use Rattle.kinds.specs.Kinds.{aType, aTerm, aPattern}
-use Rattle.grammar.proofs.Laws.{done, inside, refused, goes-on, follow, stops}
+use Rattle.grammar.proofs.Laws.{done, inside, refused, goes-on, follow, stops, within}
 
 unroll : (n : ℕ) (x : Item) → (n ≡ 0 → ⊥) → replicate n x ≡ x ∷ replicate (n - 1) x
 unroll zero x h = absurd (h refl)
@@ -110,3 +110,7 @@ module _ (s : List ℕ) where
 
     pub entry-more : (j : ℕ) (q : Got) → r ≡ Next j → q ≡ readAt s (y ∷ []) j → q ≡ readAt s (x ∷ []) at
     entry-more j q f g = g ∙ sym (head ∙ follow s (part aType ∷ []) (y ∷ []) (at + 1) j (sym e ∙ f))
+
+  -- what was read lies within the sheet
+  pub read-within : (x : Item) (at k : ℕ) (r : Got) → at < length s / 29 → r ≡ readAt s (x ∷ []) at → r ≡ Next k → (at ≤ k) × (k ≤ length s / 29)
+  read-within x at k r h e f = within s (x ∷ []) at k (omega arith) (sym e ∙ f)

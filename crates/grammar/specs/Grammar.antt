@@ -1,8 +1,8 @@
 -- The grammar of a plan, line by line. Assumes nothing: these are definitions.
 use mathlib.Core.Bool.{Bool, true, false, cond, _&&_}
 use mathlib.Core.List.{List, [], _∷_, _++_}
-use Prim.Native.Nat.{ℕ, zero, suc, _+_, _-_, _/_}
-use lib.ListN.{length, replicate}
+use Prim.Native.Nat.{ℕ, zero, suc, _+_, _*_, _-_, _/_}
+use lib.ListN.{length, replicate, take, drop}
 use lib.Dec.{ltb, leb, eqb}
 use Rattle.spelling.specs.declared.Triple.{Triple}
 use Rattle.spelling.specs.declared.Line.{Line}
@@ -110,3 +110,12 @@ read (l ∷ ls) (x ∷ todo) at = let r = read ls (due x l ++ todo) (at + 1) in 
 -- the same in a sheet, from the line at `at` on
 unfoldable pub readAt : List ℕ → List Item → ℕ → Got
 readAt s todo at = read (linesFrom s at (length s / 29 - at)) todo at
+
+-- the bytes of the lines that were read, from the line at `at` on
+abbrev pub readBytes : List ℕ → ℕ → Got → List ℕ
+readBytes s at (Next k) = take (29 * k - 29 * at) (drop (29 * at) s)
+readBytes s at (Refused l) = []
+
+-- the lines of the term that starts at the line at `at`
+unfoldable pub subTerm : List ℕ → ℕ → List ℕ
+subTerm s at = readBytes s at (readAt s (part aTerm ∷ []) at)

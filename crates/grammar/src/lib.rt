@@ -12,10 +12,10 @@ use spelling::line_at;
 ghost use mathlib.Core.Path.{_≡_};
 ghost use mathlib.Core.List.{[], _∷_};
 ghost use Prim.Native.Nat.{ℕ, _+_, _*_, _-_, _/_, _≤_, _<_};
-ghost use lib.ListN.{length, replicate, take, drop};
+ghost use lib.ListN.{length, replicate};
 ghost use Rattle.spelling.specs.Spelling.{lineAt};
 ghost use Rattle.kinds.specs.Kinds.{aType, aTerm, aPattern};
-ghost use Rattle.grammar.specs.Grammar.{part, entries, goal, headIn, named as namedBy, declaredBy, declaredIn, isGoal, goalIn, arms, following, readAt};
+ghost use Rattle.grammar.specs.Grammar.{part, entries, goal, headIn, named as namedBy, declaredBy, declaredIn, isGoal, goalIn, arms, following, readAt, subTerm};
 ghost use Rattle.grammar.specs.Check.{readSheet, check};
 
 // Where reading goes on, counted from 0; or the line, counted from 1, that can't continue a plan.
@@ -284,6 +284,20 @@ fn read_sheet(s: &[u8]) -> Got
             }
         }
         Got::Refused(l) => Got::Refused(l),
+    }
+}
+
+// The lines of the term that starts at a line; none if no whole term starts there.
+pub fn sub_term(s: &[u8], at: usize) -> &[u8]
+    ensures { λ r. ⌜ now r ≡ subTerm (now (s .entry)) at ⌝ }
+{
+    if at < s.len() / 29 {
+        match read_term(s, at) {
+            Got::Next(k) => &s[29 * at..29 * k],
+            Got::Refused(_) => &s[..0],
+        }
+    } else {
+        &s[..0]
     }
 }
 

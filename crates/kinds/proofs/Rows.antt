@@ -2,12 +2,13 @@
 use mathlib.Core.Path.{_≡_, refl}
 use mathlib.Core.Bool.{Bool, true, false, cond, _&&_}
 use mathlib.Core.List.{List, [], _∷_}
-use Prim.Native.Nat.{ℕ, _≤_, _<_, max}
+use Prim.Native.Nat.{ℕ, _+_, _*_, _≤_, _<_, max}
 use native.Mathlib.Omega.{arith}
 use lib.Dec.{eqb, leb}
 use borrow.Author.Tests.{ne-eqb, leb-true}
+use Rattle.spelling.specs.declared.Triple.{Triple}
 use Rattle.kinds.specs.declared.Row.{Row}
-use Rattle.kinds.specs.Kinds.{Listed, find, table, rowOf, unlisted}
+use Rattle.kinds.specs.Kinds.{Listed, find, table, rowOf, unlisted, nothing, anArm, partsOf}
 
 -- the largest kind listed
 abbrev pub most : List Listed → ℕ
@@ -49,3 +50,12 @@ few-types k = leb-true _ 2 (row-passes (λ r. leb (r .types) 2) k refl)
 pub few-terms : (k : ℕ) → rowOf k .terms ≤ 3
 unfolding table
 few-terms k = leb-true _ 3 (row-passes (λ r. leb (r .terms) 3) k refl)
+
+pub few-parts : (t : Triple) → t .count < 100000 → partsOf t ≤ 200003
+unfolding partsOf
+few-parts t h = go (eqb (rowOf (t .kind) .each) nothing) (eqb (rowOf (t .kind) .each) anArm)
+  where
+    go : (a b : Bool) → rowOf (t .kind) .types + rowOf (t .kind) .terms + cond a 0 (cond b (2 * t .count) (t .count)) ≤ 200003
+    go true b = let ty = few-types (t .kind) in let te = few-terms (t .kind) in omega arith
+    go false true = let ty = few-types (t .kind) in let te = few-terms (t .kind) in omega arith
+    go false false = let ty = few-types (t .kind) in let te = few-terms (t .kind) in omega arith

@@ -16,6 +16,17 @@ module _ {A : Type 0} (parts : A → ℕ) where
   drop-none [] = refl
   drop-none (x ∷ xs) = refl
 
+  -- one element of a walk over n parts
+  pub take-turn : (x : A) (xs : List A) (n : ℕ) → (n ≡ 0 → ⊥) → takeParts parts (x ∷ xs) n ≡ x ∷ takeParts parts xs (n - 1 + parts x)
+  take-turn x xs zero h = absurd (h refl)
+  take-turn x xs (suc n) h = let e : parts x + n ≡ suc n - 1 + parts x = omega arith in ap (λ (m : ℕ). x ∷ takeParts parts xs m) e
+
+  -- no part ends before the list does
+  pub take-all : (xs : List A) (n : ℕ) → length xs ≤ n → takeParts parts xs n ≡ xs
+  take-all [] n h = refl
+  take-all (x ∷ xs) zero h = absurd (omega arith)
+  take-all (x ∷ xs) (suc n) h = ap (λ (l : List A). x ∷ l) (take-all xs (parts x + n) (omega arith))
+
   pub take-drop : (xs : List A) (n : ℕ) → takeParts parts xs n ++ dropParts parts xs n ≡ xs
   take-drop [] n = refl
   take-drop (x ∷ xs) zero = refl

@@ -6,6 +6,8 @@ use mathlib.Core.List.{List, [], _∷_}
 use Prim.Native.Nat.{ℕ, zero, suc, _+_, _*_, _-_, _/_, _≤_, _<_}
 use native.Mathlib.Omega.{arith}
 use native.Mathlib.Nat.{add-assoc, add-zero, zero-add, sub-zero}
+use lib.Dec.{ltb}
+use borrow.Author.Tests.{ltb-true, ltb-false}
 use lib.ListN.{length, getD, List·getD-eq-default}
 use Rattle.spelling.specs.Spelling.{fieldFrom, step, unsigned, magnitude, signOk, lineOf, lineAt, linesFrom, linesOf, firstMisspelt}
 use Rattle.spelling.specs.declared.Field.{Field}
@@ -51,6 +53,23 @@ lines-cons s i n h = let e : n - i ≡ suc (n - (i + 1)) = omega arith in rw e
 pub lines-nil : (s : List ℕ) (i n : ℕ) → n ≤ i → linesFrom s i (n - i) ≡ []
 unfolding linesFrom
 lines-nil s i n h = let e : n - i ≡ 0 = omega arith in rw e
+
+pub get-line : (s : List ℕ) (i n k : ℕ) → k < n → getD (linesFrom s i n) k Misspelt ≡ lineAt s (i + k)
+unfolding linesFrom
+get-line s i zero k h = absurd (omega arith)
+get-line s i (suc n) zero h = rw add-zero
+get-line s i (suc n) (suc k) h = let e : i + 1 + k ≡ i + suc k = omega arith in get-line s (i + 1) n k (omega arith) ∙ ap (lineAt s) e
+
+-- the line at i, also where there is none
+pub line-of-sheet : (s : List ℕ) (i : ℕ) → getD (linesOf s) i Misspelt ≡ lineAt s i
+unfolding linesOf
+line-of-sheet s i = go (ltb i (length s / 29)) refl
+  where
+    go : (t : Bool) → ltb i (length s / 29) ≡ t → getD (linesFrom s 0 (length s / 29)) i Misspelt ≡ lineAt s i
+    go true e = get-line s 0 (length s / 29) i (ltb-true i _ e) ∙ ap (lineAt s) (zero-add i)
+    go false e =
+        let h = ltb-false i (length s / 29) e in
+        List·getD-eq-default (linesFrom s 0 (length s / 29)) Misspelt (omega (arith, length-lines s 0 (length s / 29))) ∙ sym (past-end s i h)
 
 -- ---- the first misspelt line
 abbrev pub Left : List ℕ → ℕ → ℕ → ℕ

@@ -1,21 +1,16 @@
 use Rattle.spelling.proofs.Tests.{tests}
 use Rattle.kinds.proofs.value_ok.Statement.{statement}
 use Rattle.kinds.proofs.value_ok.Tie as tie
-use Rattle.kinds.proofs.value_ok.Reads as reads
-use Rattle.kinds.proofs.value_ok.Lts as lts
 
--- src/lib.rt:95:9
 returns : tie.Need-returns
 returns c = let h0 = c .if1 .taken in simp tests
 
--- src/lib.rt:98:9
 returns-2 : tie.Need-returns-2
 returns-2 c =
     let h0 = c .if2 .taken in
     let h1 = c .before .if1 .left in
     simp tests
 
--- src/lib.rt:91:1
 returns-3 : tie.Need-returns-3
 returns-3 c =
     let h0 = c .if4 .taken in
@@ -24,7 +19,6 @@ returns-3 c =
     let h3 = c .before .before .before .if1 .left in
     simp tests
 
--- src/lib.rt:91:1
 returns-4 : tie.Need-returns-4
 returns-4 c =
     let h0 = c .if4 .left in
@@ -33,7 +27,6 @@ returns-4 c =
     let h3 = c .before .before .before .if1 .left in
     simp tests
 
--- src/lib.rt:91:1
 returns-5 : tie.Need-returns-5
 returns-5 c =
     let h0 = c .if3 .left in
