@@ -41,202 +41,73 @@ pub struct Row {
     pub each: u64,
 }
 
-const UNLISTED: Row = Row {
-    sort: NOTHING,
-    value: UNUSED,
-    count: UNUSED,
-    types: 0,
-    terms: 0,
-    each: NOTHING,
-};
+// A row's fields in their order.
+struct Columns(u64, u64, u64, u64, u64, u64);
 
-const TABLE: [Row; 44] = [
-    UNLISTED,
-    UNLISTED,
-    UNLISTED,
-    UNLISTED,
-    UNLISTED,
-    UNLISTED,
-    UNLISTED,
-    UNLISTED,
-    UNLISTED,
-    UNLISTED,
-    UNLISTED,
-    Row {
-        sort: TYPE,
-        value: NAME,
-        count: UNUSED,
-        types: 0,
-        terms: 0,
-        each: NOTHING,
-    },
-    Row {
-        sort: TYPE,
-        value: NAME,
-        count: UNUSED,
-        types: 0,
-        terms: 0,
-        each: NOTHING,
-    },
-    Row {
-        sort: TYPE,
-        value: UNUSED,
-        count: UNUSED,
-        types: 2,
-        terms: 0,
-        each: NOTHING,
-    },
-    Row {
-        sort: TYPE,
-        value: NAME,
-        count: UNUSED,
-        types: 1,
-        terms: 0,
-        each: NOTHING,
-    },
-    Row {
-        sort: TYPE,
-        value: UNUSED,
-        count: UNUSED,
-        types: 2,
-        terms: 0,
-        each: NOTHING,
-    },
-    Row {
-        sort: TYPE,
-        value: UNUSED,
-        count: USED,
-        types: 0,
-        terms: 0,
-        each: TYPE,
-    },
-    UNLISTED,
-    UNLISTED,
-    UNLISTED,
-    UNLISTED,
-    Row {
-        sort: TERM,
-        value: NAME,
-        count: UNUSED,
-        types: 0,
-        terms: 0,
-        each: NOTHING,
-    },
-    Row {
-        sort: TERM,
-        value: NUMBER,
-        count: UNUSED,
-        types: 0,
-        terms: 0,
-        each: NOTHING,
-    },
-    Row {
-        sort: TERM,
-        value: NAME,
-        count: UNUSED,
-        types: 1,
-        terms: 1,
-        each: NOTHING,
-    },
-    Row {
-        sort: TERM,
-        value: UNUSED,
-        count: UNUSED,
-        types: 0,
-        terms: 2,
-        each: NOTHING,
-    },
-    Row {
-        sort: TERM,
-        value: NAME,
-        count: UNUSED,
-        types: 0,
-        terms: 1,
-        each: NOTHING,
-    },
-    Row {
-        sort: TERM,
-        value: NAME,
-        count: USED,
-        types: 0,
-        terms: 0,
-        each: TERM,
-    },
-    Row {
-        sort: TERM,
-        value: UNUSED,
-        count: USED,
-        types: 0,
-        terms: 1,
-        each: ARM,
-    },
-    Row {
-        sort: TERM,
-        value: OPERATOR,
-        count: UNUSED,
-        types: 0,
-        terms: 2,
-        each: NOTHING,
-    },
-    Row {
-        sort: TERM,
-        value: UNUSED,
-        count: UNUSED,
-        types: 0,
-        terms: 3,
-        each: NOTHING,
-    },
-    Row {
-        sort: TERM,
-        value: NAME,
-        count: USED,
-        types: 0,
-        terms: 0,
-        each: TERM,
-    },
-    UNLISTED,
-    UNLISTED,
-    UNLISTED,
-    UNLISTED,
-    UNLISTED,
-    UNLISTED,
-    UNLISTED,
-    UNLISTED,
-    UNLISTED,
-    UNLISTED,
-    Row {
-        sort: PATTERN,
-        value: UNUSED,
-        count: UNUSED,
-        types: 0,
-        terms: 0,
-        each: NOTHING,
-    },
-    Row {
-        sort: PATTERN,
-        value: NAME,
-        count: UNUSED,
-        types: 0,
-        terms: 0,
-        each: NOTHING,
-    },
-    Row {
-        sort: PATTERN,
-        value: NAME,
-        count: USED,
-        types: 0,
-        terms: 0,
-        each: PATTERN,
-    },
+const UNLISTED: Columns = Columns(NOTHING, UNUSED, UNUSED, 0, 0, NOTHING);
+
+const TABLE: [Columns; 44] = [
+    UNLISTED, // 0
+    UNLISTED, // 1
+    UNLISTED, // 2
+    UNLISTED, // 3
+    UNLISTED, // 4
+    UNLISTED, // 5
+    UNLISTED, // 6
+    UNLISTED, // 7
+    UNLISTED, // 8
+    UNLISTED, // 9
+    UNLISTED, // 10
+    Columns(TYPE, NAME, UNUSED, 0, 0, NOTHING), // 11 Var
+    Columns(TYPE, NAME, UNUSED, 0, 0, NOTHING), // 12 Con
+    Columns(TYPE, UNUSED, UNUSED, 2, 0, NOTHING), // 13 Arrow
+    Columns(TYPE, NAME, UNUSED, 1, 0, NOTHING), // 14 Forall
+    Columns(TYPE, UNUSED, UNUSED, 2, 0, NOTHING), // 15 App
+    Columns(TYPE, UNUSED, USED, 0, 0, TYPE), // 16 Product
+    UNLISTED, // 17
+    UNLISTED, // 18
+    UNLISTED, // 19
+    UNLISTED, // 20
+    Columns(TERM, NAME, UNUSED, 0, 0, NOTHING), // 21 Var
+    Columns(TERM, NUMBER, UNUSED, 0, 0, NOTHING), // 22 LitInt
+    Columns(TERM, NAME, UNUSED, 1, 1, NOTHING), // 23 Lambda
+    Columns(TERM, UNUSED, UNUSED, 0, 2, NOTHING), // 24 App
+    Columns(TERM, NAME, UNUSED, 0, 1, NOTHING), // 25 TypeLambda
+    Columns(TERM, NAME, USED, 0, 0, TERM), // 26 Constructor
+    Columns(TERM, UNUSED, USED, 0, 1, ARM), // 27 Case
+    Columns(TERM, OPERATOR, UNUSED, 0, 2, NOTHING), // 28 BinOp
+    Columns(TERM, UNUSED, UNUSED, 0, 3, NOTHING), // 29 If
+    Columns(TERM, NAME, USED, 0, 0, TERM), // 30 IntrinsicCall
+    UNLISTED, // 31
+    UNLISTED, // 32
+    UNLISTED, // 33
+    UNLISTED, // 34
+    UNLISTED, // 35
+    UNLISTED, // 36
+    UNLISTED, // 37
+    UNLISTED, // 38
+    UNLISTED, // 39
+    UNLISTED, // 40
+    Columns(PATTERN, UNUSED, UNUSED, 0, 0, NOTHING), // 41 Wildcard
+    Columns(PATTERN, NAME, UNUSED, 0, 0, NOTHING), // 42 Var
+    Columns(PATTERN, NAME, USED, 0, 0, PATTERN), // 43 Constructor
 ];
 
 fn row_at(kind: u64) -> Row
     ensures { λ r. ⌜ r ≡ rowOf kind ⌝ }
 {
-    if kind < 44 {
+    let row = if kind < 44 {
         TABLE[kind as usize]
     } else {
         UNLISTED
+    };
+    Row {
+        sort: row.0,
+        value: row.1,
+        count: row.2,
+        types: row.3,
+        terms: row.4,
+        each: row.5,
     }
 }
 
