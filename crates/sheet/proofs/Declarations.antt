@@ -49,7 +49,7 @@ module _ (ls : List Triple) where
     abbrev pub declared : Declaration
     declared = record { head = t; line = at + 1; count = partLine ls (at + 1) 1 - (at + 1) }
 
-    here : drop at ls ≡ t ∷ drop (at + 1) ls
+    pub here : drop at ls ≡ t ∷ drop (at + 1) ls
     here = drop-cons ls at noTriple h ∙ rw add-one
 
     pub from-none : isEntry t ≡ false → from at ≡ []

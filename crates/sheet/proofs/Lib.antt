@@ -1,3 +1,5 @@
 pub mod Lines
 pub mod Declarations
 pub mod Marks
+pub mod Forming
+pub mod Formed

@@ -73,6 +73,10 @@ module _ (ls : List Triple) (at n : ℕ) where
       let k = length-take partsOf (drop at ls) n in
       omega arith
 
+  pub lines-between : partLine ls at n - at ≡ length (takeParts partsOf (drop at ls) n)
+  unfolding partLine
+  lines-between = omega arith
+
   -- what stands from that line on
   pub drop-line : drop (partLine ls at n) ls ≡ dropParts partsOf (drop at ls) n
   unfolding partLine

@@ -1,0 +1,217 @@
+//! The Rust module under the limits of document 01. `worklist.rs` is included
+//! unchanged, in a crate without the standard prelude, so that `Vec`, `HashMap`
+//! and `format!` are the ones of `hooks`: each push, fresh number and solution
+//! is seen at the moment it happens and in the Rust's own order.
+
+#![no_std]
+
+extern crate std as rust_std;
+
+pub use plain::{core, errors};
+
+mod hooks;
+
+pub use hooks::Passed;
+pub use worklist::{Limited, Peaks, Step};
+
+/// Entries on the board.
+pub const ENTRIES: usize = 512;
+/// Type nodes on the board, all types of all entries.
+pub const NODES: usize = 4096;
+/// Nodes in one written-out type.
+pub const WRITTEN: usize = 1024;
+/// Fresh numbers.
+pub const NUMBERS: usize = 1000;
+/// Nodes of all solutions.
+pub const SOLVED: usize = 4096;
+
+#[allow(dead_code)]
+mod worklist {
+    use crate::hooks::{node_count, Element, Passed, Vec};
+    use rust_std::boxed::Box;
+    use rust_std::panic::{catch_unwind, resume_unwind, AssertUnwindSafe};
+    use rust_std::string::{String, ToString};
+
+    /// What `use std::collections::HashMap` finds.
+    mod std {
+        pub mod collections {
+            pub use crate::hooks::HashMap;
+        }
+    }
+
+    /// Fresh numbers are tested as they are spelt; the trace stays empty.
+    macro_rules! format {
+        ("α{}", $number:expr) => {
+            crate::hooks::fresh("α", $number)
+        };
+        ("^α{}", $number:expr) => {
+            crate::hooks::fresh("^α", $number)
+        };
+        ($($trace:tt)*) => {
+            String::new()
+        };
+    }
+
+    include!(concat!(env!("RUST_FILES"), "/worklist.rs"));
+
+    impl Element for WorklistEntry {
+        const ON_BOARD: bool = true;
+
+        fn nodes(&self) -> usize {
+            match self {
+                WorklistEntry::TVar(_, _) => 0,
+                WorklistEntry::Var(_, ty) => node_count(ty),
+                WorklistEntry::Judgment(judgment) => match judgment {
+                    Judgment::Sub { left, right } => node_count(left) + node_count(right),
+                    Judgment::Inf { ty, .. } | Judgment::Chk { ty, .. } => node_count(ty),
+                    Judgment::InfApp {
+                        func_ty, result_ty, ..
+                    } => node_count(func_ty) + node_count(result_ty),
+                },
+            }
+        }
+    }
+
+    /// The highest that each limited number has stood in a run.
+    #[derive(Debug, Clone, Copy, Default, PartialEq, Eq)]
+    pub struct Peaks {
+        pub entries: usize,
+        pub nodes: usize,
+        pub written: usize,
+        pub numbers: usize,
+        pub solved: usize,
+    }
+
+    #[derive(Debug)]
+    pub enum Step {
+        Went,
+        Refused(TypeError),
+        Passed(Passed),
+    }
+
+    /// A run under the limits, one entry at a time.
+    pub struct Limited {
+        inference: DKInference,
+        written: usize,
+    }
+
+    impl Limited {
+        pub fn start(
+            data_constructors: impl Iterator<Item = (String, CoreType)>,
+            var_context: impl Iterator<Item = (String, CoreType)>,
+            term: CoreTerm,
+            ty: CoreType,
+        ) -> Self {
+            let mut inference =
+                DKInference::with_context(data_constructors.collect(), var_context.collect());
+            let first = Judgment::Chk { term, ty };
+            inference.worklist.push(WorklistEntry::Judgment(first));
+            Limited {
+                inference,
+                written: 0,
+            }
+        }
+
+        /// One turn of the loop in `solve`; `None` once the board is empty. A
+        /// passed limit unwinds out of the Rust's rule before the operation.
+        pub fn step(&mut self) -> Option<Step> {
+            let entry = self.inference.worklist.pop()?;
+            let WorklistEntry::Judgment(judgment) = entry else {
+                return Some(Step::Went);
+            };
+            if let Err(passed) = self.write_out(&judgment) {
+                return Some(Step::Passed(passed));
+            }
+            let inference = &mut self.inference;
+            let result = catch_unwind(AssertUnwindSafe(|| inference.solve_judgment(judgment)));
+            Some(match result {
+                Ok(Ok(())) => Step::Went,
+                Ok(Err(error)) => Step::Refused(error),
+                Err(payload) => match payload.downcast::<Passed>() {
+                    Ok(passed) => Step::Passed(*passed),
+                    Err(other) => resume_unwind(other),
+                },
+            })
+        }
+
+        /// `zonk` is what a Sub and an InfApp begin with, so its limit can be
+        /// tested before the rule runs, by counting alone.
+        fn write_out(&mut self, judgment: &Judgment) -> Result<(), Passed> {
+            match judgment {
+                Judgment::Sub { left, right } => {
+                    self.write_one(left)?;
+                    self.write_one(right)
+                }
+                Judgment::InfApp {
+                    func_ty, result_ty, ..
+                } => {
+                    self.write_one(func_ty)?;
+                    self.write_one(result_ty)
+                }
+                Judgment::Inf { .. } | Judgment::Chk { .. } => Ok(()),
+            }
+        }
+
+        fn write_one(&mut self, ty: &CoreType) -> Result<(), Passed> {
+            let mut count = 0;
+            self.count_written(ty, &mut count);
+            if count > crate::WRITTEN {
+                return Err(Passed {
+                    number: 23,
+                    reached: count,
+                });
+            }
+            self.written = self.written.max(count);
+            Ok(())
+        }
+
+        /// Counts what `zonk` would write, and stops a little past the limit.
+        fn count_written(&self, ty: &CoreType, count: &mut usize) {
+            if *count > crate::WRITTEN + 1 {
+                return;
+            }
+            if let CoreType::ETVar(name) = ty {
+                if let Some(solution) = self.inference.worklist.find_evar_solution(name) {
+                    return self.count_written(solution, count);
+                }
+            }
+            *count += 1;
+            match ty {
+                CoreType::Arrow(left, right) | CoreType::App(left, right) => {
+                    self.count_written(left, count);
+                    self.count_written(right, count);
+                }
+                CoreType::Forall(_, body) => self.count_written(body, count),
+                CoreType::Product(parts) => {
+                    for part in parts {
+                        self.count_written(part, count);
+                    }
+                }
+                CoreType::Var(_) | CoreType::ETVar(_) | CoreType::Con(_) => {}
+            }
+        }
+
+        pub fn is_done(&self) -> bool {
+            self.inference.worklist.entries.is_empty()
+        }
+
+        pub fn fresh(&self) -> usize {
+            self.inference.worklist.next_var
+        }
+
+        /// The solutions in order of solving.
+        pub fn solutions(&self) -> impl Iterator<Item = (&str, &CoreType)> {
+            self.inference.worklist.solved_evars.in_order()
+        }
+
+        pub fn peaks(&self) -> Peaks {
+            Peaks {
+                entries: self.inference.worklist.entries.peak_len(),
+                nodes: self.inference.worklist.entries.peak_nodes(),
+                written: self.written,
+                numbers: self.fresh(),
+                solved: self.inference.worklist.solved_evars.solved(),
+            }
+        }
+    }
+}

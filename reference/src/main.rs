@@ -1,0 +1,181 @@
+//! Puts plans to the Rust module and gives its answers.
+
+mod damage;
+mod generate;
+mod oracle;
+mod plan;
+mod random;
+mod readers;
+mod record;
+mod sheet;
+#[cfg(test)]
+mod tests;
+mod wall;
+
+use generate::{limits, small, Made};
+use oracle::{answer_lines, answer_sheet, Answer, MOST_STEPS};
+use plan::Node;
+use std::collections::BTreeMap;
+use std::io::{Read, Write};
+use std::process::ExitCode;
+
+const USAGE: &str = "usage: reference COMMAND
+  answer [--ceiling N]                 the answer to the sheet on standard input
+  generate --seed S --count N [--kind random|small|limits] [--answers]
+                                       plans, one a line, in the format of src/record.rs
+  record --out FILE                    the recorded list of plans and answers
+  wall                                 document 01's plans on the wall
+  readers --seed S --count N           this reader beside the proved one
+  bench                                the mean times of both readers
+  stats --seed S --count N             the share of each number among random plans";
+
+/// Terms of 2,000 lines nest deep, and the Rust goes through them by recursion.
+const STACK: usize = 512 << 20;
+
+/// Runs on a stack that is deep enough for every plan.
+fn with_stack<T: Send + 'static>(run: impl FnOnce() -> T + Send + 'static) -> T {
+    let thread = std::thread::Builder::new().stack_size(STACK).spawn(run);
+    match thread.expect("a thread with a large stack").join() {
+        Ok(result) => result,
+        Err(panic) => std::panic::resume_unwind(panic),
+    }
+}
+
+fn main() -> ExitCode {
+    let arguments: Vec<String> = std::env::args().skip(1).collect();
+    with_stack(move || match command(&arguments) {
+        Ok(true) => ExitCode::SUCCESS,
+        Ok(false) => ExitCode::FAILURE,
+        Err(message) => {
+            eprintln!("{message}\n{USAGE}");
+            ExitCode::from(2)
+        }
+    })
+}
+
+/// The words after the command: `--name value`, or a `--name` alone.
+struct Options<'a>(&'a [String]);
+
+impl Options<'_> {
+    fn text(&self, name: &str) -> Option<&str> {
+        let at = self.0.iter().position(|word| word == name)?;
+        self.0.get(at + 1).map(String::as_str)
+    }
+
+    fn has(&self, name: &str) -> bool {
+        self.0.iter().any(|word| word == name)
+    }
+
+    fn number<T: std::str::FromStr>(&self, name: &str, default: Option<T>) -> Result<T, String> {
+        match (self.text(name), default) {
+            (Some(text), _) => text.parse().map_err(|_| format!("{name}: not a number")),
+            (None, Some(default)) => Ok(default),
+            (None, None) => Err(format!("{name} is lacking")),
+        }
+    }
+}
+
+/// True if all is well.
+fn command(arguments: &[String]) -> Result<bool, String> {
+    let (name, rest) = arguments.split_first().ok_or("no command")?;
+    let options = Options(rest);
+    match name.as_str() {
+        "answer" => answer(options.number("--ceiling", Some(MOST_STEPS))?),
+        "generate" => generate_plans(&options),
+        "record" => record_list(options.text("--out").ok_or("--out is lacking")?),
+        "wall" => Ok(wall::check()),
+        "readers" => Ok(readers::compare(
+            options.number("--seed", None)?,
+            options.number("--count", None)?,
+        )),
+        "bench" => {
+            readers::bench();
+            Ok(true)
+        }
+        "stats" => stats(
+            options.number("--seed", None)?,
+            options.number("--count", None)?,
+        ),
+        _ => Err(format!("unknown command {name}")),
+    }
+}
+
+fn answer(ceiling: u32) -> Result<bool, String> {
+    let mut sheet = Vec::new();
+    let read = std::io::stdin().read_to_end(&mut sheet);
+    read.map_err(|error| error.to_string())?;
+    let answer = answer_sheet(&sheet, ceiling);
+    println!("{}", seven_columns(&answer));
+    println!("report{}", spelt(&answer.report));
+    for (unknown, nodes) in &answer.solutions {
+        println!("^{unknown} :={}", spelt(nodes));
+    }
+    Ok(true)
+}
+
+fn seven_columns(answer: &Answer) -> String {
+    answer.seven().map(|number| format!("{number:6}")).concat()
+}
+
+fn spelt(nodes: &[Node]) -> String {
+    let node = |(kind, value): &Node| format!(" {kind} {value}");
+    nodes.iter().map(node).collect()
+}
+
+fn generate_plans(options: &Options) -> Result<bool, String> {
+    let answers = options.has("--answers");
+    match options.text("--kind").unwrap_or("random") {
+        "random" => {
+            let (seed, count) = (
+                options.number("--seed", None)?,
+                options.number("--count", None)?,
+            );
+            generate::random(seed, count).for_each(|made| show(&made, answers));
+        }
+        "small" => {
+            let plans = small::plans();
+            let count = options
+                .number("--count", Some(plans.len()))?
+                .min(plans.len());
+            (0..count).for_each(|at| show(&plans[at * plans.len() / count], answers));
+        }
+        "limits" => limits::plans().iter().for_each(|found| {
+            println!("# {}", found.title);
+            show(&found.made, answers);
+        }),
+        other => return Err(format!("unknown kind {other}")),
+    }
+    Ok(true)
+}
+
+fn show(made: &Made, answers: bool) {
+    let line = match answers {
+        true => record::answered_line(made, &answer_lines(&made.lines, made.ceiling)),
+        false => record::plan_line(made),
+    };
+    // A reader that has seen enough closes the pipe.
+    if writeln!(std::io::stdout(), "{line}").is_err() {
+        std::process::exit(0);
+    }
+}
+
+fn record_list(path: &str) -> Result<bool, String> {
+    let list = record::list();
+    let plans = list.lines().filter(|line| !line.starts_with('#')).count();
+    std::fs::write(path, &list).map_err(|error| format!("{path}: {error}"))?;
+    println!("{plans} plans, {} bytes", list.len());
+    Ok(true)
+}
+
+fn stats(seed: u64, count: usize) -> Result<bool, String> {
+    let mut numbers = BTreeMap::new();
+    for made in generate::random(seed, count) {
+        let number = answer_lines(&made.lines, made.ceiling).number;
+        *numbers.entry(number).or_insert(0) += 1;
+    }
+    for (number, plans) in numbers {
+        let share = 100.0 * plans as f64 / count as f64;
+        println!("{number:3} {plans:8} {share:6.2} %");
+    }
+    Ok(true)
+}
