@@ -1,6 +1,6 @@
 -- What holds of every row of the table. Assumes nothing.
 use mathlib.Core.Path.{_≡_, refl}
-use mathlib.Core.Bool.{Bool, true, false, cond, _&&_}
+use mathlib.Core.Bool.{Bool, true, false, cond, _&&_, and-eq-true-iff}
 use mathlib.Core.List.{List, [], _∷_}
 use Prim.Native.Nat.{ℕ, _+_, _*_, _≤_, _<_, max}
 use native.Mathlib.Omega.{arith}
@@ -25,14 +25,10 @@ abbrev every : (Row → Bool) → List Listed → Bool
 every p [] = p unlisted
 every p (l ∷ ls) = p (l .is) && every p ls
 
-both : (a b : Bool) → (a && b) ≡ true → (a ≡ true) × (b ≡ true)
-both true b e = (refl, e)
-both false b e = absurd (let z : _≡_ {A = ℕ} 0 1 = cc in omega arith)
-
 found : (p : Row → Bool) (k : ℕ) (ls : List Listed) → every p ls ≡ true → p (find k ls) ≡ true
 unfolding find
 found p k [] e = e
-found p k (l ∷ ls) e = go (eqb k (l .kind)) (both (p (l .is)) (every p ls) e) (found p k ls (both (p (l .is)) (every p ls) e .1))
+found p k (l ∷ ls) e = go (eqb k (l .kind)) (and-eq-true-iff (p (l .is)) (every p ls) .0 e) (found p k ls (and-eq-true-iff (p (l .is)) (every p ls) .0 e .1))
   where
     go : (t : Bool) → (p (l .is) ≡ true) × (every p ls ≡ true) → p (find k ls) ≡ true → p (cond t (l .is) (find k ls)) ≡ true
     go true h r = h .0

@@ -1,2 +1,3 @@
 pub mod Laws
 pub mod PartLaws
+pub mod ListLaws

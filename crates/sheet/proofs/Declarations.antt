@@ -17,7 +17,7 @@ use Rattle.spelling.specs.declared.Triple.{Triple}
 use Rattle.kinds.specs.Kinds.{partsOf}
 use Rattle.sheet.specs.declared.Found.{Found}
 use Rattle.sheet.specs.declared.Found.the-variants.{At, Nothing}
-use Rattle.sheet.specs.Plan.{noTriple, partLine, nodesOf, isEntry, named, Declaration, declarations, findIn, endFrom, findEntry, entriesEnd, Entry, entriesIn, lookup, typeAt}
+use Rattle.sheet.specs.Plan.{noTriple, partLine, nodesOf, isEntry, named, Declaration, declarations, findIn, endFrom, findEntry, entriesEnd, Binding, _∶_, Bindings, bindingsIn, lookup, typeAt}
 use Rattle.sheet.proofs.Lines.{drop-line, line-from}
 
 -- what a test of a line said, of the line that it is
@@ -119,16 +119,16 @@ unfolding entriesEnd
 end-within ls = let r = end-bound ls 0 0 0 (omega arith) in omega arith
 
 -- ---- what is found is the type that the plan's entries have
-pub find-lookup : (k x : ℕ) (ls : List Triple) (es : List Declaration) → typeAt ls (findIn k x es) ≡ lookup x (entriesIn k ls es)
-unfolding findIn entriesIn lookup
+pub find-lookup : (k x : ℕ) (ls : List Triple) (es : List Declaration) → typeAt ls (findIn k x es) ≡ lookup x (bindingsIn k ls es)
+unfolding findIn bindingsIn lookup
 find-lookup k x ls [] = refl
 find-lookup k x ls (e ∷ es) = go (eqb (e .head .kind) k) (eqb (e .head .value) x) refl (find-lookup k x ls es)
   where
-    here : Entry
-    here = record { name = e .head .value; type = nodesOf (take (e .count) (drop (e .line) ls)) }
+    here : Binding
+    here = _∶_ (e .head .value) (nodesOf (take (e .count) (drop (e .line) ls)))
 
-    go : (a b : Bool) → eqb (e .head .value) x ≡ b → typeAt ls (findIn k x es) ≡ lookup x (entriesIn k ls es)
-        → typeAt ls (cond (a && b) (At (e .line) (e .count)) (findIn k x es)) ≡ lookup x (cond a (here ∷ entriesIn k ls es) (entriesIn k ls es))
+    go : (a b : Bool) → eqb (e .head .value) x ≡ b → typeAt ls (findIn k x es) ≡ lookup x (bindingsIn k ls es)
+        → typeAt ls (cond (a && b) (At (e .line) (e .count)) (findIn k x es)) ≡ lookup x (cond a (here ∷ bindingsIn k ls es) (bindingsIn k ls es))
     go true true q r = rw q
     go true false q r = rw q r
     go false b q r = r

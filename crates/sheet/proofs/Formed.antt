@@ -31,12 +31,12 @@ use Rattle.sheet.proofs.Declarations.{from, here, from-none, from-one, 
 use Rattle.sheet.proofs.Forming.{split, read-forms}
 
 -- ---- what a line says where an entry or the expected type is due
-abbrev Kinded : ℕ → Type 0
+abbrev pub Kinded : ℕ → Type 0
 Kinded k = (k ≡ 1) ⊎ (k ≡ 2)
 
-data Says (t : Triple) : Declared → Type 0 where
+pub data Says (t : Triple) : Declared → Type 0 where
   an-entry : (k n : ℕ) → isEntry t ≡ true → Kinded k → Says t (Named k n)
-  expects : isEntry t ≡ false → Says t Expected
+  expects : t .kind ≡ 3 → Says t Expected
   neither : Says t Not
 
 kinded-entry : (t : Triple) → Kinded (t .kind) → isEntry t ≡ true
@@ -54,12 +54,12 @@ kinded-as : (j k : ℕ) → j ≡ k → Kinded k → Kinded j
 kinded-as j k e (inl p) = inl (e ∙ p)
 kinded-as j k e (inr p) = inr (e ∙ p)
 
-says : (k last : ℕ) (t : Triple) → Kinded k → Says t (declaredBy k last t)
+pub says : (k last : ℕ) (t : Triple) → Kinded k → Says t (declaredBy k last t)
 unfolding declaredBy
 says k last t h =
     says-cond t (eqb (t .count) 0) (λ _.
     says-cond t (eqb (t .kind) 3)
-    (λ e. says-cond t (eqb (t .value) 0) (λ _. expects (let q = eqb-true (t .kind) 3 e in rw q)) (λ _. neither))
+    (λ e. says-cond t (eqb (t .value) 0) (λ _. expects (eqb-true (t .kind) 3 e)) (λ _. neither))
     (λ _. says-cond t (eqb (t .kind) k) (λ e. says-named last t (kinded-as (t .kind) k (eqb-true (t .kind) k e) h))
     (λ _. says-cond t (eqb (t .kind) 2) (λ e. says-named 0 t (inr (eqb-true (t .kind) 2 e))) (λ _. neither))))
     (λ _. neither)
@@ -120,7 +120,7 @@ module _ (ls : List Triple) where
             entry-rest e (s .0) (again k n kd (rw (drop-line ls (at + 1) 1) (s .1)))
         go (expects e) o f =
             let s = split (drop (at + 1) ls) (part aType ∷ []) (goal ∷ []) tt f in
-            goal-rest e (s .0) (rw (drop-line ls (at + 1) 1) (s .1))
+            goal-rest (rw e) (s .0) (rw (drop-line ls (at + 1) 1) (s .1))
         go neither o f = absurd (let z : _≡_ {A = ℕ} 0 1 = cc in omega arith)
 
   rest : (n at k last : ℕ) → length ls - at ≤ n → Kinded k → Forms (drop at ls) (entries k last ∷ []) → Rest at
@@ -161,10 +161,13 @@ whole-read s e =
     fits true l e = absurd (let z : _≡_ {A = ℕ} 0 1 = cc in omega arith)
     fits false l e = e
 
-pub formed : (s : List ℕ) → check s ≡ Plan → Formed (triples s)
+pub sheet-forms : (s : List ℕ) → check s ≡ Plan → Forms (triples s) (entries 1 0 ∷ [])
 unfolding readAt triples linesOf
-formed s e =
+sheet-forms s e =
     let n = length s / 29 in
     let k : 0 + length (linesFrom s 0 n) ≡ n = zero-add (length (linesFrom s 0 n)) ∙ length-lines s 0 n in
     let r : read (linesFrom s 0 n) (entries 1 0 ∷ []) 0 ≡ Next (0 + length (linesFrom s 0 n)) = rw (sub-zero n) at (whole-read s e) ∙ ap Next (sym k) in
-    lines-formed (triples s) (read-forms (linesFrom s 0 n) (entries 1 0 ∷ []) 0 r)
+    read-forms (linesFrom s 0 n) (entries 1 0 ∷ []) 0 r
+
+pub formed : (s : List ℕ) → check s ≡ Plan → Formed (triples s)
+formed s e = lines-formed (triples s) (sheet-forms s e)

@@ -3,3 +3,4 @@ pub mod Declarations
 pub mod Marks
 pub mod Forming
 pub mod Formed
+pub mod LineKinds

@@ -81,22 +81,24 @@ unfoldable pub entriesEnd : List Triple → ℕ
 entriesEnd ls = endFrom 0 (declarations ls 0 0)
 
 -- ---- the plan
--- a data constructor or a context variable
-pub record Entry : Type 0 where
-  pub name : ℕ
-  pub type : Ty
+-- a data constructor or a context variable: its name and its type
+pub data Binding : Type 0 where
+  _∶_ : ℕ → Ty → Binding
+
+abbrev pub Bindings : Type 0
+Bindings = List Binding
 
 -- those of kind k, in their order
-unfoldable pub entriesIn : ℕ → List Triple → List Declaration → List Entry
-entriesIn k ls [] = []
-entriesIn k ls (e ∷ es) =
-    let others = entriesIn k ls es in
-    cond (eqb (e .head .kind) k) (record { name = e .head .value; type = nodesOf (take (e .count) (drop (e .line) ls)) } ∷ others) others
+unfoldable pub bindingsIn : ℕ → List Triple → List Declaration → Bindings
+bindingsIn k ls [] = []
+bindingsIn k ls (e ∷ es) =
+    let others = bindingsIn k ls es in
+    cond (eqb (e .head .kind) k) (_∶_ (e .head .value) (nodesOf (take (e .count) (drop (e .line) ls))) ∷ others) others
 
--- the type of the first entry of that name; and the type that stands at a place
-unfoldable pub lookup : ℕ → List Entry → Option Ty
+-- the type under a name; and the type that stands at a place
+unfoldable pub lookup : ℕ → Bindings → Option Ty
 lookup x [] = none
-lookup x (e ∷ es) = cond (eqb (e .name) x) (some (e .type)) (lookup x es)
+lookup x (_∶_ y t ∷ bs) = cond (eqb y x) (some t) (lookup x bs)
 
 abbrev pub typeAt : List Triple → Found → Option Ty
 typeAt ls (At line count) = some (nodesOf (take count (drop line ls)))
@@ -114,16 +116,16 @@ isPlain [] = true
 isPlain (t ∷ ts) = not (eqb (t .kind) 14 || eqb (t .kind) 25) && isPlain ts
 
 pub record Plan : Type 0 where
-  pub constructors : List Entry
-  pub context : List Entry
+  pub constructors : Bindings
+  pub context : Bindings
   pub expected : Ty
   pub term : List Triple
   pub plain : Bool
 
 unfoldable pub planOf : List Triple → Plan
 planOf ls = record {
-  constructors = entriesIn 1 ls (declarations ls 0 0);
-  context = entriesIn 2 ls (declarations ls 0 0);
+  constructors = bindingsIn 1 ls (declarations ls 0 0);
+  context = bindingsIn 2 ls (declarations ls 0 0);
   expected = nodesOf (takeParts partsOf (drop (placesOf ls .expected) ls) 1);
   term = drop (placesOf ls .term) ls;
   plain = isPlain ls;

@@ -1,0 +1,189 @@
+-- What every state of a run has, and what a rule must show to keep it.
+-- Assumes nothing.
+use Prim.Native.Nat.{ℕ, zero, suc, _+_, _≤_, _<_}
+use native.Mathlib.Nat.{le-refl, le-trans}
+use native.Mathlib.Omega.{arith}
+use mathlib.Core.Path.{_≡_, refl, sym, _∙_, ap, ap₂, subst, subst⁻¹}
+use mathlib.Core.Logic.{_≢_, _⊎_, inl, inr}
+use mathlib.Core.Bool.{Bool, true, false, cond, not, _&&_, _||_}
+use mathlib.Core.Option.{Option, none, some}
+use mathlib.Core.List.{List, [], _∷_, _++_, append-nil, append-assoc}
+use lib.Dec.{T, eqb, leb, ltb}
+use lib.ListN.{length}
+use Rattle.nodes.specs.Lists.{All}
+use Rattle.nodes.proofs.ListLaws.{cond-ind, all-map, all-append}
+use Rattle.nodes.specs.Nodes.{Node, node, Ty, kind, number}
+use Rattle.judgment.specs.Types.{unknown, arrow, isNode, canUnify}
+use Rattle.judgment.proofs.TypeLaws.{eqb-false, Lines}
+use Rattle.spelling.specs.declared.Triple.{Triple}
+use Rattle.sheet.specs.Plan.{lineNode}
+use Rattle.judgment.specs.Terms.{Term}
+use Rattle.judgment.specs.declared.TypeError.{TypeError}
+use Rattle.judgment.specs.declared.TypeError.the-variants.{UnboundVariable, UnboundDataConstructor, NotAFunction, ArityMismatch, SubtypingError, TypeUnificationError, InstantiationError, IntrinsicArityMismatch, UnknownIntrinsic, BoardFull, TypeTooLong, NoFreshNumber, SolutionsFull}
+use Rattle.judgment.specs.Solutions.{Solution, _≔_, Solutions, key, value, find, writeOut, solutionNodes}
+use Rattle.judgment.proofs.SolutionLaws.{Avoids, Free, keysAfter, keys, FineAfter, Fine, fine-snoc, find-none}
+use Rattle.judgment.specs.Board.{Entry, tvar, var, sub, inf, chk, infApp, Board, Limits, Rule, done, refuse, fresh, push, solve, zonk, look, State, state, Outcome, finished, refused, perform, roomFor, solving}
+
+-- no quantifier
+abbrev pub Mono : Node → Type 0
+Mono x = kind x ≢ 14
+
+-- the refusal that no run meets
+abbrev pub NotClash : TypeError → Type 0
+NotClash (UnboundVariable x) = Unit {0}
+NotClash (UnboundDataConstructor x) = Unit {0}
+NotClash (NotAFunction n) = Unit {0}
+NotClash (ArityMismatch e a) = Unit {0}
+NotClash (SubtypingError l r) = Unit {0}
+NotClash TypeUnificationError = ⊥
+NotClash (InstantiationError k n) = Unit {0}
+NotClash (IntrinsicArityMismatch a) = Unit {0}
+NotClash (UnknownIntrinsic x) = Unit {0}
+NotClash BoardFull = Unit {0}
+NotClash TypeTooLong = Unit {0}
+NotClash NoFreshNumber = Unit {0}
+NotClash SolutionsFull = Unit {0}
+
+-- Plain: what is to hold of a plan for its run to have no quantifier
+module _ (Plain : Type 0) where
+  -- a node whose unknown was made before the number n; in a plain run, no quantifier and no type abstraction
+  abbrev pub OK : ℕ → Node → Type 0
+  OK n x = (kind x ≡ 17 → number x < n) × (Plain → (kind x ≢ 14) × (kind x ≢ 25))
+
+  abbrev pub EntryOK : ℕ → Entry → Type 0
+  EntryOK n (tvar x) = Unit {0}
+  EntryOK n (var x t) = All (OK n) t
+  EntryOK n (sub s t) = All (OK n) s × All (OK n) t
+  EntryOK n (inf e t) = Lines (OK n) e × All (OK n) t
+  EntryOK n (chk e t) = Lines (OK n) e × All (OK n) t
+  EntryOK n (infApp f e t) = All (OK n) f × Lines (OK n) e × All (OK n) t
+
+  -- a later number
+  pub ok-later : {m n : ℕ} → m ≤ n → (x : Node) → OK m x → OK n x
+  ok-later l x h = (λ e. le-trans (h .0 e) l, h .1)
+
+  pub all-later : {m n : ℕ} → m ≤ n → (t : Ty) → All (OK m) t → All (OK n) t
+  all-later l t h = all-map (ok-later l) t h
+
+  pub lines-later : {m n : ℕ} → m ≤ n → (e : Term) → Lines (OK m) e → Lines (OK n) e
+  lines-later l e h = all-map (λ x. ok-later l (lineNode x)) e h
+
+  entry-later : {m n : ℕ} → m ≤ n → (e : Entry) → EntryOK m e → EntryOK n e
+  entry-later l (tvar x) h = tt
+  entry-later l (var x t) h = all-later l t h
+  entry-later l (sub s t) h = (all-later l s (h .0), all-later l t (h .1))
+  entry-later l (inf e t) h = (lines-later l e (h .0), all-later l t (h .1))
+  entry-later l (chk e t) h = (lines-later l e (h .0), all-later l t (h .1))
+  entry-later l (infApp f e t) h = (all-later l f (h .0), lines-later l e (h .1), all-later l t (h .2))
+
+  abbrev pub SolutionOK : ℕ → Solution → Type 0
+  SolutionOK n x = (key x < n) × All (OK n) (value x) × All Mono (value x)
+
+  solution-later : {m n : ℕ} → m ≤ n → (x : Solution) → SolutionOK m x → SolutionOK n x
+  solution-later l x h = (le-trans (h .0) l, all-later l (value x) (h .1), h .2)
+
+  pub record Inv (Γ : Board) (σ : Solutions) (n : ℕ) : Type 0 where
+    pub entries : All (EntryOK n) Γ
+    pub fine : Fine σ
+    pub solutions : All (SolutionOK n) σ
+
+  -- what a rule must show of a solution that it gives
+  pub record SolveOK (σ : Solutions) (n k : ℕ) (s : Ty) : Type 0 where
+    pub unsolved : Free (keys σ) (node 17 k)
+    pub made : k < n
+    pub free : All (Free (k ∷ keys σ)) s
+    pub ok : All (OK n) s
+    pub mono : All Mono s
+
+  -- A rule keeps the invariant, and where it finishes Q holds of the state that it leaves.
+  abbrev pub Good : Rule → Board → Solutions → ℕ → (Board → Solutions → ℕ → Type 0) → Type 0
+  Good done Γ σ n Q = Q Γ σ n
+  Good (refuse r ts) Γ σ n Q = NotClash r
+  Good (fresh f) Γ σ n Q = Good (f n) Γ σ (suc n) Q
+  Good (push e p) Γ σ n Q = EntryOK n e × Good p (e ∷ Γ) σ n Q
+  Good (solve k s p) Γ σ n Q = SolveOK σ n k s × Good p Γ (σ ++ (_≔_ k s ∷ [])) n Q
+  Good (zonk t f) Γ σ n Q = Good (f (writeOut σ t)) Γ σ n Q
+  Good (look f) Γ σ n Q = Good (f Γ) Γ σ n Q
+
+  abbrev pub Kept : (Board → Solutions → ℕ → Type 0) → Outcome → Type 0
+  Kept Q (finished (state Γ σ n)) = Inv Γ σ n × Q Γ σ n
+  Kept Q (refused r ts (state Γ σ n)) = Inv Γ σ n × NotClash r
+
+  pub inv-fresh : {Γ : Board} {σ : Solutions} {n : ℕ} → Inv Γ σ n → Inv Γ σ (suc n)
+  inv-fresh {Γ} {σ} {n} i = record {
+    entries = all-map (entry-later {m = n} (omega arith)) Γ (i .entries);
+    fine = i .fine;
+    solutions = all-map (solution-later {m = n} (omega arith)) σ (i .solutions);
+  }
+
+  pub inv-push : {Γ : Board} {σ : Solutions} {n : ℕ} (e : Entry) → EntryOK n e → Inv Γ σ n → Inv (e ∷ Γ) σ n
+  inv-push e h i = record { entries = (h, i .entries); fine = i .fine; solutions = i .solutions }
+
+  pub inv-solve : {Γ : Board} {σ : Solutions} {n : ℕ} (k : ℕ) (s : Ty) → SolveOK σ n k s → Inv Γ σ n → Inv Γ (σ ++ (_≔_ k s ∷ [])) n
+  inv-solve {σ = σ} {n = n} k s h i = record {
+    entries = i .entries;
+    fine = fine-snoc [] σ k s (i .fine) (h .unsolved) (h .free);
+    solutions = all-append (SolutionOK n) σ (_≔_ k s ∷ []) (i .solutions) ((h .made, h .ok, h .mono), tt);
+  }
+
+  module _ (L : Limits) (Q : Board → Solutions → ℕ → Type 0) where
+    pub perform-kept : (p : Rule) (Γ : Board) (σ : Solutions) (n : ℕ) → Inv Γ σ n → Good p Γ σ n Q → Kept Q (perform L p Γ σ n)
+    unfolding perform
+    perform-kept done Γ σ n i g = (i, g)
+    perform-kept (refuse r ts) Γ σ n i g = (i, g)
+    perform-kept (fresh f) Γ σ n i g =
+        cond-ind (Kept Q) (ltb n (L .numbers)) (λ _. perform-kept (f n) Γ σ (suc n) (inv-fresh i) g) (λ _. (i, tt))
+    perform-kept (push e p) Γ σ n i g =
+        cond-ind (Kept Q) (roomFor L e Γ) (λ _. perform-kept p (e ∷ Γ) σ n (inv-push e (g .0) i) (g .1)) (λ _. (i, tt))
+    perform-kept (solve k s p) Γ σ n i g =
+        subst⁻¹ (λ o. Kept Q (solving o s
+        (cond (leb (solutionNodes σ + length s) (L .solved)) (perform L p Γ (σ ++ (_≔_ k s ∷ [])) n) (refused SolutionsFull [] (state Γ σ n)))
+        (perform L p Γ σ n)
+        (refused TypeUnificationError [] (state Γ σ n))))
+        (find-none σ k (g .0 .unsolved))
+        (cond-ind (Kept Q) (leb (solutionNodes σ + length s) (L .solved))
+        (λ _. perform-kept p Γ (σ ++ (_≔_ k s ∷ [])) n (inv-solve k s (g .0) i) (g .1)) (λ _. (i, tt)))
+    perform-kept (zonk t f) Γ σ n i g =
+        cond-ind (Kept Q) (leb (length (writeOut σ t)) (L .written)) (λ _. perform-kept (f (writeOut σ t)) Γ σ n i g) (λ _. (i, tt))
+    perform-kept (look f) Γ σ n i g = perform-kept (f Γ) Γ σ n i g
+
+-- Whatever a rule does, it adds: the board keeps its entries, the solutions stay.
+abbrev pub Grown : Board → Solutions → Outcome → Type 0
+Grown Γ σ (finished (state Γ′ σ′ n)) = ((Δ : Board) × (Γ′ ≡ Δ ++ Γ)) × ((τ : Solutions) × (σ′ ≡ σ ++ τ))
+Grown Γ σ (refused r ts (state Γ′ σ′ n)) = ((Δ : Board) × (Γ′ ≡ Δ ++ Γ)) × ((τ : Solutions) × (σ′ ≡ σ ++ τ))
+
+same : (Γ : Board) (σ : Solutions) → ((Δ : Board) × (Γ ≡ Δ ++ Γ)) × ((τ : Solutions) × (σ ≡ σ ++ τ))
+same Γ σ = (([], refl), ([], sym (append-nil σ)))
+
+grown-push : (e : Entry) (Γ : Board) (σ : Solutions) (o : Outcome) → Grown (e ∷ Γ) σ o → Grown Γ σ o
+grown-push e Γ σ (finished (state Γ′ σ′ n)) g = ((g .0 .0 ++ (e ∷ []), g .0 .1 ∙ sym (append-assoc (g .0 .0) (e ∷ []) Γ)), g .1)
+grown-push e Γ σ (refused r ts (state Γ′ σ′ n)) g = ((g .0 .0 ++ (e ∷ []), g .0 .1 ∙ sym (append-assoc (g .0 .0) (e ∷ []) Γ)), g .1)
+
+grown-solve : (x : Solution) (Γ : Board) (σ : Solutions) (o : Outcome) → Grown Γ (σ ++ (x ∷ [])) o → Grown Γ σ o
+grown-solve x Γ σ (finished (state Γ′ σ′ n)) g = (g .0, (x ∷ g .1 .0, g .1 .1 ∙ append-assoc σ (x ∷ []) (g .1 .0)))
+grown-solve x Γ σ (refused r ts (state Γ′ σ′ n)) g = (g .0, (x ∷ g .1 .0, g .1 .1 ∙ append-assoc σ (x ∷ []) (g .1 .0)))
+
+solving-grows : (Γ : Board) (σ : Solutions) (o : Option Ty) (s : Ty) (a b c : Outcome) → Grown Γ σ a → Grown Γ σ b → Grown Γ σ c → Grown Γ σ (solving o s a b c)
+solving-grows Γ σ none s a b c ha hb hc = ha
+solving-grows Γ σ (some t) s a b c ha hb hc = cond-ind (Grown Γ σ) (canUnify s t) (λ _. hb) (λ _. hc)
+
+pub perform-grows : (L : Limits) (p : Rule) (Γ : Board) (σ : Solutions) (n : ℕ) → Grown Γ σ (perform L p Γ σ n)
+unfolding perform
+perform-grows L done Γ σ n = same Γ σ
+perform-grows L (refuse r ts) Γ σ n = same Γ σ
+perform-grows L (fresh f) Γ σ n = cond-ind (Grown Γ σ) (ltb n (L .numbers)) (λ _. perform-grows L (f n) Γ σ (suc n)) (λ _. same Γ σ)
+perform-grows L (push e p) Γ σ n =
+    cond-ind (Grown Γ σ) (roomFor L e Γ) (λ _. grown-push e Γ σ (perform L p (e ∷ Γ) σ n) (perform-grows L p (e ∷ Γ) σ n)) (λ _. same Γ σ)
+perform-grows L (solve k s p) Γ σ n =
+    solving-grows Γ σ (find k σ) s
+    (cond (leb (solutionNodes σ + length s) (L .solved)) (perform L p Γ (σ ++ (_≔_ k s ∷ [])) n) (refused SolutionsFull [] (state Γ σ n)))
+    (perform L p Γ σ n)
+    (refused TypeUnificationError [] (state Γ σ n))
+    (cond-ind (Grown Γ σ) (leb (solutionNodes σ + length s) (L .solved))
+    (λ _. grown-solve (_≔_ k s) Γ σ (perform L p Γ (σ ++ (_≔_ k s ∷ [])) n) (perform-grows L p Γ (σ ++ (_≔_ k s ∷ [])) n))
+    (λ _. same Γ σ))
+    (perform-grows L p Γ σ n)
+    (same Γ σ)
+perform-grows L (zonk t f) Γ σ n =
+    cond-ind (Grown Γ σ) (leb (length (writeOut σ t)) (L .written)) (λ _. perform-grows L (f (writeOut σ t)) Γ σ n) (λ _. same Γ σ)
+perform-grows L (look f) Γ σ n = perform-grows L (f Γ) Γ σ n

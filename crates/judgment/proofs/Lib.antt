@@ -1,0 +1,11 @@
+pub mod TypeLaws
+pub mod SolutionLaws
+pub mod Invariant
+pub mod RuleLaws
+pub mod Zonk
+pub mod Runs
+pub mod Events
+pub mod Full
+pub mod Promised
+pub mod Rounds
+pub mod Words

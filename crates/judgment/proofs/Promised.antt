@@ -1,0 +1,158 @@
+-- The promise, proved: of any good start under any limits (`start-promise`), of a plan (`plan-promise`), and of every sheet that passes
+-- refusals 3 to 5 (`promise`). And raising the ceiling changes no result but 21 (`raise`). Assumes nothing.
+use Prim.Native.Nat.{ℕ, zero, suc, _+_, _≤_}
+use native.Mathlib.Omega.{arith}
+use mathlib.Core.Path.{_≡_, refl, sym, _∙_, ap, subst, subst⁻¹}
+use mathlib.Core.Logic.{_≢_}
+use mathlib.Core.Bool.{Bool, true, false, cond}
+use mathlib.Core.List.{List, [], _∷_, _++_}
+use lib.ListN.{length, take, drop}
+use lib.Dec.{eqb}
+use Rattle.nodes.specs.Nodes.{Node, node, Ty, kind}
+use Rattle.nodes.specs.Lists.{All, count}
+use Rattle.nodes.specs.Parts.{takeParts}
+use Rattle.nodes.proofs.ListLaws.{cond-ind, all-map, all-take, all-of-take, all-of-drop}
+use Rattle.spelling.specs.declared.Triple.{Triple}
+use Rattle.kinds.specs.Kinds.{partsOf}
+use Rattle.grammar.specs.declared.Check.the-variants.{Plan}
+use Rattle.grammar.specs.Check.{check}
+use Rattle.sheet.specs.Plan.{triples, lineNode, nodesOf, Declaration, declarations, Binding, _∶_, Bindings, bindingsIn, placesOf, isPlain, Plan as PlanOf, planOf}
+use Rattle.sheet.proofs.LineKinds.{no-unknown, plain-kinds}
+use Rattle.judgment.specs.declared.TypeError.the-variants.{TypeUnificationError}
+use Rattle.judgment.specs.Terms.{Term}
+use Rattle.judgment.specs.Solutions.{Solution, _≔_, Solutions, key, value, writeOut}
+use Rattle.judgment.specs.Board.{Entry, tvar, var, sub, inf, chk, infApp, Board, Limits, State, state}
+use Rattle.judgment.specs.Rules.{Env}
+use Rattle.judgment.specs.Run.{Step, End, accepted, ceiling, refusedBy, Run, run, steps, end, final, runFrom, checkType}
+use Rattle.judgment.specs.Result.{Result, endNumber, envOf, runOf, resultOf, judge, limits}
+use Rattle.judgment.specs.Promise.{taken, events, pushes, given, Follows, Quantifierless, Same, InFull, Promise}
+use Rattle.judgment.proofs.TypeLaws.{Lines, all-nodes}
+use Rattle.judgment.proofs.SolutionLaws.{Fine, ends, never-back, all-written}
+use Rattle.judgment.proofs.Invariant.{Mono, OK, Inv}
+use Rattle.judgment.proofs.RuleLaws.{Equal, BindingOK, EnvOK}
+use Rattle.judgment.proofs.Events.{Adds, run-adds, run-unmet}
+use Rattle.judgment.proofs.Full.{in-full, full-is, distinct-solved}
+use Rattle.judgment.proofs.Runs.{Empties, Accepted, FactsOf, run-facts, raise-ceiling}
+
+-- ---- any good start
+same-types : (σ : Solutions) → Fine σ → (e : Entry) → Equal σ e → Same σ e
+same-types σ f (tvar x) h = tt
+same-types σ f (var x t) h = tt
+same-types σ f (sub s t) h = (writeOut σ s, in-full σ f s, subst⁻¹ (InFull σ t) h (in-full σ f t))
+same-types σ f (inf e t) h = tt
+same-types σ f (chk e t) h = tt
+same-types σ f (infApp g e t) h = tt
+
+module _ (plain : Bool) (L : Limits) (E : Env) (hE : EnvOK (plain ≡ true) E) (first : Entry) where
+  claim : (R : Run) → FactsOf (plain ≡ true) L E hE (first ∷ []) [] R → Adds L E (first ∷ []) [] R → All Rattle.judgment.specs.Promise.NotMet (events (steps R)) → Promise first plain R
+  unfolding count
+  claim (run ss d (state Γ σ n)) F A u =
+      let f = F .inv .fine in
+      record {
+        never-met = u;
+        all-given = A .0;
+        once = distinct-solved σ f;
+        ends = ends σ f;
+        never-back = never-back σ f;
+        written = λ t. (writeOut σ t, in-full σ f t);
+        one-way = λ t v w p q. full-is σ f t v p ∙ sym (full-is σ f t w q);
+        monotypes = all-map (λ x h v p. subst⁻¹ Quantifierless (full-is σ f (value x) v p) (all-written Mono σ (value x) (all-map (λ y g. g .2) σ (F .inv .solutions)) (h .2))) σ (F .inv .solutions);
+        empty = λ a. subst (λ d. Empties d Γ) a (F .empties);
+        all-taken = λ a p. (let e = ap (count p) (subst (λ d. Empties d Γ) a (F .empties)) in let c = A .1 p in omega arith);
+        same = λ a p. all-map (same-types σ f) (taken ss) (F .equal p (subst⁻¹ Accepted a tt) .1);
+        never-16 = λ ts a. subst (λ d. Empties d Γ) a (F .empties);
+      }
+
+  pub start-promise : (c : ℕ) → Inv (plain ≡ true) (first ∷ []) [] 0 → Promise first plain (runFrom L E c (state (first ∷ []) [] 0))
+  start-promise c i =
+      claim (runFrom L E c (state (first ∷ []) [] 0)) (run-facts (plain ≡ true) L E hE c (first ∷ []) [] 0 i) (run-adds L E c (first ∷ []) [] 0)
+      (run-unmet L E (plain ≡ true) hE c (first ∷ []) [] 0 i)
+
+-- ---- a plan: what holds of every node of its types and of every line of its term
+abbrev pub bindingType : Binding → Ty
+bindingType (_∶_ x t) = t
+
+pub record PlanHas (P : Node → Type 0) (p : PlanOf) : Type 0 where
+  pub constructors : All (λ b. All P (bindingType b)) (p .constructors)
+  pub context : All (λ b. All P (bindingType b)) (p .context)
+  pub term : Lines P (p .term)
+  pub expected : All P (p .expected)
+
+-- a plan's types have no unknown; a plain one has no quantifier and no type abstraction
+pub record GoodPlan (p : PlanOf) : Type 0 where
+  pub no-unknowns : PlanHas (λ x. kind x ≢ 17) p
+  pub if-plain : p .plain ≡ true → PlanHas (λ x. (kind x ≢ 14) × (kind x ≢ 25)) p
+
+module _ {A : Type 0} (Plain : Type 0) (f : A → Node) where
+  ok-of : (xs : List A) → All (λ x. kind (f x) ≢ 17) xs → (Plain → All (λ x. (kind (f x) ≢ 14) × (kind (f x) ≢ 25)) xs) → All (λ x. OK Plain 0 (f x)) xs
+  ok-of [] h g = tt
+  ok-of (x ∷ xs) h g = ((λ e. absurd (h .0 e), λ p. g p .0), ok-of xs (h .1) (λ p. g p .1))
+
+bindings-ok : (Plain : Type 0) (bs : Bindings) → All (λ b. All (λ x. kind x ≢ 17) (bindingType b)) bs
+    → (Plain → All (λ b. All (λ x. (kind x ≢ 14) × (kind x ≢ 25)) (bindingType b)) bs) → All (BindingOK Plain 0) bs
+bindings-ok Plain [] h g = tt
+bindings-ok Plain (_∶_ x t ∷ bs) h g = (ok-of Plain (λ n. n) t (h .0) (λ p. g p .0), bindings-ok Plain bs (h .1) (λ p. g p .1))
+
+pub plan-promise : (L : Limits) (c : ℕ) (p : PlanOf) → GoodPlan p → Promise (chk (p .term) (p .expected)) (p .plain) (runOf L c p)
+unfolding runOf checkType
+plan-promise L c p g =
+    start-promise (p .plain) L (envOf p) hE (chk (p .term) (p .expected)) c (record {
+      entries = ((ok-of (p .plain ≡ true) lineNode (p .term) (g .no-unknowns .term) (λ e. g .if-plain e .term), ok-of (p .plain ≡ true) (λ n. n) (p .expected) (g .no-unknowns .expected) (λ e. g .if-plain e .expected)), tt);
+      fine = tt;
+      solutions = tt;
+    })
+  where
+    hE : EnvOK (p .plain ≡ true) (envOf p)
+    hE = record {
+      constructors = bindings-ok (p .plain ≡ true) (p .constructors) (g .no-unknowns .constructors) (λ e. g .if-plain e .constructors);
+      context = bindings-ok (p .plain ≡ true) (p .context) (g .no-unknowns .context) (λ e. g .if-plain e .context);
+    }
+
+-- ---- a sheet
+module _ (P : Node → Type 0) (ls : List Triple) (h : Lines P ls) where
+  bindings-have : (k : ℕ) (es : List Declaration) → All (λ b. All P (bindingType b)) (bindingsIn k ls es)
+  unfolding bindingsIn
+  bindings-have k [] = tt
+  bindings-have k (e ∷ es) =
+      cond-ind (All (λ b. All P (bindingType b))) (eqb (e .head .kind) k)
+      (λ _. (all-nodes P (take (e .count) (drop (e .line) ls)) (all-of-take (λ l. P (lineNode l)) (e .count) (drop (e .line) ls) (all-of-drop (λ l. P (lineNode l)) (e .line) ls h)), bindings-have k es))
+      (λ _. bindings-have k es)
+
+  lines-have : PlanHas P (planOf ls)
+  unfolding planOf
+  lines-have = record {
+    constructors = bindings-have 1 (declarations ls 0 0);
+    context = bindings-have 2 (declarations ls 0 0);
+    term = all-of-drop (λ l. P (lineNode l)) (placesOf ls .term) ls h;
+    expected =
+        all-nodes P (takeParts partsOf (drop (placesOf ls .expected) ls) 1)
+        (all-take partsOf (λ l. P (lineNode l)) (drop (placesOf ls .expected) ls) 1 (all-of-drop (λ l. P (lineNode l)) (placesOf ls .expected) ls h));
+  }
+
+pub sheet-plan : (s : List ℕ) → check s ≡ Plan → GoodPlan (planOf (triples s))
+unfolding planOf
+sheet-plan s e = record {
+  no-unknowns = lines-have (λ x. kind x ≢ 17) (triples s) (no-unknown s e);
+  if-plain = λ q. lines-have (λ x. (kind x ≢ 14) × (kind x ≢ 25)) (triples s) (plain-kinds (triples s) q);
+}
+
+-- THE PROMISE: for every sheet that passes refusals 3 to 5, under any limits and every ceiling
+pub promise : (L : Limits) (s : List ℕ) (c : ℕ) → check s ≡ Plan
+    → (let p = planOf (triples s) in Promise (chk (p .term) (p .expected)) (p .plain) (runOf L c p))
+promise L s c e = plan-promise L c (planOf (triples s)) (sheet-plan s e)
+
+-- ---- the ceiling
+not-21 : (e : End) → endNumber e ≢ 21 → e ≢ ceiling
+not-21 e h q = h (ap endNumber q)
+
+number-of : (b : Bool) (R : Run) → resultOf b R .answer .number ≡ endNumber (end R)
+unfolding resultOf
+number-of b (run ss d (state Γ σ n)) = refl
+
+-- raising the ceiling changes no result but 21
+pub raise : (L : Limits) (c d : ℕ) (ls : List Triple) → c ≤ d → judge L c ls .answer .number ≢ 21 → judge L d ls ≡ judge L c ls
+unfolding judge runOf checkType
+raise L c d ls l h =
+    let p = planOf ls in
+    let s : State = state (chk (p .term) (p .expected) ∷ []) [] 0 in
+    ap (resultOf (p .plain)) (raise-ceiling L (envOf p) c d s l (not-21 _ (λ q. h (number-of (p .plain) (runFrom L (envOf p) c s) ∙ q))))

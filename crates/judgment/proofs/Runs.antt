@@ -1,0 +1,120 @@
+-- Facts of whole runs: for all limits, every ceiling and any good start, at whatever end.
+-- Assumes nothing.
+use Prim.Native.Nat.{ℕ, zero, suc, _+_, _≤_, _<_}
+use native.Mathlib.Omega.{arith}
+use mathlib.Core.Path.{_≡_, refl, sym, _∙_, ap, ap₂, subst, subst⁻¹}
+use mathlib.Core.Logic.{_≢_, _⊎_, inl, inr}
+use mathlib.Core.Bool.{Bool, true, false, cond}
+use mathlib.Core.List.{List, [], _∷_, _++_, append-nil, append-assoc}
+use mathlib.Core.WellFounded.{Acc}
+use Rattle.nodes.specs.Lists.{All}
+use Rattle.nodes.proofs.ListLaws.{all-map, all-split}
+use Rattle.nodes.specs.Nodes.{Node, node, Ty, kind, number}
+use Rattle.spelling.specs.declared.Triple.{Triple}
+use Rattle.sheet.specs.Plan.{lineNode}
+use Rattle.judgment.specs.Terms.{Term}
+use Rattle.judgment.proofs.TypeLaws.{Lines}
+use Rattle.judgment.specs.declared.TypeError.{TypeError}
+use Rattle.judgment.specs.declared.TypeError.the-variants.{TypeUnificationError}
+use Rattle.judgment.specs.Solutions.{Solution, _≔_, Solutions, key, value, writeOut}
+use Rattle.judgment.proofs.SolutionLaws.{keys, Fine, distinct, ends, never-back, all-written, written-again}
+use Rattle.judgment.specs.Promise.{taken}
+use Rattle.judgment.specs.Board.{Entry, tvar, var, sub, inf, chk, infApp, Board, Limits, Operation, State, state, Outcome, finished, refused, perform, operations}
+use Rattle.sheet.specs.Plan.{Binding, _∶_, Bindings}
+use Rattle.judgment.specs.Rules.{Env, rule}
+use Rattle.judgment.specs.Run.{Step, step, End, accepted, ceiling, refusedBy, Run, run, steps, end, final, addStep, onward, runFrom, checkType}
+use Rattle.judgment.proofs.Invariant.{Mono, NotClash, OK, EntryOK, SolutionOK, Inv, Kept, perform-kept, Grown, perform-grows}
+use Rattle.judgment.proofs.RuleLaws.{Equal, Joins, BindingOK, EnvOK, Explains, rule-good}
+
+abbrev pub Empties : End → Board → Type 0
+Empties accepted Γ = Γ ≡ []
+Empties ceiling Γ = Unit {0}
+Empties (refusedBy r ts) Γ = NotClash r
+
+abbrev pub Accepted : End → Type 0
+Accepted accepted = Unit {0}
+Accepted ceiling = ⊥
+Accepted (refusedBy r ts) = ⊥
+
+module _ (Plain : Type 0) (L : Limits) (E : Env) (hE : EnvOK Plain E) where
+  -- of a run from the board Γ and the solutions σ
+  pub record Facts (Γ : Board) (σ : Solutions) (ss : List Step) (e : End) (Γ′ : Board) (σ′ : Solutions) (n′ : ℕ) : Type 0 where
+    pub inv : Inv Plain Γ′ σ′ n′
+    pub grown : (τ : Solutions) × (σ′ ≡ σ ++ τ)
+    pub empties : Empties e Γ′
+    pub equal : Plain → Accepted e → All (Equal σ′) Γ × All (Equal σ′) (taken ss)
+
+  abbrev pub FactsOf : Board → Solutions → Run → Type 0
+  FactsOf Γ σ (run ss e (state Γ′ σ′ n′)) = Facts Γ σ ss e Γ′ σ′ n′
+
+  -- a comparison taken, under the final solutions ω
+  explained : (e : Entry) (σ σ₁ ω : Solutions) (Γ₁ : Board) (n₁ : ℕ) (ρ τ : Solutions) → Fine σ → σ₁ ≡ σ ++ ρ → ω ≡ σ₁ ++ τ
+      → Explains Plain σ e Γ₁ σ₁ n₁ → Plain → All (Equal ω) Γ₁ → Equal ω e
+  explained (tvar x) σ σ₁ ω Γ₁ n₁ ρ τ f p q h pl g = tt
+  explained (var x t) σ σ₁ ω Γ₁ n₁ ρ τ f p q h pl g = tt
+  explained (inf e t) σ σ₁ ω Γ₁ n₁ ρ τ f p q h pl g = tt
+  explained (chk e t) σ σ₁ ω Γ₁ n₁ ρ τ f p q h pl g = tt
+  explained (infApp a e t) σ σ₁ ω Γ₁ n₁ ρ τ f p q h pl g = tt
+  explained (sub s t) σ σ₁ ω Γ₁ n₁ ρ τ f p q h pl g =
+      sym (again s) ∙ subst⁻¹ (λ ω. writeOut ω (writeOut σ s) ≡ writeOut ω (writeOut σ t)) q (h pl τ (subst (λ ω. All (Equal ω) Γ₁) q g)) ∙ again t
+    where
+      whole : ω ≡ σ ++ (ρ ++ τ)
+      whole = q ∙ ap {B = Solutions} (λ l. l ++ τ) p ∙ append-assoc σ ρ τ
+
+      again : (t : Ty) → writeOut ω (writeOut σ t) ≡ writeOut ω t
+      again t = subst⁻¹ (λ ω. writeOut ω (writeOut σ t) ≡ writeOut ω t) whole (written-again σ (ρ ++ τ) t f)
+
+  module _ (Γ : Board) (σ : Solutions) (n : ℕ) (e : Entry) (os : List Operation) (fine : Fine σ) where
+    addStep-facts : (Γ₁ : Board) (σ₁ : Solutions) (n₁ : ℕ) (Δ : Board) (ρ : Solutions) → Γ₁ ≡ Δ ++ Γ → σ₁ ≡ σ ++ ρ → Explains Plain σ e Γ₁ σ₁ n₁
+        → (R : Run) → FactsOf Γ₁ σ₁ R → FactsOf (e ∷ Γ) σ (addStep (step (state (e ∷ Γ) σ n) e os (finished (state Γ₁ σ₁ n₁))) R)
+    addStep-facts Γ₁ σ₁ n₁ Δ ρ p q h (run ss d (state Γ′ σ′ n′)) F = record {
+      inv = F .inv;
+      grown = (ρ ++ F .grown .0, F .grown .1 ∙ ap {B = Solutions} (λ l. l ++ F .grown .0) q ∙ append-assoc σ ρ (F .grown .0));
+      empties = F .empties;
+      equal = λ pl a.
+          let g = F .equal pl a in
+          let x : Equal σ′ e = explained e σ σ₁ σ′ Γ₁ n₁ ρ (F .grown .0) fine q (F .grown .1) h pl (g .0) in
+          ((x, all-split (Equal σ′) Δ Γ (subst (All (Equal σ′)) p (g .0)) .1), (x, g .1));
+    }
+
+    onward-facts : (o : Outcome) (again : State → Run) → Kept Plain (Explains Plain σ e) o → Grown Γ σ o
+        → ((Γ₁ : Board) (σ₁ : Solutions) (n₁ : ℕ) → Inv Plain Γ₁ σ₁ n₁ → FactsOf Γ₁ σ₁ (again (state Γ₁ σ₁ n₁)))
+        → FactsOf (e ∷ Γ) σ (onward L E (state (e ∷ Γ) σ n) e os o again)
+    onward-facts (finished (state Γ₁ σ₁ n₁)) again k g f =
+        addStep-facts Γ₁ σ₁ n₁ (g .0 .0) (g .1 .0) (g .0 .1) (g .1 .1) (k .1) (again (state Γ₁ σ₁ n₁)) (f Γ₁ σ₁ n₁ (k .0))
+    onward-facts (refused r ts (state Γ₁ σ₁ n₁)) again k g f =
+        record { inv = k .0; grown = g .1; empties = k .1; equal = λ pl a. absurd a }
+
+  pub run-facts : (c : ℕ) (Γ : Board) (σ : Solutions) (n : ℕ) → Inv Plain Γ σ n → FactsOf Γ σ (runFrom L E c (state Γ σ n))
+  unfolding runFrom
+  run-facts zero [] σ n i = record { inv = i; grown = ([], sym (append-nil σ)); empties = refl; equal = λ pl a. (tt, tt) }
+  run-facts zero (e ∷ Γ) σ n i = record { inv = i; grown = ([], sym (append-nil σ)); empties = tt; equal = λ pl a. absurd a }
+  run-facts (suc c) [] σ n i = record { inv = i; grown = ([], sym (append-nil σ)); empties = refl; equal = λ pl a. (tt, tt) }
+  run-facts (suc c) (e ∷ Γ) σ n i =
+      let j : Inv Plain Γ σ n = record { entries = i .entries .1; fine = i .fine; solutions = i .solutions } in
+      onward-facts Γ σ n e (operations L (rule E e) Γ σ n) (i .fine) (perform L (rule E e) Γ σ n) (λ s. runFrom L E c s)
+      (perform-kept Plain L (Explains Plain σ e) (rule E e) Γ σ n j (rule-good Plain E hE Γ σ n j e (i .entries .0)))
+      (perform-grows L (rule E e) Γ σ n)
+      (λ Γ₁ σ₁ n₁ i₁. run-facts c Γ₁ σ₁ n₁ i₁)
+
+---------------------------------------------------------------- the ceiling
+-- raising the ceiling changes no result but 21
+addStep-end : (t : Step) (R : Run) → end (addStep t R) ≡ end R
+addStep-end t (run ss e s) = refl
+
+onward-same : (L : Limits) (E : Env) (s : State) (e : Entry) (os : List Operation) (o : Outcome) (f g : State → Run)
+    → ((s : State) → end (f s) ≢ ceiling → g s ≡ f s) → end (onward L E s e os o f) ≢ ceiling → onward L E s e os o g ≡ onward L E s e os o f
+onward-same L E s e os (finished s′) f g h n =
+    ap (addStep (step s e os (finished s′))) (h s′ (λ x. n (addStep-end (step s e os (finished s′)) (f s′) ∙ x)))
+onward-same L E s e os (refused r ts s′) f g h n = refl
+
+pub raise-ceiling : (L : Limits) (E : Env) (c d : ℕ) (s : State) → c ≤ d → end (runFrom L E c s) ≢ ceiling → runFrom L E d s ≡ runFrom L E c s
+unfolding runFrom
+raise-ceiling L E zero zero (state [] σ n) l h = refl
+raise-ceiling L E zero (suc d) (state [] σ n) l h = refl
+raise-ceiling L E zero d (state (e ∷ Γ) σ n) l h = absurd (h refl)
+raise-ceiling L E (suc c) zero s l h = absurd (omega arith)
+raise-ceiling L E (suc c) (suc d) (state [] σ n) l h = refl
+raise-ceiling L E (suc c) (suc d) (state (e ∷ Γ) σ n) l h =
+    onward-same L E (state (e ∷ Γ) σ n) e (operations L (rule E e) Γ σ n) (perform L (rule E e) Γ σ n) (λ s. runFrom L E c s) (λ s. runFrom L E d s)
+    (λ s. raise-ceiling L E c d s (omega arith)) h

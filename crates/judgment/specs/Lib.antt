@@ -1,0 +1,10 @@
+pub mod Types
+pub mod Terms
+pub mod Solutions
+pub mod Board
+pub mod Rules
+pub mod Run
+pub mod Result
+pub mod Promise
+pub mod Wall
+pub mod Telling

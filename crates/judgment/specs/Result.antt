@@ -1,0 +1,176 @@
+-- The result of a run, and of a whole call: seven numbers, and what stands in board, book and report.
+-- Assumes nothing.
+use Prim.Native.Nat.{ℕ, zero, suc, _+_, _*_}
+use mathlib.Core.Bool.{Bool, true, false, cond, _||_}
+use mathlib.Core.List.{List, [], _∷_, _++_}
+use lib.Dec.{eqb, ltb}
+use lib.ListN.{length, take, replicate}
+use lib.Seq.{sets}
+use Rattle.nodes.specs.Nodes.{Ty, words}
+use Rattle.spelling.specs.declared.Triple.{Triple}
+use Rattle.grammar.specs.declared.Check.{Check}
+use Rattle.grammar.specs.declared.Check.the-variants.{Plan, Length, Misspelt, Unfit}
+use Rattle.grammar.specs.Check.{check, checkNumber, checkLine}
+use Rattle.sheet.specs.Plan.{Plan as PlanOf, planOf, triples}
+use Rattle.judgment.specs.declared.TypeError.{TypeError}
+use Rattle.judgment.specs.declared.TypeError.the-variants.{UnboundVariable, UnboundDataConstructor, NotAFunction, ArityMismatch, SubtypingError, TypeUnificationError, InstantiationError, IntrinsicArityMismatch, UnknownIntrinsic, BoardFull, TypeTooLong, NoFreshNumber, SolutionsFull}
+use Rattle.judgment.specs.declared.Answer.{Answer}
+use Rattle.judgment.specs.declared.Details.{Details}
+use Rattle.judgment.specs.Solutions.{Solution, _≔_, Solutions}
+use Rattle.judgment.specs.Board.{Limits, State, state}
+use Rattle.judgment.specs.Rules.{Env}
+use Rattle.judgment.specs.Run.{Step, End, accepted, ceiling, refusedBy, Run, run, checkType}
+
+-- ---- errors
+abbrev pub errorNumber : TypeError → ℕ
+errorNumber (UnboundVariable x) = 11
+errorNumber (UnboundDataConstructor x) = 12
+errorNumber (NotAFunction n) = 13
+errorNumber (ArityMismatch e a) = 14
+errorNumber (SubtypingError l r) = 15
+errorNumber TypeUnificationError = 16
+errorNumber (InstantiationError k n) = 17
+errorNumber (IntrinsicArityMismatch a) = 18
+errorNumber (UnknownIntrinsic x) = 19
+errorNumber BoardFull = 22
+errorNumber TypeTooLong = 23
+errorNumber NoFreshNumber = 24
+errorNumber SolutionsFull = 25
+
+abbrev pub errorDetails : TypeError → Details
+errorDetails (UnboundVariable x) = (x, 0)
+errorDetails (UnboundDataConstructor x) = (x, 0)
+errorDetails (NotAFunction n) = (n, 0)
+errorDetails (ArityMismatch e a) = (e, a)
+errorDetails (SubtypingError l r) = (l, r)
+errorDetails TypeUnificationError = (0, 0)
+errorDetails (InstantiationError k n) = (k, n)
+errorDetails (IntrinsicArityMismatch a) = (1, a)
+errorDetails (UnknownIntrinsic x) = (x, 0)
+errorDetails BoardFull = (0, 0)
+errorDetails TypeTooLong = (0, 0)
+errorDetails NoFreshNumber = (0, 0)
+errorDetails SolutionsFull = (0, 0)
+
+-- ---- a run's seven numbers, its solutions and the types of its report
+abbrev pub endNumber : End → ℕ
+endNumber accepted = 0
+endNumber ceiling = 21
+endNumber (refusedBy r ts) = errorNumber r
+
+abbrev pub endDetails : End → Details
+endDetails accepted = (0, 0)
+endDetails ceiling = (0, 0)
+endDetails (refusedBy r ts) = errorDetails r
+
+abbrev pub endReport : End → Ty
+endReport accepted = []
+endReport ceiling = []
+endReport (refusedBy r ts) = ts
+
+pub record Result : Type 0 where
+  pub answer : Answer
+  pub report : Ty
+  pub solutions : Solutions
+
+abbrev resultFrom : Bool → List Step → End → State → Result
+resultFrom plain ss e (state Γ σ n) = record {
+  answer = record {
+    number = endNumber e;
+    line = 0;
+    taken = length ss;
+    fresh = n;
+    detail1 = endDetails e .0;
+    detail2 = endDetails e .1;
+    plain = cond plain 1 0;
+  };
+  report = endReport e;
+  solutions = σ;
+}
+
+unfoldable pub resultOf : Bool → Run → Result
+resultOf plain (run ss e s) = resultFrom plain ss e s
+
+-- the run of a plan
+abbrev pub envOf : PlanOf → Env
+envOf p = record { constructors = p .constructors; context = p .context }
+
+unfoldable pub runOf : Limits → ℕ → PlanOf → Run
+runOf L c p = checkType L (envOf p) c (p .term) (p .expected)
+
+-- the result for the lines of a sheet
+unfoldable pub judge : Limits → ℕ → List Triple → Result
+judge L c ls = let p = planOf ls in resultOf (p .plain) (runOf L c p)
+
+-- document 01's limits
+abbrev pub limits : Limits
+limits = record { entries = 512; nodes = 4096; written = 1024; numbers = 1000; solved = 4096 }
+
+-- ---- the buffers
+-- words, and 0 up to n of them
+unfoldable pub padded : ℕ → List ℕ → List ℕ
+padded n ws = take n (ws ++ replicate n 0)
+
+-- where unknown k's solution stands in the book, its nodes being laid from word w on, and how many nodes it has; 0 and 0 if unsolved
+unfoldable pub placeFrom : ℕ → Solutions → ℕ → ℕ × ℕ
+placeFrom w [] k = (0, 0)
+placeFrom w (_≔_ j s ∷ σ) k = cond (eqb j k) (w, length s) (placeFrom (w + 2 * length s) σ k)
+
+-- the pairs of n unknowns from k on
+unfoldable pub pairsFrom : Solutions → ℕ → ℕ → List ℕ
+pairsFrom σ k zero = []
+pairsFrom σ k (suc n) = let p = placeFrom 2000 σ k in p .0 ∷ p .1 ∷ pairsFrom σ (k + 1) n
+
+-- the nodes of the solutions, in order of solving
+unfoldable pub nodeWords : Solutions → List ℕ
+nodeWords [] = []
+nodeWords (_≔_ j s ∷ σ) = words s ++ nodeWords σ
+
+unfoldable pub bookWords : Solutions → List ℕ
+bookWords σ = padded 10192 (pairsFrom σ 0 1000 ++ nodeWords σ)
+
+unfoldable pub reportWords : Ty → List ℕ
+reportWords t = padded 4096 (words t)
+
+unfoldable pub boardWords : List ℕ
+boardWords = replicate 16384 0
+
+-- ---- a whole call
+pub record Buffers : Type 0 where
+  pub board : List ℕ
+  pub book : List ℕ
+  pub report : List ℕ
+
+pub record Called : Type 0 where
+  pub answer : Answer
+  pub after : Buffers
+
+-- refused before a run: the rest 0, nothing written
+abbrev pub refusedAt : ℕ → ℕ → Answer
+refusedAt number line = record { number = number; line = line; taken = 0; fresh = 0; detail1 = 0; detail2 = 0; plain = 0 }
+
+-- a longer buffer keeps its tail
+abbrev pub written : Buffers → Result → Called
+written b r = record {
+  answer = r .answer;
+  after = record {
+    board = sets (b .board) 0 boardWords;
+    book = sets (b .book) 0 (bookWords (r .solutions));
+    report = sets (b .report) 0 (reportWords (r .report));
+  };
+}
+
+abbrev pub byCheck : List ℕ → ℕ → Buffers → Check → Called
+byCheck s c b Plan = written b (judge limits c (triples s))
+byCheck s c b Length = record { answer = refusedAt 3 0; after = b }
+byCheck s c b (Misspelt l) = record { answer = refusedAt 4 l; after = b }
+byCheck s c b (Unfit l) = record { answer = refusedAt 5 l; after = b }
+
+abbrev pub tooShort : Buffers → Bool
+tooShort b = ltb (length (b .board)) 16384 || (ltb (length (b .book)) 10192 || ltb (length (b .report)) 4096)
+
+-- 1 to 5 are tried in order, then the plan is run
+unfoldable pub call : List ℕ → ℕ → Buffers → Called
+call s c b =
+    cond (ltb 10000 c) (record { answer = refusedAt 1 0; after = b })
+    (cond (tooShort b) (record { answer = refusedAt 2 0; after = b }) (byCheck s c b (check s)))

@@ -1,0 +1,139 @@
+#!/usr/bin/env python3
+"""definition.py RECORDS [--chunk N]: the definition of the judgment rules beside the Rust's recorded answers.
+
+RECORDS is a file in the format of src/record.rs, as `reference generate --answers` and `reference record` write it. The
+repository is copied to a temporary folder, and there a crate is added whose one theorem says, by computation in the prover,
+that `judge` gives for every plan of a chunk the recorded seven numbers, report types and solutions in order. Plans refused
+before a run (1 to 5) are left out. Run it anywhere inside the repository; it needs `rt`. Exit status 1 at a difference.
+"""
+import argparse, os, shutil, subprocess, sys, tempfile
+
+DEPS = "nodes spelling kinds grammar sheet judgment"
+OPENED = {
+    "kinds.specs.Kinds": "partsOf rowOf find=findRow table",
+    "sheet.specs.Plan": "planOf declarations bindingsIn endFrom entriesEnd placesOf partLine isPlain lookup",
+    "judgment.specs.Types": "view occurs isMonotype substitute rename frontNames afterFront canUnify",
+    "judgment.specs.Terms": "termView lambdaOf",
+    "judgment.specs.Solutions": "find replace writeOut solutionNodes",
+    "judgment.specs.Board": "boardNodes findVar before perform operations",
+    "judgment.specs.Rules": "instantiateFrom subtype openNames signatureFrom insert pushVars checkPatterns checkArms inferApp",
+    "judgment.specs.Run": "runFrom checkType",
+    "judgment.specs.Result": "resultOf runOf judge",
+}
+HEAD = """use mathlib.Core.Path.{_≡_, refl}
+use mathlib.Core.Bool.{Bool, true, false}
+use mathlib.Core.List.{List, [], _∷_, map}
+use Prim.Native.Nat.{ℕ}
+use Rattle.nodes.specs.Nodes.{Node, node, Ty}
+use Rattle.spelling.specs.declared.Triple.{Triple}
+use Rattle.judgment.specs.declared.Answer.{Answer}
+use Rattle.judgment.specs.Solutions.{Solution, _≔_, Solutions}
+use Rattle.judgment.specs.Result.{Result, limits}
+"""
+ROW = """
+abbrev t : ℕ → Bool → ℕ → ℕ → Triple
+t k n v c = record { kind = k; negative = n; value = v; count = c }
+
+abbrev numbers : Answer → List ℕ
+numbers a = a .number ∷ a .line ∷ a .taken ∷ a .fresh ∷ a .detail1 ∷ a .detail2 ∷ a .plain ∷ []
+
+abbrev Row : Type 0
+Row = List ℕ × Ty × Solutions
+
+unfoldable pub row : ℕ → List Triple → Row
+row c ls = let r = judge limits c ls in (numbers (r .answer), r .report, r .solutions)
+"""
+
+
+def pairs(numbers, at, count):
+    return [(numbers[at + 2 * j], numbers[at + 2 * j + 1]) for j in range(count)]
+
+
+def parse(text):
+    n = [int(x) for x in text.split()]
+    ceiling, count, at = n[0], n[1], 2
+    lines = [n[at + 3 * j: at + 3 * j + 3] for j in range(count)]
+    at += 3 * count
+    seven, at = n[at: at + 7], at + 7
+    report = pairs(n, at + 1, n[at])
+    at += 1 + 2 * n[at]
+    solved, at, solutions = n[at], at + 1, []
+    for _ in range(solved):
+        solutions.append((n[at], pairs(n, at + 2, n[at + 1])))
+        at += 2 + 2 * n[at + 1]
+    assert at == len(n), "a record ends with its last solution"
+    return ceiling, lines, seven, report, solutions
+
+
+def nodes(ns):
+    return "(" + "".join(f"node {k} {v} ∷ " for k, v in ns) + "[])"
+
+
+def triple(line):
+    kind, value, count = line
+    return f"t {kind} {'true' if value < 0 else 'false'} {abs(value)} {count} ∷ "
+
+
+def groups(plans):
+    """Plans in runs of at most 50, a long run alone: the prover bounds what one theorem may compute."""
+    group = []
+    for plan in plans:
+        if group and (len(group) == 50 or plan[2][2] > 1000):
+            yield group
+            group = []
+        group.append(plan)
+        if plan[2][2] > 1000:
+            yield group
+            group = []
+    if group:
+        yield group
+
+
+def module(plans):
+    uses = [f"use Rattle.{m}.{{{', '.join(w.replace('=', ' as ') for w in names.split())}}}" for m, names in OPENED.items()]
+    opened = " ".join(w.split("=")[-1] for names in OPENED.values() for w in names.split())
+    return HEAD + "\n".join(uses) + "\n" + ROW + "".join(theorem(i, g, opened) for i, g in enumerate(groups(plans)))
+
+
+def theorem(name, plans, opened):
+    asked = "".join(f"    ({c}, {''.join(map(triple, ls))}[]) ∷\n" for c, ls, _, _, _ in plans)
+    answered = "".join(
+        f"    ({''.join(f'{x} ∷ ' for x in seven)}[], {nodes(rep)}, {''.join(f'_≔_ {k} {nodes(s)} ∷ ' for k, s in sols)}[]) ∷\n"
+        for _, _, seven, rep, sols in plans)
+    return (f"\nabbrev asked{name} : List (ℕ × List Triple)\nasked{name} =\n{asked}    []\n"
+            f"\nabbrev answered{name} : List Row\nanswered{name} =\n{answered}    []\n"
+            f"\npub same{name} : map (λ q. row (q .0) (q .1)) asked{name} ≡ answered{name}\nunfolding row {opened}\nsame{name} = refl\n")
+
+
+def main():
+    a = argparse.ArgumentParser(description=__doc__, formatter_class=argparse.RawDescriptionHelpFormatter)
+    a.add_argument("records")
+    a.add_argument("--chunk", type=int, default=1000)
+    o = a.parse_args()
+    top = subprocess.run(["git", "rev-parse", "--show-toplevel"], capture_output=True, text=True, check=True).stdout.strip()
+    plans = [parse(l) for l in open(o.records, encoding="utf-8") if not l.startswith("#")]
+    plans = [p for p in plans if p[2][0] not in (1, 2, 3, 4, 5)]
+    same = 0
+    with tempfile.TemporaryDirectory() as folder:
+        shutil.copytree(os.path.join(top, "crates"), os.path.join(folder, "crates"))
+        shutil.copy(os.path.join(top, "crates.txt"), folder)
+        for part in ("src", "specs"):
+            os.makedirs(os.path.join(folder, "crates/compare", part))
+        open(os.path.join(folder, "crates/compare/src/lib.rt"), "w").write("// No code.\n")
+        open(os.path.join(folder, "crates/compare/specs/Lib.antt"), "w").write("pub mod Same\n")
+        with open(os.path.join(folder, "crates.txt"), "a") as f:
+            f.write(f"compare: {DEPS}\n")
+        for at in range(0, len(plans), o.chunk):
+            chunk = plans[at: at + o.chunk]
+            open(os.path.join(folder, "crates/compare/specs/Same.antt"), "w", encoding="utf-8").write(module(chunk))
+            p = subprocess.run(["rt", "dev", "compare"], cwd=folder, capture_output=True, text=True)
+            said = p.stdout + p.stderr
+            if p.returncode != 0 or "crate compare" not in said or "logic=not-proved" in said:
+                print(f"plans {at} to {at + len(chunk)}: DIFFERENT\n{said[-3000:]}")
+                sys.exit(1)
+            same += len(chunk)
+            print(f"{same} of {len(plans)} plans alike", flush=True)
+
+
+if __name__ == "__main__":
+    main()
