@@ -1,5 +1,5 @@
 #!/usr/bin/env python3
-"""definition.py RECORDS [--chunk N]: the definition of the judgment rules beside the Rust's recorded answers.
+"""definition.py RECORDS [--chunk N] [--limits E,N,W,F,S]: the definition of the judgment rules beside the Rust's recorded answers.
 
 RECORDS is a file in the format of src/record.rs, as `reference generate --answers` and `reference record` write it. The
 repository is copied to a temporary folder, and there a crate is added whose one theorem says, by computation in the prover,
@@ -41,7 +41,7 @@ abbrev Row : Type 0
 Row = List ℕ × Ty × Solutions
 
 unfoldable pub row : ℕ → List Triple → Row
-row c ls = let r = judge limits c ls in (numbers (r .answer), r .report, r .solutions)
+row c ls = let r = judge (LIMITS) c ls in (numbers (r .answer), r .report, r .solutions)
 """
 
 
@@ -89,10 +89,16 @@ def groups(plans):
         yield group
 
 
-def module(plans):
+def record(limits):
+    fields = zip("entries nodes written numbers solved".split(), limits.split(","))
+    return "record { " + "; ".join(f"{name} = {int(n)}" for name, n in fields) + " }"
+
+
+def module(plans, limits):
     uses = [f"use Rattle.{m}.{{{', '.join(w.replace('=', ' as ') for w in names.split())}}}" for m, names in OPENED.items()]
     opened = " ".join(w.split("=")[-1] for names in OPENED.values() for w in names.split())
-    return HEAD + "\n".join(uses) + "\n" + ROW + "".join(theorem(i, g, opened) for i, g in enumerate(groups(plans)))
+    row = ROW.replace("LIMITS", record(limits) if limits else "limits")
+    return HEAD + "\n".join(uses) + "\n" + row + "".join(theorem(i, g, opened) for i, g in enumerate(groups(plans)))
 
 
 def theorem(name, plans, opened):
@@ -109,6 +115,7 @@ def main():
     a = argparse.ArgumentParser(description=__doc__, formatter_class=argparse.RawDescriptionHelpFormatter)
     a.add_argument("records")
     a.add_argument("--chunk", type=int, default=1000)
+    a.add_argument("--limits", help="the limits that the records were made with, where they are not document 01's")
     o = a.parse_args()
     top = subprocess.run(["git", "rev-parse", "--show-toplevel"], capture_output=True, text=True, check=True).stdout.strip()
     plans = [parse(l) for l in open(o.records, encoding="utf-8") if not l.startswith("#")]
@@ -125,7 +132,7 @@ def main():
             f.write(f"compare: {DEPS}\n")
         for at in range(0, len(plans), o.chunk):
             chunk = plans[at: at + o.chunk]
-            open(os.path.join(folder, "crates/compare/specs/Same.antt"), "w", encoding="utf-8").write(module(chunk))
+            open(os.path.join(folder, "crates/compare/specs/Same.antt"), "w", encoding="utf-8").write(module(chunk, o.limits))
             p = subprocess.run(["rt", "dev", "compare"], cwd=folder, capture_output=True, text=True)
             said = p.stdout + p.stderr
             if p.returncode != 0 or "crate compare" not in said or "logic=not-proved" in said:

@@ -21,8 +21,9 @@ use std::process::ExitCode;
 
 const USAGE: &str = "usage: reference COMMAND
   answer [--ceiling N]                 the answer to the sheet on standard input
-  generate --seed S --count N [--kind random|small|limits] [--answers]
-                                       plans, one a line, in the format of src/record.rs
+  generate --seed S --count N [--kind random|small|limits] [--answers] [--limits E,N,W,F,S]
+                                       plans, one a line, in the format of src/record.rs; other
+                                       limits: entries, nodes, written out, fresh, solutions
   record --out FILE                    the recorded list of plans and answers
   wall                                 document 01's plans on the wall
   readers --seed S --count N           this reader beside the proved one
@@ -122,8 +123,19 @@ fn spelt(nodes: &[Node]) -> String {
     nodes.iter().map(node).collect()
 }
 
+/// Five numbers, in the order of `limited`'s constants.
+fn set_limits(text: &str) -> Result<(), String> {
+    let parsed: Result<Vec<usize>, _> = text.split(',').map(str::parse).collect();
+    let limits = parsed.ok().and_then(|numbers| numbers.try_into().ok());
+    limited::set_limits(limits.ok_or("--limits: five numbers, as 20,60,20,12,40")?);
+    Ok(())
+}
+
 fn generate_plans(options: &Options) -> Result<bool, String> {
     let answers = options.has("--answers");
+    if let Some(text) = options.text("--limits") {
+        set_limits(text)?;
+    }
     match options.text("--kind").unwrap_or("random") {
         "random" => {
             let (seed, count) = (

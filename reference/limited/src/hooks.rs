@@ -27,7 +27,7 @@ fn refuse(number: u32, reached: usize) -> ! {
 }
 
 pub fn fresh(prefix: &str, number: usize) -> String {
-    if number >= crate::NUMBERS {
+    if number >= crate::limit(3) {
         refuse(24, number + 1);
     }
     rust_std::format!("{prefix}{number}")
@@ -79,10 +79,10 @@ impl<T: Element> Vec<T> {
     pub fn push(&mut self, item: T) {
         let len = self.items.len() + 1;
         let nodes = self.nodes + item.nodes();
-        if T::ON_BOARD && len > crate::ENTRIES {
+        if T::ON_BOARD && len > crate::limit(0) {
             refuse(22, len);
         }
-        if T::ON_BOARD && nodes > crate::NODES {
+        if T::ON_BOARD && nodes > crate::limit(1) {
             refuse(22, nodes);
         }
         self.items.push(item);
@@ -140,7 +140,7 @@ impl HashMap<String, CoreType> {
     pub fn insert(&mut self, name: String, ty: CoreType) -> Option<CoreType> {
         if name.starts_with('^') {
             let solved = self.solved + node_count(&ty);
-            if solved > crate::SOLVED {
+            if solved > crate::limit(4) {
                 refuse(25, solved);
             }
             self.solved = solved;

@@ -7,6 +7,8 @@
 
 extern crate std as rust_std;
 
+use rust_std::sync::atomic::{AtomicUsize, Ordering::Relaxed};
+
 pub use plain::{core, errors};
 
 mod hooks;
@@ -24,6 +26,26 @@ pub const WRITTEN: usize = 1024;
 pub const NUMBERS: usize = 1000;
 /// Nodes of all solutions.
 pub const SOLVED: usize = 4096;
+
+/// The limits that a run is put to, in the order above.
+static LIMITS: [AtomicUsize; 5] = [
+    AtomicUsize::new(ENTRIES),
+    AtomicUsize::new(NODES),
+    AtomicUsize::new(WRITTEN),
+    AtomicUsize::new(NUMBERS),
+    AtomicUsize::new(SOLVED),
+];
+
+/// Smaller limits, so that small plans meet them: the definition takes any.
+pub fn set_limits(limits: [usize; 5]) {
+    for (limit, value) in LIMITS.iter().zip(limits) {
+        limit.store(value, Relaxed);
+    }
+}
+
+fn limit(at: usize) -> usize {
+    LIMITS[at].load(Relaxed)
+}
 
 #[allow(dead_code)]
 mod worklist {
@@ -155,7 +177,7 @@ mod worklist {
         fn write_one(&mut self, ty: &CoreType) -> Result<(), Passed> {
             let mut count = 0;
             self.count_written(ty, &mut count);
-            if count > crate::WRITTEN {
+            if count > crate::limit(2) {
                 return Err(Passed {
                     number: 23,
                     reached: count,
@@ -167,7 +189,7 @@ mod worklist {
 
         /// Counts what `zonk` would write, and stops a little past the limit.
         fn count_written(&self, ty: &CoreType, count: &mut usize) {
-            if *count > crate::WRITTEN + 1 {
+            if *count > crate::limit(2) + 1 {
                 return;
             }
             if let CoreType::ETVar(name) = ty {
