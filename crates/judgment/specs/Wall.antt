@@ -6,8 +6,13 @@ use Prim.Native.Nat.{ℕ}
 use lib.ListN.{take, drop}
 use Rattle.nodes.specs.Nodes.{Node, node, Ty, words}
 use Rattle.spelling.specs.declared.Triple.{Triple}
-use Rattle.kinds.specs.Kinds.{partsOf, rowOf, find as findRow, table}
-use Rattle.sheet.specs.Plan.{planOf, declarations, bindingsIn, endFrom, entriesEnd, placesOf, partLine, isPlain, lookup}
+use Rattle.spelling.specs.Spelling.{fieldFrom, lineOf, lineAt, linesFrom, linesOf, firstMisspelt}
+use Rattle.spelling.specs.Text.{fieldText, lineText}
+use Rattle.kinds.specs.Kinds.{partsOf, rowOf, find as findRow, table, begins, headOf}
+use Rattle.grammar.specs.declared.Check.the-variants.{Plan}
+use Rattle.grammar.specs.Grammar.{declaredBy, isGoal, arms, following, read, readAt}
+use Rattle.grammar.specs.Check.{readSheet, check}
+use Rattle.sheet.specs.Plan.{triples, planOf, declarations, bindingsIn, endFrom, entriesEnd, placesOf, partLine, isPlain, lookup}
 use Rattle.judgment.specs.declared.Answer.{Answer}
 use Rattle.judgment.specs.Types.{view, occurs, isMonotype, substitute, rename, frontNames, afterFront, canUnify}
 use Rattle.judgment.specs.Terms.{termView, lambdaOf}
@@ -76,3 +81,15 @@ firstBook = bookWords (_≔_ 0 (node 12 1 ∷ []) ∷ [])
 pub first-book : take 2 firstBook ++ take 2 (drop 2000 firstBook) ≡ 2000 ∷ 1 ∷ 12 ∷ 1 ∷ []
 unfolding bookWords padded pairsFrom placeFrom nodeWords words
 first-book = refl
+
+-- the first plan from its bytes: the sheet that document 01 shows is taken, and has these lines
+abbrev pub firstSheet : List ℕ
+firstSheet = lineText (l 3 0 0) ++ (lineText (l 12 1 0) ++ (lineText (l 4 0 0) ++ lineText (l 22 7 0)))
+
+pub first-taken : check firstSheet ≡ Plan
+unfolding lineText fieldText fieldFrom lineOf lineAt linesFrom linesOf firstMisspelt findRow table rowOf begins headOf declaredBy isGoal arms following read readAt readSheet check
+first-taken = refl
+
+pub first-lines : triples firstSheet ≡ l 3 0 0 ∷ l 12 1 0 ∷ l 4 0 0 ∷ l 22 7 0 ∷ []
+unfolding lineText fieldText fieldFrom lineOf lineAt linesFrom linesOf triples
+first-lines = refl
