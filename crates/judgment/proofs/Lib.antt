@@ -9,3 +9,4 @@ pub mod Full
 pub mod Promised
 pub mod Rounds
 pub mod Words
+pub mod WholeTypes

@@ -1,11 +1,12 @@
 -- What holds of every row of the table. Assumes nothing.
-use mathlib.Core.Path.{_≡_, refl}
+use mathlib.Core.Path.{_≡_, refl, subst⁻¹}
+use mathlib.Core.Logic.{_⊎_, inl, inr}
 use mathlib.Core.Bool.{Bool, true, false, cond, _&&_, and-eq-true-iff}
 use mathlib.Core.List.{List, [], _∷_}
 use Prim.Native.Nat.{ℕ, _+_, _*_, _≤_, _<_, max}
 use native.Mathlib.Omega.{arith}
 use lib.Dec.{eqb, leb}
-use borrow.Author.Tests.{ne-eqb, leb-true}
+use borrow.Author.Tests.{ne-eqb, leb-true, eqb-true}
 use Rattle.spelling.specs.declared.Triple.{Triple}
 use Rattle.kinds.specs.declared.Row.{Row}
 use Rattle.kinds.specs.Kinds.{Listed, find, table, rowOf, unlisted, nothing, anArm, partsOf}
@@ -37,6 +38,25 @@ found p k (l ∷ ls) e = go (eqb k (l .kind)) (and-eq-true-iff (p (l .is)) (ever
 pub row-passes : (p : Row → Bool) (k : ℕ) → every p table ≡ true → p (rowOf k) ≡ true
 unfolding rowOf
 row-passes p k e = found p k table e
+
+-- a test of kind and row that all listed ones pass holds of each kind that is listed
+abbrev everyListed : (ℕ → Row → Bool) → List Listed → Bool
+everyListed p [] = true
+everyListed p (l ∷ ls) = p (l .kind) (l .is) && everyListed p ls
+
+listed : (p : ℕ → Row → Bool) (k : ℕ) (ls : List Listed) → everyListed p ls ≡ true → (find k ls ≡ unlisted) ⊎ (p k (find k ls) ≡ true)
+unfolding find
+listed p k [] e = inl refl
+listed p k (l ∷ ls) e = go (eqb k (l .kind)) refl (and-eq-true-iff (p (l .kind) (l .is)) (everyListed p ls) .0 e) (λ h. listed p k ls h)
+  where
+    go : (t : Bool) → eqb k (l .kind) ≡ t → (p (l .kind) (l .is) ≡ true) × (everyListed p ls ≡ true)
+        → (everyListed p ls ≡ true → (find k ls ≡ unlisted) ⊎ (p k (find k ls) ≡ true)) → (cond t (l .is) (find k ls) ≡ unlisted) ⊎ (p k (cond t (l .is) (find k ls)) ≡ true)
+    go true q h again = inr (subst⁻¹ (λ (j : ℕ). p j (l .is) ≡ true) (eqb-true k (l .kind) q) (h .0))
+    go false q h again = again (h .1)
+
+pub listed-passes : (p : ℕ → Row → Bool) (k : ℕ) → everyListed p table ≡ true → (rowOf k ≡ unlisted) ⊎ (p k (rowOf k) ≡ true)
+unfolding rowOf
+listed-passes p k e = listed p k table e
 
 -- few parts follow whatever the count says
 pub few-types : (k : ℕ) → rowOf k .types ≤ 2

@@ -1,3 +1,4 @@
 pub mod Laws
 pub mod PartLaws
 pub mod ListLaws
+pub mod Wholes

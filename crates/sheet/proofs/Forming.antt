@@ -1,5 +1,5 @@
 -- A sheet that is taken is formed: `formed`. A whole part splits into its parts: `split`. Assumes nothing.
-use mathlib.Core.Path.{_≡_, refl, sym, ap, ap₂, _∙_, subst}
+use mathlib.Core.Path.{_≡_, refl, sym, ap, ap₂, _∙_, subst, subst⁻¹}
 use mathlib.Core.Bool.{Bool, true, false, cond, _&&_}
 use mathlib.Core.List.{List, [], _∷_, _++_, append-assoc, append-nil, map}
 use Prim.Native.Nat.{ℕ, zero, suc, _+_, _*_, _-_, _/_, _≤_, _<_}
@@ -81,19 +81,24 @@ parts-following ty te e n =
     parts-append (replicate ty (part aType)) _ (parts-replicate ty aType)
     (parts-append (replicate te (part aTerm)) (repeated e n) (parts-replicate te aTerm) (parts-repeated e n))
 
-pub due-parts : (x : ℕ) (t : Triple) → ok (part x) (Spelt t) ≡ true → (length (due (part x) (Spelt t)) ≡ partsOf t) × AllParts (due (part x) (Spelt t))
-unfolding headOf partsOf
-due-parts x t = go (begins x t)
+-- what follows a line that begins a part
+pub due-following : (x : ℕ) (t : Triple) → ok (part x) (Spelt t) ≡ true
+    → (begins x t ≡ true) × (due (part x) (Spelt t) ≡ following (rowOf (t .kind) .types) (rowOf (t .kind) .terms) (rowOf (t .kind) .each) (t .count))
+unfolding headOf
+due-following x t = go (begins x t) refl
   where
-    h : (b : Bool) → Head
-    h b = cond b (Parts (rowOf (t .kind) .types) (rowOf (t .kind) .terms) (rowOf (t .kind) .each) (t .count)) No
+    go : (b : Bool) → begins x t ≡ b → fits (cond b (Parts (rowOf (t .kind) .types) (rowOf (t .kind) .terms) (rowOf (t .kind) .each) (t .count)) No) ≡ true
+        → (begins x t ≡ true)
+        × (partsDue (cond b (Parts (rowOf (t .kind) .types) (rowOf (t .kind) .terms) (rowOf (t .kind) .each) (t .count)) No)
+          ≡ following (rowOf (t .kind) .types) (rowOf (t .kind) .terms) (rowOf (t .kind) .each) (t .count))
+    go true q e = (q, refl)
+    go false q e = absurd (let z : _≡_ {A = ℕ} 0 1 = cc in omega arith)
 
-    go : (b : Bool) → fits (cond b (Parts (rowOf (t .kind) .types) (rowOf (t .kind) .terms) (rowOf (t .kind) .each) (t .count)) No) ≡ true
-        → (length (partsDue (cond b (Parts (rowOf (t .kind) .types) (rowOf (t .kind) .terms) (rowOf (t .kind) .each) (t .count)) No))
-        ≡ rowOf (t .kind) .types + rowOf (t .kind) .terms + eachParts (rowOf (t .kind) .each) (t .count))
-        × AllParts (partsDue (cond b (Parts (rowOf (t .kind) .types) (rowOf (t .kind) .terms) (rowOf (t .kind) .each) (t .count)) No))
-    go true e = (length-following _ _ _ (t .count) (few-each (t .kind)), parts-following _ _ _ (t .count))
-    go false e = absurd (let z : _≡_ {A = ℕ} 0 1 = cc in omega arith)
+pub due-parts : (x : ℕ) (t : Triple) → ok (part x) (Spelt t) ≡ true → (length (due (part x) (Spelt t)) ≡ partsOf t) × AllParts (due (part x) (Spelt t))
+unfolding partsOf
+due-parts x t e =
+    let d = due-following x t e .1 in
+    (ap length d ∙ length-following _ _ _ (t .count) (few-each (t .kind)), subst⁻¹ AllParts d (parts-following _ _ _ (t .count)))
 
 -- ---- lines that are n parts and then more: the parts, and the rest
 forms-move : (ts : List Triple) {a b : List Item} → a ≡ b → Forms ts a → Forms ts b

@@ -4,3 +4,4 @@ pub mod Marks
 pub mod Forming
 pub mod Formed
 pub mod LineKinds
+pub mod TypeLines

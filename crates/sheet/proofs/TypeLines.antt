@@ -1,0 +1,109 @@
+-- The lines of a whole type are, as nodes, one whole type: `type-whole`. Assumes nothing.
+use mathlib.Core.Path.{_≡_, refl, sym, ap, _∙_, subst, subst⁻¹}
+use mathlib.Core.Logic.{_⊎_, inl, inr, ⊎-elim}
+use mathlib.Core.Bool.{Bool, true, false, not, cond, _&&_, _||_, and-eq-true-iff}
+use mathlib.Core.List.{List, [], _∷_, _++_, append-nil}
+use Prim.Native.Nat.{ℕ, zero, suc, _+_}
+use native.Mathlib.Omega.{arith}
+use lib.ListN.{length, replicate, length-append, length-replicate}
+use lib.Dec.{eqb}
+use borrow.Author.Tests.{eqb-true, eqb-false, ne-eqb}
+use Rattle.nodes.specs.Nodes.{Node, node, Ty, nodeParts}
+use Rattle.nodes.specs.Parts.{Whole}
+use Rattle.spelling.specs.declared.Triple.{Triple}
+use Rattle.spelling.specs.declared.Line.the-variants.{Spelt}
+use Rattle.kinds.specs.declared.Row.{Row}
+use Rattle.kinds.specs.Kinds.{aType, nothing, table, rowOf, unlisted, begins}
+use Rattle.kinds.proofs.Rows.{listed-passes}
+use Rattle.grammar.specs.Grammar.{Item, part, entries, goal, ok, due, repeated, following}
+use Rattle.sheet.specs.Plan.{lineNode, nodesOf}
+use Rattle.sheet.specs.Form.{Forms, IsPart}
+use Rattle.sheet.proofs.Forming.{due-following}
+
+-- only types are due
+abbrev Types : List Item → Type 0
+Types [] = Unit {0}
+Types (part x ∷ todo) = (x ≡ aType) × Types todo
+Types (entries k n ∷ todo) = ⊥
+Types (goal ∷ todo) = ⊥
+
+types-append : (a b : List Item) → Types a → Types b → Types (a ++ b)
+types-append [] b p q = q
+types-append (part x ∷ a) b p q = (p .0, types-append a b (p .1) q)
+types-append (entries k n ∷ a) b p q = absurd p
+types-append (goal ∷ a) b p q = absurd p
+
+types-replicate : (n : ℕ) → Types (replicate n (part aType))
+types-replicate zero = tt
+types-replicate (suc n) = (refl, types-replicate n)
+
+-- a type's row: as many types follow as the node says, and nothing else
+abbrev typeRow : ℕ → Row → Bool
+typeRow k r =
+    not (eqb (r .sort) aType)
+    || (eqb (r .terms) 0 && cond (eqb k 16) (eqb (r .types) 0 && eqb (r .each) aType) (eqb (r .each) nothing && eqb (r .types) (nodeParts (node k 0))))
+
+-- of such a row, with the count c and the value v
+abbrev Fits : ℕ → Row → ℕ → ℕ → Type 0
+Fits k r c v =
+    Types (following (r .types) (r .terms) (r .each) c) × (length (following (r .types) (r .terms) (r .each) c) ≡ nodeParts (node k (cond (eqb k 16) c v)))
+
+other-kind : (k v : ℕ) → eqb k 16 ≡ false → nodeParts (node k 0) ≡ nodeParts (node k v)
+other-kind k v e = rw e
+
+row-fits : (k c v : ℕ) (r : Row) → typeRow k r ≡ true → r .sort ≡ aType → Fits k r c v
+unfolding following
+row-fits k c v r e s = go (eqb k 16) refl (rest .0) (rest .1)
+  where
+    rest : (r .terms ≡ 0) × (cond (eqb k 16) (eqb (r .types) 0 && eqb (r .each) aType) (eqb (r .each) nothing && eqb (r .types) (nodeParts (node k 0))) ≡ true)
+    rest =
+        let h : (eqb (r .terms) 0 && cond (eqb k 16) (eqb (r .types) 0 && eqb (r .each) aType) (eqb (r .each) nothing && eqb (r .types) (nodeParts (node k 0)))) ≡ true = rw s at e in
+        let b = and-eq-true-iff (eqb (r .terms) 0) _ .0 h in
+        (eqb-true (r .terms) 0 (b .0), b .1)
+    go : (b : Bool) → eqb k 16 ≡ b → r .terms ≡ 0 → cond b (eqb (r .types) 0 && eqb (r .each) aType) (eqb (r .each) nothing && eqb (r .types) (nodeParts (node k 0))) ≡ true → Fits k r c v
+    go true q te h =
+        let p = and-eq-true-iff (eqb (r .types) 0) (eqb (r .each) aType) .0 h in
+        let ty = eqb-true (r .types) 0 (p .0) in
+        let ea = eqb-true (r .each) aType (p .1) in
+        let kk = eqb-true k 16 q in
+        (rw (ty, te, ea) (types-replicate c), rw (ty, te, ea, kk) (length-replicate c (part aType)))
+    go false q te h =
+        let p = and-eq-true-iff (eqb (r .each) nothing) (eqb (r .types) (nodeParts (node k 0))) .0 h in
+        let ea = eqb-true (r .each) nothing (p .0) in
+        let ty = eqb-true (r .types) (nodeParts (node k 0)) (p .1) in
+        (
+          rw (te, ea) (types-append (replicate (r .types) (part aType)) [] (types-replicate (r .types)) tt),
+          rw (te, ea) (ap length (append-nil (replicate (r .types) (part aType))) ∙ length-replicate (r .types) (part aType) ∙ ty ∙ other-kind k (cond (eqb k 16) c v) q),
+        )
+
+-- ---- a line that begins a type
+typed-row : (k : ℕ) → (rowOf k ≡ unlisted) ⊎ (typeRow k (rowOf k) ≡ true)
+unfolding table
+typed-row k = listed-passes typeRow k refl
+
+type-line : (t : Triple) → ok (part aType) (Spelt t) ≡ true → Types (due (part aType) (Spelt t)) × (length (due (part aType) (Spelt t)) ≡ nodeParts (lineNode t))
+unfolding begins
+type-line t e =
+    let d = due-following aType t e in
+    let s = eqb-true (rowOf (t .kind) .sort) aType (and-eq-true-iff (eqb (rowOf (t .kind) .sort) aType) _ .0 (d .0) .0) in
+    let f = go s (typed-row (t .kind)) in
+    (subst⁻¹ Types (d .1) (f .0), ap length (d .1) ∙ f .1)
+  where
+    go : rowOf (t .kind) .sort ≡ aType → (rowOf (t .kind) ≡ unlisted) ⊎ (typeRow (t .kind) (rowOf (t .kind)) ≡ true) → Fits (t .kind) (rowOf (t .kind)) (t .count) (t .value)
+    go s (inl u) = absurd (let z : _≡_ {A = ℕ} nothing aType = sym (ap (λ (r : Row). r .sort) u) ∙ s in omega arith)
+    go s (inr h) = row-fits (t .kind) (t .count) (t .value) (rowOf (t .kind)) h s
+
+types-whole : (ts : List Triple) (todo : List Item) → Forms ts todo → Types todo → Whole nodeParts (nodesOf ts) (length todo)
+types-whole [] [] f ty = refl
+types-whole [] (x ∷ todo) f ty = absurd f
+types-whole (t ∷ ts) [] f ty = absurd f
+types-whole (t ∷ ts) (entries k n ∷ todo) f ty = absurd ty
+types-whole (t ∷ ts) (goal ∷ todo) f ty = absurd ty
+types-whole (t ∷ ts) (part x ∷ todo) f ty =
+    let g : (ok (part aType) (Spelt t) ≡ true) × Forms ts (due (part aType) (Spelt t) ++ todo) = rw (ty .0) at f in
+    let l = type-line t (g .0) in
+    let all = types-whole ts (due (part aType) (Spelt t) ++ todo) (g .1) (types-append (due (part aType) (Spelt t)) todo (l .0) (ty .1)) in
+    rw (length-append (due (part aType) (Spelt t)) todo, l .1) at all
+
+pub type-whole : (ts : List Triple) → IsPart aType ts → Whole nodeParts (nodesOf ts) 1
+type-whole ts f = types-whole ts (part aType ∷ []) f (refl, tt)
