@@ -49,6 +49,7 @@ view-whole (node k v ∷ ns) h =
   where
     two : (j : ℕ) → k ≡ j → nodeParts (node j v) ≡ 2 → Whole nodeParts (takeParts nodeParts ns 1) 1 × Whole nodeParts (dropParts nodeParts ns 1) 1
     two j e p = whole-split nodeParts ns 1 1 (subst (Whole nodeParts ns) (ap (λ (i : ℕ). nodeParts (node i v) + 0) e ∙ ap (λ (i : ℕ). i + 0) p) h)
+
     body : k ≡ 14 → Whole nodeParts ns 1
     body e = subst (Whole nodeParts ns) (ap (λ (i : ℕ). nodeParts (node i v) + 0) e) h
 

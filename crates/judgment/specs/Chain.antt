@@ -101,10 +101,10 @@ module _ (L : Limits) where
   performs (solve k t p) Γ σ n =
       solved p (find k σ) t _ _ _
       ∙ three (find k σ) t
-          (choice p (leb (solutionNodes σ + length t) (L .solved)) _ _
-          ∙ either (leb (solutionNodes σ + length t) (L .solved)) (performs p Γ (σ ++ (_≔_ k t ∷ [])) n) (stays p SolutionsFull [] (state Γ σ n)))
-          (performs p Γ σ n)
-          (stays p TypeUnificationError [] (state Γ σ n))
+      (choice p (leb (solutionNodes σ + length t) (L .solved)) _ _
+      ∙ either (leb (solutionNodes σ + length t) (L .solved)) (performs p Γ (σ ++ (_≔_ k t ∷ [])) n) (stays p SolutionsFull [] (state Γ σ n)))
+      (performs p Γ σ n)
+      (stays p TypeUnificationError [] (state Γ σ n))
   performs (zonk t f) Γ σ n =
       choice (f (writeOut σ t)) (leb (length (writeOut σ t)) (L .written)) _ _
       ∙ either (leb (length (writeOut σ t)) (L .written)) (performs (f (writeOut σ t)) Γ σ n) (stays (f (writeOut σ t)) TypeTooLong [] (state Γ σ n))

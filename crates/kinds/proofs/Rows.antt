@@ -40,7 +40,7 @@ unfolding rowOf
 row-passes p k e = found p k table e
 
 -- a test of kind and row that all listed ones pass holds of each kind that is listed
-abbrev everyListed : (ℕ → Row → Bool) → List Listed → Bool
+abbrev pub everyListed : (ℕ → Row → Bool) → List Listed → Bool
 everyListed p [] = true
 everyListed p (l ∷ ls) = p (l .kind) (l .is) && everyListed p ls
 

@@ -35,7 +35,7 @@ used = 1
 abbrev name : ℕ
 name = 1
 
-abbrev number : ℕ
+abbrev pub number : ℕ
 number = 2
 
 abbrev operator : ℕ

@@ -90,7 +90,7 @@ due-following x t = go (begins x t) refl
     go : (b : Bool) → begins x t ≡ b → fits (cond b (Parts (rowOf (t .kind) .types) (rowOf (t .kind) .terms) (rowOf (t .kind) .each) (t .count)) No) ≡ true
         → (begins x t ≡ true)
         × (partsDue (cond b (Parts (rowOf (t .kind) .types) (rowOf (t .kind) .terms) (rowOf (t .kind) .each) (t .count)) No)
-          ≡ following (rowOf (t .kind) .types) (rowOf (t .kind) .terms) (rowOf (t .kind) .each) (t .count))
+        ≡ following (rowOf (t .kind) .types) (rowOf (t .kind) .terms) (rowOf (t .kind) .each) (t .count))
     go true q e = (q, refl)
     go false q e = absurd (let z : _≡_ {A = ℕ} 0 1 = cc in omega arith)
 

@@ -5,3 +5,4 @@ pub mod Forming
 pub mod Formed
 pub mod LineKinds
 pub mod TypeLines
+pub mod Copies

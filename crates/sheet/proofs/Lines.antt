@@ -28,13 +28,16 @@ module _ (s : List ℕ) where
   unfolding triples
   triple-is i = List·getD-map tripleOf (linesOf s) i Misspelt ∙ ap tripleOf (line-of-sheet s i)
 
-  count-of : (i : ℕ) (l : Line) → lineAt s i ≡ l → tripleOf l .count < 100000
-  count-of i (Spelt t) e = fair s i t e .count
-  count-of i Misspelt e = omega arith
+  digits-of : (i : ℕ) (l : Line) → lineAt s i ≡ l → (tripleOf l .kind < 1000) × (tripleOf l .count < 100000)
+  digits-of i (Spelt t) e = (fair s i t e .kind, fair s i t e .count)
+  digits-of i Misspelt e = (omega arith, omega arith)
 
-  -- a count has five digits at most
+  -- a kind has three digits at most, a count five
+  pub kind-small : (i : ℕ) → getD (triples s) i noTriple .kind < 1000
+  kind-small i = rw (triple-is i) (digits-of i (lineAt s i) refl .0)
+
   pub count-small : (i : ℕ) → getD (triples s) i noTriple .count < 100000
-  count-small i = rw (triple-is i) (count-of i (lineAt s i) refl)
+  count-small i = rw (triple-is i) (digits-of i (lineAt s i) refl .1)
 
   pub parts-small : (i : ℕ) → partsOf (getD (triples s) i noTriple) ≤ 200003
   parts-small i = few-parts (getD (triples s) i noTriple) (count-small i)

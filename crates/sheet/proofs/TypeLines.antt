@@ -1,22 +1,24 @@
--- The lines of a whole type are, as nodes, one whole type: `type-whole`. Assumes nothing.
+-- The lines of a whole type are, as nodes, one whole type: `type-whole`. Their values are words: `type-narrow`. Assumes nothing.
 use mathlib.Core.Path.{_≡_, refl, sym, ap, _∙_, subst, subst⁻¹}
 use mathlib.Core.Logic.{_⊎_, inl, inr, ⊎-elim}
 use mathlib.Core.Bool.{Bool, true, false, not, cond, _&&_, _||_, and-eq-true-iff}
 use mathlib.Core.List.{List, [], _∷_, _++_, append-nil}
-use Prim.Native.Nat.{ℕ, zero, suc, _+_}
+use Prim.Native.Nat.{ℕ, zero, suc, _+_, _≤_, _<_}
 use native.Mathlib.Omega.{arith}
 use lib.ListN.{length, replicate, length-append, length-replicate}
-use lib.Dec.{eqb}
-use borrow.Author.Tests.{eqb-true, eqb-false, ne-eqb}
+use lib.Dec.{eqb, leb}
+use borrow.Author.Tests.{eqb-true, eqb-false, ne-eqb, leb-true}
 use Rattle.nodes.specs.Nodes.{Node, node, Ty, nodeParts}
 use Rattle.nodes.specs.Parts.{Whole}
+use Rattle.nodes.specs.Lists.{All}
 use Rattle.spelling.specs.declared.Triple.{Triple}
 use Rattle.spelling.specs.declared.Line.the-variants.{Spelt}
 use Rattle.kinds.specs.declared.Row.{Row}
-use Rattle.kinds.specs.Kinds.{aType, nothing, table, rowOf, unlisted, begins}
-use Rattle.kinds.proofs.Rows.{listed-passes}
+use Rattle.kinds.specs.Kinds.{aType, nothing, number, table, rowOf, unlisted, valueOk, begins}
+use Rattle.nodes.proofs.ListLaws.{cond-ind}
+use Rattle.kinds.proofs.Rows.{everyListed, listed-passes}
 use Rattle.grammar.specs.Grammar.{Item, part, entries, goal, ok, due, repeated, following}
-use Rattle.sheet.specs.Plan.{lineNode, nodesOf}
+use Rattle.sheet.specs.Plan.{lineNode, nodesOf, Narrow}
 use Rattle.sheet.specs.Form.{Forms, IsPart}
 use Rattle.sheet.proofs.Forming.{due-following}
 
@@ -60,6 +62,7 @@ row-fits k c v r e s = go (eqb k 16) refl (rest .0) (rest .1)
         let h : (eqb (r .terms) 0 && cond (eqb k 16) (eqb (r .types) 0 && eqb (r .each) aType) (eqb (r .each) nothing && eqb (r .types) (nodeParts (node k 0)))) ≡ true = rw s at e in
         let b = and-eq-true-iff (eqb (r .terms) 0) _ .0 h in
         (eqb-true (r .terms) 0 (b .0), b .1)
+
     go : (b : Bool) → eqb k 16 ≡ b → r .terms ≡ 0 → cond b (eqb (r .types) 0 && eqb (r .each) aType) (eqb (r .each) nothing && eqb (r .types) (nodeParts (node k 0))) ≡ true → Fits k r c v
     go true q te h =
         let p = and-eq-true-iff (eqb (r .types) 0) (eqb (r .each) aType) .0 h in
@@ -70,40 +73,72 @@ row-fits k c v r e s = go (eqb k 16) refl (rest .0) (rest .1)
     go false q te h =
         let p = and-eq-true-iff (eqb (r .each) nothing) (eqb (r .types) (nodeParts (node k 0))) .0 h in
         let ea = eqb-true (r .each) nothing (p .0) in
-        let ty = eqb-true (r .types) (nodeParts (node k 0)) (p .1) in
-        (
+        let ty = eqb-true (r .types) (nodeParts (node k 0)) (p .1) in (
           rw (te, ea) (types-append (replicate (r .types) (part aType)) [] (types-replicate (r .types)) tt),
           rw (te, ea) (ap length (append-nil (replicate (r .types) (part aType))) ∙ length-replicate (r .types) (part aType) ∙ ty ∙ other-kind k (cond (eqb k 16) c v) q),
         )
 
 -- ---- a line that begins a type
-typed-row : (k : ℕ) → (rowOf k ≡ unlisted) ⊎ (typeRow k (rowOf k) ≡ true)
-unfolding table
-typed-row k = listed-passes typeRow k refl
+sort-is : (t : Triple) → begins aType t ≡ true → rowOf (t .kind) .sort ≡ aType
+unfolding begins
+sort-is t h = eqb-true (rowOf (t .kind) .sort) aType (and-eq-true-iff (eqb (rowOf (t .kind) .sort) aType) _ .0 h .0)
+
+value-ok : (t : Triple) → begins aType t ≡ true → valueOk (rowOf (t .kind) .value) (t .value) ≡ true
+unfolding begins
+value-ok t h = and-eq-true-iff (valueOk (rowOf (t .kind) .value) (t .value)) _ .0 (and-eq-true-iff (eqb (rowOf (t .kind) .sort) aType) _ .0 h .1) .0
+
+-- its kind is listed
+type-row : (p : ℕ → Row → Bool) → everyListed p table ≡ true → (t : Triple) → begins aType t ≡ true → p (t .kind) (rowOf (t .kind)) ≡ true
+type-row p e t h = go (listed-passes p (t .kind) e)
+  where
+    go : (rowOf (t .kind) ≡ unlisted) ⊎ (p (t .kind) (rowOf (t .kind)) ≡ true) → p (t .kind) (rowOf (t .kind)) ≡ true
+    go (inl u) = absurd (let z : _≡_ {A = ℕ} nothing aType = sym (ap (λ (r : Row). r .sort) u) ∙ sort-is t h in omega arith)
+    go (inr h) = h
 
 type-line : (t : Triple) → ok (part aType) (Spelt t) ≡ true → Types (due (part aType) (Spelt t)) × (length (due (part aType) (Spelt t)) ≡ nodeParts (lineNode t))
-unfolding begins
+unfolding table
 type-line t e =
     let d = due-following aType t e in
-    let s = eqb-true (rowOf (t .kind) .sort) aType (and-eq-true-iff (eqb (rowOf (t .kind) .sort) aType) _ .0 (d .0) .0) in
-    let f = go s (typed-row (t .kind)) in
+    let f : Fits (t .kind) (rowOf (t .kind)) (t .count) (t .value) = row-fits (t .kind) (t .count) (t .value) (rowOf (t .kind)) (type-row typeRow refl t (d .0)) (sort-is t (d .0)) in
     (subst⁻¹ Types (d .1) (f .0), ap length (d .1) ∙ f .1)
-  where
-    go : rowOf (t .kind) .sort ≡ aType → (rowOf (t .kind) ≡ unlisted) ⊎ (typeRow (t .kind) (rowOf (t .kind)) ≡ true) → Fits (t .kind) (rowOf (t .kind)) (t .count) (t .value)
-    go s (inl u) = absurd (let z : _≡_ {A = ℕ} nothing aType = sym (ap (λ (r : Row). r .sort) u) ∙ s in omega arith)
-    go s (inr h) = row-fits (t .kind) (t .count) (t .value) (rowOf (t .kind)) h s
 
-types-whole : (ts : List Triple) (todo : List Item) → Forms ts todo → Types todo → Whole nodeParts (nodesOf ts) (length todo)
-types-whole [] [] f ty = refl
-types-whole [] (x ∷ todo) f ty = absurd f
-types-whole (t ∷ ts) [] f ty = absurd f
-types-whole (t ∷ ts) (entries k n ∷ todo) f ty = absurd ty
-types-whole (t ∷ ts) (goal ∷ todo) f ty = absurd ty
-types-whole (t ∷ ts) (part x ∷ todo) f ty =
+-- ---- the values of a type's lines are names
+abbrev namesOnly : ℕ → Row → Bool
+namesOnly k r = not (eqb (r .sort) aType) || not (eqb (r .value) number)
+
+name-narrow : (rule v : ℕ) → not (eqb rule number) ≡ true → valueOk rule v ≡ true → v < 4294967296
+name-narrow rule v e = go (eqb rule 0) (eqb rule number) e
+  where
+    go : (b c : Bool) → not c ≡ true → cond b (eqb v 0) (cond c true (leb 1 v && leb v (cond (eqb rule 1) 9999 6))) ≡ true → v < 4294967296
+    go true c e q = let z = eqb-true v 0 q in omega arith
+    go false true e q = absurd (let z : _≡_ {A = ℕ} 0 1 = cc in omega arith)
+    go false false e q =
+        let m = leb-true v (cond (eqb rule 1) 9999 6) (and-eq-true-iff (leb 1 v) _ .0 q .1) in
+        let most : cond (eqb rule 1) 9999 6 ≤ 9999 = cond-ind (λ (x : ℕ). x ≤ 9999) (eqb rule 1) (λ _. omega arith) (λ _. omega arith) in
+        omega arith
+
+line-narrow : (t : Triple) → ok (part aType) (Spelt t) ≡ true → Narrow t
+unfolding table
+line-narrow t e =
+    let h = due-following aType t e .0 in
+    let n : (not (eqb (rowOf (t .kind) .sort) aType) || not (eqb (rowOf (t .kind) .value) number)) ≡ true = type-row namesOnly refl t h in
+    name-narrow (rowOf (t .kind) .value) (t .value) (rw (sort-is t h) at n) (value-ok t h)
+
+-- ---- lines of types
+types-all : (ts : List Triple) (todo : List Item) → Forms ts todo → Types todo → Whole nodeParts (nodesOf ts) (length todo) × All Narrow ts
+types-all [] [] f ty = (refl, tt)
+types-all [] (x ∷ todo) f ty = absurd f
+types-all (t ∷ ts) [] f ty = absurd f
+types-all (t ∷ ts) (entries k n ∷ todo) f ty = absurd ty
+types-all (t ∷ ts) (goal ∷ todo) f ty = absurd ty
+types-all (t ∷ ts) (part x ∷ todo) f ty =
     let g : (ok (part aType) (Spelt t) ≡ true) × Forms ts (due (part aType) (Spelt t) ++ todo) = rw (ty .0) at f in
     let l = type-line t (g .0) in
-    let all = types-whole ts (due (part aType) (Spelt t) ++ todo) (g .1) (types-append (due (part aType) (Spelt t)) todo (l .0) (ty .1)) in
-    rw (length-append (due (part aType) (Spelt t)) todo, l .1) at all
+    let all = types-all ts (due (part aType) (Spelt t) ++ todo) (g .1) (types-append (due (part aType) (Spelt t)) todo (l .0) (ty .1)) in
+    (rw (length-append (due (part aType) (Spelt t)) todo, l .1) at (all .0), (line-narrow t (g .0), all .1))
 
 pub type-whole : (ts : List Triple) → IsPart aType ts → Whole nodeParts (nodesOf ts) 1
-type-whole ts f = types-whole ts (part aType ∷ []) f (refl, tt)
+type-whole ts f = types-all ts (part aType ∷ []) f (refl, tt) .0
+
+pub type-narrow : (ts : List Triple) → IsPart aType ts → All Narrow ts
+type-narrow ts f = types-all ts (part aType ∷ []) f (refl, tt) .1

@@ -2,7 +2,7 @@
 use mathlib.Core.Bool.{Bool, true, false, not, cond, _&&_, _||_}
 use mathlib.Core.List.{List, [], _∷_, map}
 use mathlib.Core.Option.{Option, none, some}
-use Prim.Native.Nat.{ℕ, zero, suc, _+_}
+use Prim.Native.Nat.{ℕ, zero, suc, _+_, _<_}
 use lib.ListN.{length, take, drop}
 use lib.Dec.{eqb}
 use Rattle.nodes.specs.Nodes.{Node, node, Ty}
@@ -41,6 +41,10 @@ lineNode t = node (t .kind) (cond (eqb (t .kind) 16) (t .count) (t .value))
 abbrev pub nodesOf : List Triple → Ty
 nodesOf [] = []
 nodesOf (t ∷ ts) = lineNode t ∷ nodesOf ts
+
+-- a word holds the line's value
+abbrev pub Narrow : Triple → Type 0
+Narrow t = t .value < 4294967296
 
 -- ---- entries
 abbrev pub isEntry : Triple → Bool

@@ -5,10 +5,13 @@ use spelling::Line;
 use spelling::Triple;
 use spelling::line_at;
 ghost use mathlib.Core.Path.{_≡_};
-ghost use Prim.Native.Nat.{ℕ, _+_, _≤_};
-ghost use lib.ListN.{length, getD};
+ghost use Prim.Native.Nat.{ℕ, _+_, _*_, _≤_};
+ghost use lib.ListN.{length, getD, take, drop};
+ghost use lib.Seq.{sets};
+ghost use Rattle.nodes.specs.Nodes.{number, words};
+ghost use Rattle.nodes.specs.Lists.{All};
 ghost use Rattle.kinds.specs.Kinds.{partsOf};
-ghost use Rattle.sheet.specs.Plan.{noTriple, triples, partLine, isEntry, named, findEntry, entriesEnd, placesOf, isPlain as plainMark};
+ghost use Rattle.sheet.specs.Plan.{noTriple, triples, partLine, lineNode, nodesOf, Narrow, isEntry, named, findEntry, entriesEnd, placesOf, isPlain as plainMark};
 
 // How many lines the sheet has.
 pub fn line_count(s: &[u8]) -> usize
@@ -153,4 +156,34 @@ pub fn is_plain(s: &[u8]) -> bool
         i += 1;
     }
     true
+}
+
+// A line's number as a node: a Product's is its count.
+fn node_number(t: Triple) -> u64
+    ensures { λ r. ⌜ r ≡ number (lineNode t) ⌝ }
+{
+    if t.kind == 16 {
+        return t.count;
+    }
+    t.value
+}
+
+// Copies a type of n lines from line `first` on, as nodes, to word `at` of dst.
+pub fn copy_type(dst: &mut [u32], at: usize, s: &[u8], first: usize, n: usize)
+    requires { ⌜ (at + 2 * n ≤ length (now dst)) × (first + n ≤ length (triples (now s))) × All Narrow (take n (drop first (triples (now s)))) ⌝ }
+    ensures { λ _. ⌜ now (dst .exit) ≡ sets (now (dst .entry)) at (words (nodesOf (take n (drop first (triples (now (s .entry))))))) ⌝ }
+{
+    let mut p = at;
+    let mut line = first;
+    let mut left = n;
+    while 0 < left {
+        let t = triple_at(s, line);
+        let kind = t.kind as u32;
+        let number = node_number(t) as u32;
+        dst[p] = kind;
+        dst[p + 1] = number;
+        p += 2;
+        line += 1;
+        left -= 1;
+    }
 }
