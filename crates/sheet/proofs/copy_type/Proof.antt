@@ -26,21 +26,11 @@ abbrev μ-loop : tie.MeasureT-loop
 loop-holds : tie.Need-loop-holds Inv-loop μ-loop
 loop-holds c = (search needs, search needs, refl, c .before .before .pre .2, refl)
 
--- src/lib.rt:180:13
-triple-at-requires : tie.Need-triple-at-requires Inv-loop μ-loop
-triple-at-requires c κs = search needs
-
--- src/lib.rt:181:20
 cast-kind : tie.Need-cast-kind Inv-loop μ-loop
 cast-kind c =
     let k = kind-small (c .before .before .before .before .before .before .args .s .now) (c .before .before .before .loop .line) in
     rw (c .before .triple-at .ensures) (omega arith)
 
--- src/lib.rt:182:22
-node-number-requires : tie.Need-node-number-requires Inv-loop μ-loop
-node-number-requires c κs = search needs
-
--- src/lib.rt:182:22
 cast-number : tie.Need-cast-number Inv-loop μ-loop
 cast-number c =
     let s = c .before .before .before .before .before .before .before .args .s .now in
@@ -50,46 +40,15 @@ cast-number c =
     let k = number-small (getD (triples s) (L .line) noTriple) (count-small s (L .line)) v in
     rw (c .node-number .ensures, c .before .before .triple-at .ensures) (omega arith)
 
--- src/lib.rt:183:9
-mul-dst : tie.Need-mul-dst Inv-loop μ-loop
-mul-dst c = search needs
-
--- src/lib.rt:183:9
-slice-write-dst : tie.Need-slice-write-dst Inv-loop μ-loop
-slice-write-dst c = search needs
-
--- src/lib.rt:184:13
-add-dst : tie.Need-add-dst Inv-loop μ-loop
-add-dst c = search needs
-
--- src/lib.rt:184:9
-mul-dst-2 : tie.Need-mul-dst-2 Inv-loop μ-loop
-mul-dst-2 c = search needs
-
--- src/lib.rt:184:9
 slice-write-dst-2 : tie.Need-slice-write-dst-2 Inv-loop μ-loop
 slice-write-dst-2 c = simp length-set (omega arith)
 
--- src/lib.rt:185:9
-add-p : tie.Need-add-p Inv-loop μ-loop
-add-p c = search needs
-
--- src/lib.rt:186:9
 add-line : tie.Need-add-line Inv-loop μ-loop
 add-line c =
     let m = length-triples (c .before .before .before .before .before .before .before .args .s .now) in
     let h = c .before .before .before .before .loop .inv .1 in
     omega arith
 
--- src/lib.rt:187:9
-sub-left : tie.Need-sub-left Inv-loop μ-loop
-sub-left c = search needs
-
--- src/lib.rt:179:5
-loop-less : tie.Need-loop-less Inv-loop μ-loop
-loop-less c = search needs
-
--- src/lib.rt:179:5
 loop-again : tie.Need-loop-again Inv-loop μ-loop
 loop-again c =
     let s = c .before .before .before .before .before .before .before .args .s .now in
@@ -103,11 +62,9 @@ loop-again c =
       L .inv .4 ∙ rw (c .node-number .ensures, c .before .before .triple-at .ensures) (copy-turn (triples s) (L .line) (L .left) h t (L .dst) (L .p)),
     )
 
--- src/lib.rt:172:1
 same-length : tie.Need-same-length Inv-loop μ-loop
 same-length c = c .before .loop .inv .2
 
--- src/lib.rt:172:1
 returns : tie.Need-returns Inv-loop μ-loop
 returns c =
     let L = c .before .loop in
@@ -115,24 +72,4 @@ returns c =
 
 pub copy-type-spec : {M : Type 1} → statement M
 copy-type-spec =
-    tie.close
-    (tie.spec
-    Inv-loop
-    μ-loop
-    loop-holds
-    triple-at-requires
-    cast-kind
-    node-number-requires
-    cast-number
-    mul-dst
-    slice-write-dst
-    add-dst
-    mul-dst-2
-    slice-write-dst-2
-    add-p
-    add-line
-    sub-left
-    loop-less
-    loop-again
-    same-length
-    returns)
+    tie.close (tie.spec Inv-loop μ-loop loop-holds (λ c κs. search needs) cast-kind (λ c κs. search needs) cast-number (λ c. search needs) (λ c. search needs) (λ c. search needs) (λ c. search needs) slice-write-dst-2 (λ c. search needs) add-line (λ c. search needs) (λ c. search needs) loop-again same-length returns)
