@@ -10,3 +10,4 @@ pub mod Promised
 pub mod Rounds
 pub mod Words
 pub mod WholeTypes
+pub mod Visits
