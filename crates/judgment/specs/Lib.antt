@@ -9,3 +9,5 @@ pub mod Result
 pub mod Promise
 pub mod Wall
 pub mod Telling
+pub mod AtLimits
+pub mod Calls

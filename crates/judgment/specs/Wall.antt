@@ -29,7 +29,7 @@ l k v c = record { kind = k; negative = false; value = v; count = c }
 abbrev pub Row : Type 0
 Row = List ℕ × Ty × Solutions
 
-abbrev numbers : Answer → List ℕ
+abbrev pub numbers : Answer → List ℕ
 numbers a = a .number ∷ a .line ∷ a .taken ∷ a .fresh ∷ a .detail1 ∷ a .detail2 ∷ a .plain ∷ []
 
 unfoldable pub row : ℕ → List Triple → Row

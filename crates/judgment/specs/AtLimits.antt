@@ -1,0 +1,81 @@
+-- For each limit of document 01 but the ceiling a plan that meets it exactly and one that passes it by one, with the Rust's answers as
+-- `reference answer` gives them, by computation. Assumes nothing.
+use mathlib.Core.Path.{_≡_, refl}
+use mathlib.Core.List.{List, [], _∷_, _++_}
+use Prim.Native.Nat.{ℕ, zero, suc, _+_}
+use lib.ListN.{length, replicate}
+use Rattle.spelling.specs.declared.Triple.{Triple}
+use Rattle.kinds.specs.Kinds.{partsOf, rowOf, find as findRow, table}
+use Rattle.sheet.specs.Plan.{planOf, declarations, bindingsIn, endFrom, entriesEnd, placesOf, partLine, isPlain, lookup}
+use Rattle.judgment.specs.Types.{view, occurs, isMonotype, substitute, rename, frontNames, afterFront, canUnify}
+use Rattle.judgment.specs.Terms.{termView, lambdaOf}
+use Rattle.judgment.specs.Solutions.{find, replace, writeOut, solutionNodes}
+use Rattle.judgment.specs.Board.{boardNodes, findVar, before, perform, operations}
+use Rattle.judgment.specs.Rules.{instantiateFrom, subtype, openNames, signatureFrom, insert, pushVars, checkPatterns, checkArms, inferApp}
+use Rattle.judgment.specs.Run.{runFrom, checkType}
+use Rattle.judgment.specs.Result.{resultOf, runOf, judge, limits}
+use Rattle.judgment.specs.Wall.{l, numbers}
+
+-- the seven numbers, and how many nodes the report and the solutions have
+unfoldable pub short : List Triple → List ℕ × ℕ × ℕ
+short ls = let r = judge limits 10000 ls in (numbers (r .answer), length (r .report), solutionNodes (r .solutions))
+
+abbrev times : ℕ → List Triple → List Triple
+times zero ls = []
+times (suc n) ls = ls ++ times n ls
+
+-- a Product of 100 nodes
+abbrev product : List Triple
+product = l 16 0 99 ∷ replicate 99 (l 12 1 0)
+
+abbrev goal : List Triple → List Triple
+goal e = l 3 0 0 ∷ l 12 1 0 ∷ l 4 0 0 ∷ e
+
+abbrev when : List Triple → List Triple
+when ls = l 29 0 0 ∷ l 28 5 0 ∷ l 22 1 0 ∷ l 22 2 0 ∷ ls
+
+-- 512 entries on the board: a constructor with k quantifiers
+abbrev quantified : ℕ → List Triple
+quantified k = l 1 20 0 ∷ (replicate k (l 14 10 0) ++ (l 12 1 0 ∷ goal (l 26 20 0 ∷ [])))
+
+-- 4,096 nodes on the board: ten arms that bind a variable of 401 nodes, and w that bind none
+abbrev arms : ℕ → List Triple
+arms w =
+    l 1 20 0 ∷ l 13 0 0 ∷ l 16 0 4 ∷ (times 4 product ++ (l 12 30 0 ∷ l 2 40 0 ∷ l 12 30 0 ∷ goal (l 27 0 (10 + w) ∷ l 21 40 0 ∷ (
+    times 10 (l 43 20 1 ∷ l 42 10 0 ∷ l 22 1 0 ∷ []) ++ times w (l 41 0 0 ∷ l 22 1 0 ∷ [])))))
+
+-- 1,024 nodes in a type written out: a variable of 1,001 + c nodes
+abbrev wide : ℕ → List Triple
+wide c =
+    l 2 40 0 ∷ l 16 0 (10 + c) ∷ (times 10 product ++ (replicate c (l 12 1 0) ++ goal (l 27 0 1 ∷ l 21 40 0 ∷ l 41 0 0 ∷ l 22 7 0 ∷ [])))
+
+-- 1,000 numbers: a constructor with 230 quantifiers four times, and one with k
+abbrev many : ℕ → List Triple
+many k =
+    l 1 20 0 ∷ (replicate 230 (l 14 10 0) ++ (l 12 1 0 ∷ l 1 21 0 ∷ (replicate k (l 14 10 0) ++ (l 12 1 0 ∷ goal (
+    times 4 (when (l 26 20 0 ∷ [])) ++ (l 26 21 0 ∷ []))))))
+
+-- 4,096 nodes of solutions: four of 1,021 nodes, and those of the body
+abbrev large : List Triple → List Triple
+large body =
+    l 2 40 0 ∷ l 16 0 30 ∷ (times 10 product ++ (replicate 20 (l 12 1 0) ++ goal (l 27 0 1 ∷ when (l 21 40 0 ∷ l 21 40 0 ∷ l 41 0 0 ∷ body))))
+
+pub entries : short (quantified 509) ∷ short (quantified 510) ∷ [] ≡ (0 ∷ 0 ∷ 514 ∷ 510 ∷ 0 ∷ 0 ∷ 0 ∷ [], 0, 1) ∷ (22 ∷ 0 ∷ 2 ∷ 511 ∷ 0 ∷ 0 ∷ 0 ∷ [], 0, 0) ∷ []
+unfolding short judge resultOf runOf checkType runFrom perform operations boardNodes findVar before lookup instantiateFrom subtype openNames signatureFrom insert pushVars checkPatterns checkArms inferApp find replace writeOut solutionNodes view termView lambdaOf occurs isMonotype substitute rename frontNames afterFront canUnify planOf declarations bindingsIn endFrom entriesEnd placesOf partLine isPlain partsOf rowOf findRow table
+entries = refl
+
+pub board-nodes : short (arms 50) ∷ short (arms 51) ∷ [] ≡ (0 ∷ 0 ∷ 330 ∷ 63 ∷ 0 ∷ 0 ∷ 1 ∷ [], 0, 63) ∷ (22 ∷ 0 ∷ 4 ∷ 3 ∷ 0 ∷ 0 ∷ 1 ∷ [], 0, 0) ∷ []
+unfolding short judge resultOf runOf checkType runFrom perform operations boardNodes findVar before lookup instantiateFrom subtype openNames signatureFrom insert pushVars checkPatterns checkArms inferApp find replace writeOut solutionNodes view termView lambdaOf occurs isMonotype substitute rename frontNames afterFront canUnify planOf declarations bindingsIn endFrom entriesEnd placesOf partLine isPlain partsOf rowOf findRow table
+board-nodes = refl
+
+pub written-nodes : short (wide 23) ∷ short (wide 24) ∷ [] ≡ (0 ∷ 0 ∷ 15 ∷ 4 ∷ 0 ∷ 0 ∷ 1 ∷ [], 0, 2050) ∷ (23 ∷ 0 ∷ 10 ∷ 4 ∷ 0 ∷ 0 ∷ 1 ∷ [], 0, 2) ∷ []
+unfolding short judge resultOf runOf checkType runFrom perform operations boardNodes findVar before lookup instantiateFrom subtype openNames signatureFrom insert pushVars checkPatterns checkArms inferApp find replace writeOut solutionNodes view termView lambdaOf occurs isMonotype substitute rename frontNames afterFront canUnify planOf declarations bindingsIn endFrom entriesEnd placesOf partLine isPlain partsOf rowOf findRow table
+written-nodes = refl
+
+pub fresh-numbers : short (many 59) ∷ short (many 60) ∷ [] ≡ (0 ∷ 0 ∷ 1080 ∷ 1000 ∷ 0 ∷ 0 ∷ 0 ∷ [], 0, 21) ∷ (24 ∷ 0 ∷ 1073 ∷ 1000 ∷ 0 ∷ 0 ∷ 0 ∷ [], 0, 20) ∷ []
+unfolding short judge resultOf runOf checkType runFrom perform operations boardNodes findVar before lookup instantiateFrom subtype openNames signatureFrom insert pushVars checkPatterns checkArms inferApp find replace writeOut solutionNodes view termView lambdaOf occurs isMonotype substitute rename frontNames afterFront canUnify planOf declarations bindingsIn endFrom entriesEnd placesOf partLine isPlain partsOf rowOf findRow table
+fresh-numbers = refl
+
+pub solution-nodes : short (large (l 24 0 0 ∷ l 23 10 0 ∷ l 12 1 0 ∷ l 21 10 0 ∷ l 22 7 0 ∷ [])) ∷ short (large (times 4 (l 28 1 0 ∷ l 22 1 0 ∷ []) ++ (l 22 1 0 ∷ []))) ∷ [] ≡ (0 ∷ 0 ∷ 56 ∷ 14 ∷ 0 ∷ 0 ∷ 1 ∷ [], 0, 4096) ∷ (25 ∷ 0 ∷ 75 ∷ 17 ∷ 0 ∷ 0 ∷ 1 ∷ [], 0, 3076) ∷ []
+unfolding short judge resultOf runOf checkType runFrom perform operations boardNodes findVar before lookup instantiateFrom subtype openNames signatureFrom insert pushVars checkPatterns checkArms inferApp find replace writeOut solutionNodes view termView lambdaOf occurs isMonotype substitute rename frontNames afterFront canUnify planOf declarations bindingsIn endFrom entriesEnd placesOf partLine isPlain partsOf rowOf findRow table
+solution-nodes = refl

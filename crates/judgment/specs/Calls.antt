@@ -1,0 +1,60 @@
+-- Calls that are refused before a run, with the Rust reader's answers as `reference answer` gives them, by computation; and books of several
+-- solutions, read back. Assumes nothing.
+use mathlib.Core.Path.{_≡_, refl}
+use mathlib.Core.List.{List, [], _∷_, _++_, map}
+use Prim.Native.Nat.{ℕ, _+_, _*_}
+use lib.ListN.{length, getD, take, drop, replicate}
+use Rattle.nodes.specs.Nodes.{node, Ty, words, nodesAt}
+use Rattle.spelling.specs.Spelling.{fieldFrom, lineOf, lineAt, linesFrom, linesOf, firstMisspelt}
+use Rattle.spelling.specs.Text.{fieldText, lineText}
+use Rattle.kinds.specs.Kinds.{rowOf, find as findRow, table, begins, headOf}
+use Rattle.grammar.specs.Grammar.{declaredBy, isGoal, arms, following, read, readAt}
+use Rattle.grammar.specs.Check.{readSheet, check}
+use Rattle.judgment.specs.Solutions.{Solution, Solutions, key, value}
+use Rattle.judgment.specs.Result.{Buffers, Called, padded, pairsFrom, placeFrom, nodeWords, bookWords, call}
+use Rattle.judgment.specs.Wall.{numbers, firstSheet, Row}
+use Rattle.judgment.specs.Telling.{answers}
+
+abbrev buffers : ℕ → ℕ → ℕ → Buffers
+buffers board book report = record { board = replicate board 7; book = replicate book 7; report = replicate report 7 }
+
+abbrev pub refusedCalls : List (ℕ × List ℕ)
+refusedCalls =
+    (10000, []) ∷  -- the empty sheet
+    (10000, drop 1 firstSheet) ∷  -- a byte is lacking
+    (10000, take 29 firstSheet ++ (replicate 28 32 ++ (10 ∷ drop 58 firstSheet))) ∷  -- the second line is blank
+    (10000, drop 29 (drop 29 firstSheet) ++ replicate 29 32) ∷  -- the first line may not stand first, and the last is misspelt
+    (10000, take 87 firstSheet) ∷  -- the term is lacking
+    (10000, firstSheet ++ drop 87 firstSheet) ∷  -- a line after the term
+    (10001, firstSheet) ∷  -- a ceiling of 10,001
+    []
+
+pub refused-calls : map (λ q. numbers (call (q .1) (q .0) (buffers 16384 10192 4096) .answer)) refusedCalls ≡
+    (3 ∷ 0 ∷ 0 ∷ 0 ∷ 0 ∷ 0 ∷ 0 ∷ []) ∷
+    (3 ∷ 0 ∷ 0 ∷ 0 ∷ 0 ∷ 0 ∷ 0 ∷ []) ∷
+    (4 ∷ 2 ∷ 0 ∷ 0 ∷ 0 ∷ 0 ∷ 0 ∷ []) ∷
+    (4 ∷ 3 ∷ 0 ∷ 0 ∷ 0 ∷ 0 ∷ 0 ∷ []) ∷
+    (5 ∷ 4 ∷ 0 ∷ 0 ∷ 0 ∷ 0 ∷ 0 ∷ []) ∷
+    (5 ∷ 5 ∷ 0 ∷ 0 ∷ 0 ∷ 0 ∷ 0 ∷ []) ∷
+    (1 ∷ 0 ∷ 0 ∷ 0 ∷ 0 ∷ 0 ∷ 0 ∷ []) ∷
+    []
+unfolding call lineText fieldText fieldFrom lineOf lineAt linesFrom linesOf firstMisspelt findRow table rowOf begins headOf declaredBy isGoal arms following read readAt readSheet check
+refused-calls = refl
+
+pub nothing-written : map (λ q. call (q .1) (q .0) (buffers 16384 10192 4096) .after) refusedCalls ≡ map (λ q. buffers 16384 10192 4096) refusedCalls
+unfolding call lineText fieldText fieldFrom lineOf lineAt linesFrom linesOf firstMisspelt findRow table rowOf begins headOf declaredBy isGoal arms following read readAt readSheet check
+nothing-written = refl
+
+-- a buffer that is one word short: document 01's 2
+pub short-buffers : map (λ b. numbers (call firstSheet 10000 b .answer)) (buffers 16383 10192 4096 ∷ buffers 16384 10191 4096 ∷ buffers 16384 10192 4095 ∷ [])
+    ≡ replicate 3 (2 ∷ 0 ∷ 0 ∷ 0 ∷ 0 ∷ 0 ∷ 0 ∷ [])
+unfolding call lineText fieldText
+short-buffers = refl
+
+-- what stands where a book's pair says
+abbrev stands : List ℕ → Solution → Ty
+stands b x = nodesAt b (getD b (2 * key x) 0) (getD b (2 * key x + 1) 0)
+
+pub books : map (λ (r : Row). map (stands (bookWords (r .2))) (r .2)) (take 3 answers) ≡ map (λ (r : Row). map value (r .2)) (take 3 answers)
+unfolding bookWords padded pairsFrom placeFrom nodeWords words nodesAt
+books = refl
