@@ -60,19 +60,19 @@ stop-here : (at b m : ℕ) → at ≡ at + m → Next b ≡ Next (b + m)
 stop-here at b m e = let z : m ≡ 0 = omega arith in rw (z, add-zero)
 
 module _ (s : List ℕ) where
-  shorter : (n : ℕ) (todo : List Item) (at b m : ℕ) → read (linesFrom s at n) todo at ≡ Next (at + m) → read (linesFrom s at m) todo b ≡ Next (b + m)
+  shorter : (n : ℕ) (ahead : List Item) (at b m : ℕ) → read (linesFrom s at n) ahead at ≡ Next (at + m) → read (linesFrom s at m) ahead b ≡ Next (b + m)
   unfolding linesFrom read
   shorter zero [] at b m e = nothing (linesFrom s at m) b ∙ stop-here at b m (cc)
-  shorter zero (x ∷ todo) at b m e = absurd (let z : _≡_ {A = ℕ} 0 1 = cc in omega arith)
+  shorter zero (x ∷ ahead) at b m e = absurd (let z : _≡_ {A = ℕ} 0 1 = cc in omega arith)
   shorter (suc n) [] at b m e = nothing (linesFrom s at m) b ∙ stop-here at b m (cc)
-  shorter (suc n) (x ∷ todo) at b zero e =
-      let h = bounds (linesFrom s (at + 1) n) (due x (lineAt s at) ++ todo) (at + 1) (at + 0) (one (lineAt s at) (linesFrom s (at + 1) n) x todo at (at + 0) e .1) in
+  shorter (suc n) (x ∷ ahead) at b zero e =
+      let h = bounds (linesFrom s (at + 1) n) (due x (lineAt s at) ++ ahead) (at + 1) (at + 0) (one (lineAt s at) (linesFrom s (at + 1) n) x ahead at (at + 0) e .1) in
       absurd (omega arith)
-  shorter (suc n) (x ∷ todo) at b (suc m) e =
+  shorter (suc n) (x ∷ ahead) at b (suc m) e =
       let i₁ : at + suc m ≡ at + 1 + m = omega arith in
       let i₂ : b + suc m ≡ b + 1 + m = omega arith in
-      let o = one (lineAt s at) (linesFrom s (at + 1) n) x todo at (at + suc m) e in
-      rw (o .0, i₂) (shorter n (due x (lineAt s at) ++ todo) (at + 1) (b + 1) m (o .1 ∙ ap Next i₁))
+      let o = one (lineAt s at) (linesFrom s (at + 1) n) x ahead at (at + suc m) e in
+      rw (o .0, i₂) (shorter n (due x (lineAt s at) ++ ahead) (at + 1) (b + 1) m (o .1 ∙ ap Next i₁))
 
 -- the lines from a up to k, where a whole x was read, are a whole x
 pub alone : (s : List ℕ) (x : Item) (a k : ℕ) → a ≤ length s / 29 → readAt s (x ∷ []) a ≡ Next k → readAt (take (29 * (k - a)) (drop (29 * a) s)) (x ∷ []) 0 ≡ Next (k - a)

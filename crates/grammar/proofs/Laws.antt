@@ -29,24 +29,24 @@ cond-next true Y l k e = (refl, e)
 cond-next false Y l k e = absurd (let z : _≡_ {A = ℕ} 0 1 = cc in omega arith)
 
 -- a line that is read, and the rest
-pub one : (l : Line) (ls : List Line) (x : Item) (todo : List Item) (at k : ℕ) → read (l ∷ ls) (x ∷ todo) at ≡ Next k
-    → (ok x l ≡ true) × (read ls (due x l ++ todo) (at + 1) ≡ Next k)
+pub one : (l : Line) (ls : List Line) (x : Item) (ahead : List Item) (at k : ℕ) → read (l ∷ ls) (x ∷ ahead) at ≡ Next k
+    → (ok x l ≡ true) × (read ls (due x l ++ ahead) (at + 1) ≡ Next k)
 unfolding read
-one l ls x todo at k e = cond-next (ok x l) _ _ k e
+one l ls x ahead at k e = cond-next (ok x l) _ _ k e
 
-pub no-line : (x : Item) (todo : List Item) (at k : ℕ) → read [] (x ∷ todo) at ≡ Next k → ⊥
+pub no-line : (x : Item) (ahead : List Item) (at k : ℕ) → read [] (x ∷ ahead) at ≡ Next k → ⊥
 unfolding read
-no-line x todo at k e = let z : _≡_ {A = ℕ} 0 1 = cc in omega arith
+no-line x ahead at k e = let z : _≡_ {A = ℕ} 0 1 = cc in omega arith
 
-pub bounds : (ls : List Line) (todo : List Item) (at k : ℕ) → read ls todo at ≡ Next k → (at ≤ k) × (k ≤ at + length ls)
+pub bounds : (ls : List Line) (ahead : List Item) (at k : ℕ) → read ls ahead at ≡ Next k → (at ≤ k) × (k ≤ at + length ls)
 bounds [] [] at k e = let z : at ≡ k = cc (nothing [] at) in omega arith
-bounds [] (x ∷ todo) at k e = absurd (no-line x todo at k e)
+bounds [] (x ∷ ahead) at k e = absurd (no-line x ahead at k e)
 bounds (l ∷ ls) [] at k e = let z : at ≡ k = cc (nothing (l ∷ ls) at) in omega arith
-bounds (l ∷ ls) (x ∷ todo) at k e = let h = bounds ls (due x l ++ todo) (at + 1) k (one l ls x todo at k e .1) in omega arith
+bounds (l ∷ ls) (x ∷ ahead) at k e = let h = bounds ls (due x l ++ ahead) (at + 1) k (one l ls x ahead at k e .1) in omega arith
 
-strict : (ls : List Line) (x : Item) (todo : List Item) (at k : ℕ) → read ls (x ∷ todo) at ≡ Next k → at < k
-strict [] x todo at k e = absurd (no-line x todo at k e)
-strict (l ∷ ls) x todo at k e = let h = bounds ls (due x l ++ todo) (at + 1) k (one l ls x todo at k e .1) in omega arith
+strict : (ls : List Line) (x : Item) (ahead : List Item) (at k : ℕ) → read ls (x ∷ ahead) at ≡ Next k → at < k
+strict [] x ahead at k e = absurd (no-line x ahead at k e)
+strict (l ∷ ls) x ahead at k e = let h = bounds ls (due x l ++ ahead) (at + 1) k (one l ls x ahead at k e .1) in omega arith
 
 cond-then : (t : Bool) (X Y R : Got) (K : ℕ → Got) → X ≡ andThen Y K → R ≡ andThen R K → cond t X R ≡ andThen (cond t Y R) K
 cond-then true X Y R K p q = p
@@ -68,14 +68,14 @@ module _ (s : List ℕ) where
   unfolding readAt
   done at = nothing _ at
 
-  pub lacking : (x : Item) (todo : List Item) (at : ℕ) → length s / 29 ≤ at → readAt s (x ∷ todo) at ≡ Refused (at + 1)
+  pub lacking : (x : Item) (ahead : List Item) (at : ℕ) → length s / 29 ≤ at → readAt s (x ∷ ahead) at ≡ Refused (at + 1)
   unfolding readAt read
-  lacking x todo at h = rw (lines-nil s at (length s / 29) h)
+  lacking x ahead at h = rw (lines-nil s at (length s / 29) h)
 
-  here : (x : Item) (todo : List Item) (at : ℕ) → at < length s / 29
-      → readAt s (x ∷ todo) at ≡ cond (ok x (lineAt s at)) (readAt s (due x (lineAt s at) ++ todo) (at + 1)) (Refused (at + 1))
+  here : (x : Item) (ahead : List Item) (at : ℕ) → at < length s / 29
+      → readAt s (x ∷ ahead) at ≡ cond (ok x (lineAt s at)) (readAt s (due x (lineAt s at) ++ ahead) (at + 1)) (Refused (at + 1))
   unfolding readAt read
-  here x todo at h = rw (lines-cons s at (length s / 29) h)
+  here x ahead at h = rw (lines-cons s at (length s / 29) h)
 
   -- no item is met past the last line
   past : (x : Item) → ok x Misspelt ≡ false
@@ -92,15 +92,15 @@ module _ (s : List ℕ) where
           let p : ok x (lineAt s at) ≡ false = rw (past-end s at (borrow.Author.Tests.ltb-false at _ h)) (past x) in
           absurd (let z : _≡_ {A = ℕ} 0 1 = cc in omega arith)
 
-  pub refused : (x : Item) (todo : List Item) (at : ℕ) → ok x (lineAt s at) ≡ false → readAt s (x ∷ todo) at ≡ Refused (at + 1)
-  refused x todo at e = go (lib.Dec.ltb at (length s / 29)) refl
+  pub refused : (x : Item) (ahead : List Item) (at : ℕ) → ok x (lineAt s at) ≡ false → readAt s (x ∷ ahead) at ≡ Refused (at + 1)
+  refused x ahead at e = go (lib.Dec.ltb at (length s / 29)) refl
     where
-      go : (b : Bool) → lib.Dec.ltb at (length s / 29) ≡ b → readAt s (x ∷ todo) at ≡ Refused (at + 1)
-      go true h = here x todo at (borrow.Author.Tests.ltb-true at _ h) ∙ rw e
-      go false h = lacking x todo at (borrow.Author.Tests.ltb-false at _ h)
+      go : (b : Bool) → lib.Dec.ltb at (length s / 29) ≡ b → readAt s (x ∷ ahead) at ≡ Refused (at + 1)
+      go true h = here x ahead at (borrow.Author.Tests.ltb-true at _ h) ∙ rw e
+      go false h = lacking x ahead at (borrow.Author.Tests.ltb-false at _ h)
 
-  pub goes-on : (x : Item) (todo : List Item) (at : ℕ) → ok x (lineAt s at) ≡ true → readAt s (x ∷ todo) at ≡ readAt s (due x (lineAt s at) ++ todo) (at + 1)
-  goes-on x todo at e = here x todo at (inside x at e) ∙ rw e
+  pub goes-on : (x : Item) (ahead : List Item) (at : ℕ) → ok x (lineAt s at) ≡ true → readAt s (x ∷ ahead) at ≡ readAt s (due x (lineAt s at) ++ ahead) (at + 1)
+  goes-on x ahead at e = here x ahead at (inside x at e) ∙ rw e
 
   pub follow : (a b : List Item) (at k : ℕ) → readAt s a at ≡ Next k → readAt s (a ++ b) at ≡ readAt s b k
   unfolding readAt
@@ -110,13 +110,13 @@ module _ (s : List ℕ) where
   unfolding readAt
   stops a b at l e = appended (length s / 29) _ a b at refl ∙ rw e
 
-  pub within : (todo : List Item) (at k : ℕ) → at ≤ length s / 29 → readAt s todo at ≡ Next k → (at ≤ k) × (k ≤ length s / 29)
+  pub within : (ahead : List Item) (at k : ℕ) → at ≤ length s / 29 → readAt s ahead at ≡ Next k → (at ≤ k) × (k ≤ length s / 29)
   unfolding readAt
-  within todo at k h e =
-      let b = bounds (linesFrom s at (length s / 29 - at)) todo at k e in
+  within ahead at k h e =
+      let b = bounds (linesFrom s at (length s / 29 - at)) ahead at k e in
       let n = length-lines s at (length s / 29 - at) in
       omega arith
 
-  pub beyond : (x : Item) (todo : List Item) (at k : ℕ) → readAt s (x ∷ todo) at ≡ Next k → at < k
+  pub beyond : (x : Item) (ahead : List Item) (at k : ℕ) → readAt s (x ∷ ahead) at ≡ Next k → at < k
   unfolding readAt
-  beyond x todo at k e = strict _ x todo at k e
+  beyond x ahead at k e = strict _ x ahead at k e

@@ -31,14 +31,14 @@ later : (m n : ℕ) (r : Got) → m ≤ n → Stop m r → Stop n r
 later m n (Next k) h s = tt
 later m n (Refused l) h s = omega arith
 
-read-stop : (ls : List Line) (todo : List Item) (at : ℕ) → Stop (at + length ls) (read ls todo at)
+read-stop : (ls : List Line) (ahead : List Item) (at : ℕ) → Stop (at + length ls) (read ls ahead at)
 unfolding read
 read-stop [] [] at = tt
-read-stop [] (x ∷ todo) at = omega arith
+read-stop [] (x ∷ ahead) at = omega arith
 read-stop (l ∷ ls) [] at = tt
-read-stop (l ∷ ls) (x ∷ todo) at =
-    cond-stop (at + length (l ∷ ls)) (ok x l) (read ls (due x l ++ todo) (at + 1)) (Refused (at + 1))
-    (later (at + 1 + length ls) (at + length (l ∷ ls)) (read ls (due x l ++ todo) (at + 1)) (omega arith) (read-stop ls (due x l ++ todo) (at + 1)))
+read-stop (l ∷ ls) (x ∷ ahead) at =
+    cond-stop (at + length (l ∷ ls)) (ok x l) (read ls (due x l ++ ahead) (at + 1)) (Refused (at + 1))
+    (later (at + 1 + length ls) (at + length (l ∷ ls)) (read ls (due x l ++ ahead) (at + 1)) (omega arith) (read-stop ls (due x l ++ ahead) (at + 1)))
     (omega arith)
 
 entries-stop : (s : List ℕ) → Stop (length s / 29) (readAt s (entries 1 0 ∷ []) 0)

@@ -103,13 +103,13 @@ due goal l = part aTerm ∷ []
 -- follow it in its place. Refused, counted from 1, is the first line that can't stand where it does, or the first that is lacking.
 unfoldable pub read : List Line → List Item → ℕ → Got
 read [] [] at = Next at
-read [] (x ∷ todo) at = Refused (at + 1)
+read [] (x ∷ ahead) at = Refused (at + 1)
 read (l ∷ ls) [] at = Next at
-read (l ∷ ls) (x ∷ todo) at = let r = read ls (due x l ++ todo) (at + 1) in cond (ok x l) r (Refused (at + 1))
+read (l ∷ ls) (x ∷ ahead) at = let r = read ls (due x l ++ ahead) (at + 1) in cond (ok x l) r (Refused (at + 1))
 
 -- the same in a sheet, from the line at `at` on
 unfoldable pub readAt : List ℕ → List Item → ℕ → Got
-readAt s todo at = read (linesFrom s at (length s / 29 - at)) todo at
+readAt s ahead at = read (linesFrom s at (length s / 29 - at)) ahead at
 
 -- the bytes of the lines that were read, from the line at `at` on
 abbrev pub readBytes : List ℕ → ℕ → Got → List ℕ

@@ -24,9 +24,9 @@ use Rattle.sheet.specs.Form.{Forms}
 -- ---- what is due after a line of a part: parts alone, as many as `partsOf` counts
 abbrev pub AllParts : List Item → Type 0
 AllParts [] = Unit {0}
-AllParts (part x ∷ todo) = AllParts todo
-AllParts (entries k n ∷ todo) = ⊥
-AllParts (goal ∷ todo) = ⊥
+AllParts (part x ∷ ahead) = AllParts ahead
+AllParts (entries k n ∷ ahead) = ⊥
+AllParts (goal ∷ ahead) = ⊥
 
 pub parts-append : (a b : List Item) → AllParts a → AllParts b → AllParts (a ++ b)
 parts-append [] b p q = q
@@ -124,15 +124,15 @@ misspelt-none (part k) e = let z : _≡_ {A = ℕ} 0 1 = cc in omega arith
 misspelt-none (entries k n) e = let z : _≡_ {A = ℕ} 0 1 = cc in omega arith
 misspelt-none goal e = let z : _≡_ {A = ℕ} 0 1 = cc in omega arith
 
-pub read-forms : (ls : List Line) (todo : List Item) (at : ℕ) → read ls todo at ≡ Next (at + length ls) → Forms (map tripleOf ls) todo
+pub read-forms : (ls : List Line) (ahead : List Item) (at : ℕ) → read ls ahead at ≡ Next (at + length ls) → Forms (map tripleOf ls) ahead
 read-forms [] [] at e = tt
-read-forms [] (x ∷ todo) at e = absurd (no-line x todo at _ e)
+read-forms [] (x ∷ ahead) at e = absurd (no-line x ahead at _ e)
 read-forms (l ∷ ls) [] at e = let h = bounds-nil in absurd h
   where
     bounds-nil : ⊥
     bounds-nil = let z : at ≡ at + suc (length ls) = cc (Rattle.grammar.proofs.Laws.nothing (l ∷ ls) at) in omega arith
-read-forms (Spelt t ∷ ls) (x ∷ todo) at e =
-    let o = one (Spelt t) ls x todo at (at + suc (length ls)) e in
+read-forms (Spelt t ∷ ls) (x ∷ ahead) at e =
+    let o = one (Spelt t) ls x ahead at (at + suc (length ls)) e in
     let k : at + suc (length ls) ≡ at + 1 + length ls = omega arith in
-    (o .0, read-forms ls (due x (Spelt t) ++ todo) (at + 1) (o .1 ∙ ap Next k))
-read-forms (Misspelt ∷ ls) (x ∷ todo) at e = absurd (misspelt-none x (one Misspelt ls x todo at (at + suc (length ls)) e .0))
+    (o .0, read-forms ls (due x (Spelt t) ++ ahead) (at + 1) (o .1 ∙ ap Next k))
+read-forms (Misspelt ∷ ls) (x ∷ ahead) at e = absurd (misspelt-none x (one Misspelt ls x ahead at (at + suc (length ls)) e .0))

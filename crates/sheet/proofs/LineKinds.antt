@@ -92,11 +92,11 @@ ok-kind (part x) t h e = head-kind x t h e
 ok-kind (entries k n) t h e = entry-kind (says k n t h) e
 ok-kind goal t h e = λ q. (let s = eqb-true (t .kind) 4 (and-eq-true-iff (eqb (t .kind) 4) _ .0 e .0) in omega arith)
 
-forms-kinds : (ts : List Triple) (todo : List Item) → All Sorted todo → Forms ts todo → All (λ t. t .kind ≢ 17) ts
-forms-kinds [] todo s f = tt
+forms-kinds : (ts : List Triple) (ahead : List Item) → All Sorted ahead → Forms ts ahead → All (λ t. t .kind ≢ 17) ts
+forms-kinds [] ahead s f = tt
 forms-kinds (t ∷ ts) [] s f = absurd f
-forms-kinds (t ∷ ts) (x ∷ todo) s f =
-    (ok-kind x t (s .0) (f .0), forms-kinds ts (due x (Spelt t) ++ todo) (all-append Sorted (due x (Spelt t)) todo (sorted-due x t (s .0)) (s .1)) (f .1))
+forms-kinds (t ∷ ts) (x ∷ ahead) s f =
+    (ok-kind x t (s .0) (f .0), forms-kinds ts (due x (Spelt t) ++ ahead) (all-append Sorted (due x (Spelt t)) ahead (sorted-due x t (s .0)) (s .1)) (f .1))
 
 -- no line of a sheet that is taken has the kind of an unknown
 pub no-unknown : (s : List ℕ) → check s ≡ Plan → All (λ t. t .kind ≢ 17) (triples s)

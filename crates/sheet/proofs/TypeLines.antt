@@ -25,9 +25,9 @@ use Rattle.sheet.proofs.Forming.{due-following}
 -- only types are due
 abbrev Types : List Item → Type 0
 Types [] = Unit {0}
-Types (part x ∷ todo) = (x ≡ aType) × Types todo
-Types (entries k n ∷ todo) = ⊥
-Types (goal ∷ todo) = ⊥
+Types (part x ∷ ahead) = (x ≡ aType) × Types ahead
+Types (entries k n ∷ ahead) = ⊥
+Types (goal ∷ ahead) = ⊥
 
 types-append : (a b : List Item) → Types a → Types b → Types (a ++ b)
 types-append [] b p q = q
@@ -125,17 +125,17 @@ line-narrow t e =
     name-narrow (rowOf (t .kind) .value) (t .value) (rw (sort-is t h) at n) (value-ok t h)
 
 -- ---- lines of types
-types-all : (ts : List Triple) (todo : List Item) → Forms ts todo → Types todo → Whole nodeParts (nodesOf ts) (length todo) × All Narrow ts
+types-all : (ts : List Triple) (ahead : List Item) → Forms ts ahead → Types ahead → Whole nodeParts (nodesOf ts) (length ahead) × All Narrow ts
 types-all [] [] f ty = (refl, tt)
-types-all [] (x ∷ todo) f ty = absurd f
+types-all [] (x ∷ ahead) f ty = absurd f
 types-all (t ∷ ts) [] f ty = absurd f
-types-all (t ∷ ts) (entries k n ∷ todo) f ty = absurd ty
-types-all (t ∷ ts) (goal ∷ todo) f ty = absurd ty
-types-all (t ∷ ts) (part x ∷ todo) f ty =
-    let g : (ok (part aType) (Spelt t) ≡ true) × Forms ts (due (part aType) (Spelt t) ++ todo) = rw (ty .0) at f in
+types-all (t ∷ ts) (entries k n ∷ ahead) f ty = absurd ty
+types-all (t ∷ ts) (goal ∷ ahead) f ty = absurd ty
+types-all (t ∷ ts) (part x ∷ ahead) f ty =
+    let g : (ok (part aType) (Spelt t) ≡ true) × Forms ts (due (part aType) (Spelt t) ++ ahead) = rw (ty .0) at f in
     let l = type-line t (g .0) in
-    let all = types-all ts (due (part aType) (Spelt t) ++ todo) (g .1) (types-append (due (part aType) (Spelt t)) todo (l .0) (ty .1)) in
-    (rw (length-append (due (part aType) (Spelt t)) todo, l .1) at (all .0), (line-narrow t (g .0), all .1))
+    let all = types-all ts (due (part aType) (Spelt t) ++ ahead) (g .1) (types-append (due (part aType) (Spelt t)) ahead (l .0) (ty .1)) in
+    (rw (length-append (due (part aType) (Spelt t)) ahead, l .1) at (all .0), (line-narrow t (g .0), all .1))
 
 pub type-whole : (ts : List Triple) → IsPart aType ts → Whole nodeParts (nodesOf ts) 1
 type-whole ts f = types-all ts (part aType ∷ []) f (refl, tt) .0

@@ -14,9 +14,9 @@ use Rattle.sheet.specs.Plan.{Declaration, declarations, placesOf}
 -- the lines are what is due, and no others: each may stand where it does, none is lacking, none comes after
 abbrev pub Forms : List Triple → List Item → Type 0
 Forms [] [] = Unit {0}
-Forms [] (x ∷ todo) = ⊥
+Forms [] (x ∷ ahead) = ⊥
 Forms (t ∷ ts) [] = ⊥
-Forms (t ∷ ts) (x ∷ todo) = (ok x (Spelt t) ≡ true) × Forms ts (due x (Spelt t) ++ todo)
+Forms (t ∷ ts) (x ∷ ahead) = (ok x (Spelt t) ≡ true) × Forms ts (due x (Spelt t) ++ ahead)
 
 -- one whole type, term or pattern
 abbrev pub IsPart : ℕ → List Triple → Type 0
