@@ -9,10 +9,10 @@ use Rattle.nodes.specs.Nodes.{Node, node, Ty}
 use Rattle.nodes.specs.Lists.{All, In}
 use Rattle.nodes.proofs.ListLaws.{all-map, all-of, all-in}
 use Rattle.judgment.specs.Types.{unknown, isNode}
-use Rattle.judgment.specs.Solutions.{Solution, _≔_, Solutions, key, value, replaceNode, replace, writeOut}
+use Rattle.judgment.specs.Solutions.{Solution, _≔_, Solutions, key, value, replaceNode, replace, writeOut, Avoids, Free, keysAfter, keys, FineAfter, Fine}
 use Rattle.judgment.specs.Promise.{Distinct, solvedUnknowns, Replaced, none, one, Unsolved, InFull}
 use Rattle.judgment.proofs.TypeLaws.{eqb-same, isNode-true}
-use Rattle.judgment.proofs.SolutionLaws.{Avoids, Free, keysAfter, keys, keys-keep, FineAfter, Fine, fine-in, written-append, written-free, written-is-free, solved}
+use Rattle.judgment.proofs.SolutionLaws.{keys-keep, fine-in, written-append, written-free, written-is-free, solved}
 
 module _ {σ : Solutions} where
   chain : {t u v : Ty} → Replaced σ t u → Replaced σ u v → Replaced σ t v

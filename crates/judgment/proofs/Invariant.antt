@@ -20,8 +20,8 @@ use Rattle.sheet.specs.Plan.{lineNode}
 use Rattle.judgment.specs.Terms.{Term}
 use Rattle.judgment.specs.declared.TypeError.{TypeError}
 use Rattle.judgment.specs.declared.TypeError.the-variants.{UnboundVariable, UnboundDataConstructor, NotAFunction, ArityMismatch, SubtypingError, TypeUnificationError, InstantiationError, IntrinsicArityMismatch, UnknownIntrinsic, BoardFull, TypeTooLong, NoFreshNumber, SolutionsFull}
-use Rattle.judgment.specs.Solutions.{Solution, _≔_, Solutions, key, value, find, writeOut, solutionNodes}
-use Rattle.judgment.proofs.SolutionLaws.{Avoids, Free, keysAfter, keys, FineAfter, Fine, fine-snoc, find-none}
+use Rattle.judgment.specs.Solutions.{Solution, _≔_, Solutions, key, value, find, writeOut, solutionNodes, Avoids, Free, keysAfter, keys, FineAfter, Fine}
+use Rattle.judgment.proofs.SolutionLaws.{fine-snoc, find-none}
 use Rattle.judgment.specs.Board.{Entry, tvar, var, sub, inf, chk, infApp, Board, Limits, Rule, done, refuse, fresh, push, solve, zonk, look, State, state, Outcome, finished, refused, perform, roomFor, solving}
 
 -- no quantifier

@@ -20,14 +20,14 @@ use Rattle.sheet.specs.Plan.{triples, lineNode, nodesOf, Declaration, declarati
 use Rattle.sheet.proofs.LineKinds.{no-unknown, plain-kinds}
 use Rattle.judgment.specs.declared.TypeError.the-variants.{TypeUnificationError}
 use Rattle.judgment.specs.Terms.{Term}
-use Rattle.judgment.specs.Solutions.{Solution, _≔_, Solutions, key, value, writeOut}
+use Rattle.judgment.specs.Solutions.{Solution, _≔_, Solutions, key, value, writeOut, Fine}
 use Rattle.judgment.specs.Board.{Entry, tvar, var, sub, inf, chk, infApp, Board, Limits, State, state}
 use Rattle.judgment.specs.Rules.{Env}
 use Rattle.judgment.specs.Run.{Step, End, accepted, ceiling, refusedBy, Run, run, steps, end, final, runFrom, checkType}
 use Rattle.judgment.specs.Result.{Result, endNumber, envOf, runOf, resultOf, judge, limits}
 use Rattle.judgment.specs.Promise.{taken, events, pushes, given, Follows, Quantifierless, Same, InFull, Promise}
 use Rattle.judgment.proofs.TypeLaws.{Lines, all-nodes}
-use Rattle.judgment.proofs.SolutionLaws.{Fine, ends, never-back, all-written}
+use Rattle.judgment.proofs.SolutionLaws.{ends, never-back, all-written}
 use Rattle.judgment.proofs.Invariant.{Mono, OK, Inv}
 use Rattle.judgment.proofs.RuleLaws.{Equal, BindingOK, EnvOK}
 use Rattle.judgment.proofs.Events.{Adds, run-adds, run-unmet}

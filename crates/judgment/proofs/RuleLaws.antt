@@ -18,8 +18,8 @@ use Rattle.judgment.proofs.TypeLaws.{both, eqb-true, eqb-false, eqb-sam
 use Rattle.spelling.specs.declared.Triple.{Triple}
 use Rattle.sheet.specs.Plan.{lineNode}
 use Rattle.judgment.specs.Terms.{Term, part, afterParts, Lambda, lambdaOf, TermView, isVar, isLitInt, isLambda, isApply, isTypeLambda, isConstructor, isCase, isBinOp, isIf, isIntrinsic, isNone, termView, PatternView, isWildcard, isPatternVar, isPatternConstructor, patternView}
-use Rattle.judgment.specs.Solutions.{Solution, _≔_, Solutions, key, value, find, writeOut}
-use Rattle.judgment.proofs.SolutionLaws.{Avoids, Free, keysAfter, keys, FineAfter, Fine, all-written, written-append, written-node, written-is-free, solved-now}
+use Rattle.judgment.specs.Solutions.{Solution, _≔_, Solutions, key, value, find, writeOut, Avoids, Free, keysAfter, keys, FineAfter, Fine}
+use Rattle.judgment.proofs.SolutionLaws.{all-written, written-append, written-node, written-is-free, solved-now}
 use Rattle.judgment.specs.Board.{Entry, tvar, var, sub, inf, chk, infApp, Board, varNamed, orElse, findVar, before, Rule, done, refuse, fresh, push, solve, zonk, look}
 use Rattle.sheet.specs.Plan.{Binding, _∶_, Bindings, lookup}
 use Rattle.judgment.specs.Rules.{Env, Side, left, right, onSide, offSide, openBody, solveMonotype, instantiateBy, instantiateFrom, instantiate, mismatch, unknownLeft, unknownRight, forallLeft, forallRight, subtypeBy, subtype, openNames, instantiateConstructor, signatureBy, signatureFrom, extractSignature, insert, pushVars, patternParts, patternConstructor, patternBy, checkPatterns, checkArms, variable, constructor, inferBy, synthesize, checkArrow, checkBy, applyBy, inferApp, rule}

@@ -16,8 +16,8 @@ use Rattle.judgment.specs.Terms.{Term}
 use Rattle.judgment.proofs.TypeLaws.{Lines}
 use Rattle.judgment.specs.declared.TypeError.{TypeError}
 use Rattle.judgment.specs.declared.TypeError.the-variants.{TypeUnificationError}
-use Rattle.judgment.specs.Solutions.{Solution, _≔_, Solutions, key, value, writeOut}
-use Rattle.judgment.proofs.SolutionLaws.{keys, Fine, distinct, ends, never-back, all-written, written-again}
+use Rattle.judgment.specs.Solutions.{Solution, _≔_, Solutions, key, value, writeOut, keys, Fine}
+use Rattle.judgment.proofs.SolutionLaws.{distinct, ends, never-back, all-written, written-again}
 use Rattle.judgment.specs.Promise.{taken}
 use Rattle.judgment.specs.Board.{Entry, tvar, var, sub, inf, chk, infApp, Board, Limits, Operation, State, state, Outcome, finished, refused, perform, operations}
 use Rattle.sheet.specs.Plan.{Binding, _∶_, Bindings}

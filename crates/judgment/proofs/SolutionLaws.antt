@@ -14,30 +14,7 @@ use Rattle.nodes.specs.Nodes.{Node, node, Ty, kind, number}
 use Rattle.judgment.specs.Types.{unknown, isNode, occurs, isMonotype}
 use Rattle.judgment.proofs.TypeLaws.{eqb-true, eqb-same, eqb-false, isNode-true}
 use Rattle.judgment.specs.Promise.{Follows, Leads, one, more, Distinct}
-use Rattle.judgment.specs.Solutions.{Solution, _≔_, Solutions, key, value, find, replaceNode, replace, writeOut}
-
--- a node that is not the unknown k; that is none of the unknowns ks
-abbrev pub Avoids : ℕ → Node → Type 0
-Avoids k n = isNode 17 k n ≡ false
-
-abbrev pub Free : List ℕ → Node → Type 0
-Free ks n = All (λ k. Avoids k n) ks
-
--- the unknowns solved, the newest first, before those of ks
-abbrev pub keysAfter : List ℕ → Solutions → List ℕ
-keysAfter ks [] = ks
-keysAfter ks (_≔_ k s ∷ σ) = keysAfter (k ∷ ks) σ
-
-abbrev pub keys : Solutions → List ℕ
-keys σ = keysAfter [] σ
-
--- Each unknown is solved once, by a type without it and without any that was solved before.
-abbrev pub FineAfter : List ℕ → Solutions → Type 0
-FineAfter ks [] = Unit {0}
-FineAfter ks (_≔_ k s ∷ σ) = Free ks (node 17 k) × All (Free (k ∷ ks)) s × FineAfter (k ∷ ks) σ
-
-abbrev pub Fine : Solutions → Type 0
-Fine σ = FineAfter [] σ
+use Rattle.judgment.specs.Solutions.{Solution, _≔_, Solutions, key, value, find, replaceNode, replace, writeOut, Avoids, Free, keysAfter, keys, FineAfter, Fine}
 
 ---------------------------------------------------------------- writing out is a homomorphism
 replace-append : (k : ℕ) (r s t : Ty) → replace k r (s ++ t) ≡ replace k r s ++ replace k r t

@@ -8,8 +8,8 @@ use lib.ListN.{length, length-append}
 use Rattle.nodes.specs.Nodes.{Node, node, Ty}
 use Rattle.nodes.specs.Lists.{All, In}
 use Rattle.judgment.specs.Types.{unknown}
-use Rattle.judgment.specs.Solutions.{Solution, _≔_, Solutions, key, value, writeOut}
-use Rattle.judgment.proofs.SolutionLaws.{Free, keysAfter, keys, FineAfter, Fine, written-append, written-node, written-free, solved}
+use Rattle.judgment.specs.Solutions.{Solution, _≔_, Solutions, key, value, writeOut, Free, keysAfter, keys, FineAfter, Fine}
+use Rattle.judgment.proofs.SolutionLaws.{written-append, written-node, written-free, solved}
 
 -- a node that is no unknown, put before each solution: one more node for each solution that is followed
 abbrev mark : Node

@@ -15,8 +15,8 @@ use Rattle.nodes.proofs.ListLaws.{all-of}
 use Rattle.nodes.specs.Nodes.{Node, node, Ty, nodeParts}
 use Rattle.judgment.specs.Types.{unknown, arrow, forall, isNode, View, isArrow, isApp, isForall, isUnknown, isOther, view, substituteFrom, substitute}
 use Rattle.judgment.proofs.TypeLaws.{eqb-true, eqb-same, eqb-false, Shows, view-shows}
-use Rattle.judgment.specs.Solutions.{Solution, _≔_, Solutions, key, value, find, replace, writeOut}
-use Rattle.judgment.proofs.SolutionLaws.{Avoids, Free, keysAfter, keys, Fine, written-append, written-node, solved, unsolved, ends}
+use Rattle.judgment.specs.Solutions.{Solution, _≔_, Solutions, key, value, find, replace, writeOut, Avoids, Free, keysAfter, keys, Fine}
+use Rattle.judgment.proofs.SolutionLaws.{written-append, written-node, solved, unsolved, ends}
 use Rattle.judgment.specs.Promise.{Follows}
 use Rattle.judgment.specs.Board.{tvar, Rule, fresh, push}
 use Rattle.judgment.specs.Rules.{Side, left, right, openBody, instantiateBy, instantiateFrom, signatureBy, signatureFrom}

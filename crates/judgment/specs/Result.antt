@@ -102,9 +102,13 @@ runOf L c p = checkType L (envOf p) c (p .term) (p .expected)
 unfoldable pub judge : Limits → ℕ → List Triple → Result
 judge L c ls = let p = planOf ls in resultOf (p .plain) (runOf L c p)
 
+-- document 01's limits, but for the nodes of one written-out type
+abbrev pub limitsWith : ℕ → Limits
+limitsWith w = record { entries = 512; nodes = 4096; written = w; numbers = 1000; solved = 4096 }
+
 -- document 01's limits
 abbrev pub limits : Limits
-limits = record { entries = 512; nodes = 4096; written = 1024; numbers = 1000; solved = 4096 }
+limits = limitsWith 1024
 
 -- ---- the buffers
 -- words, and 0 up to n of them

@@ -6,6 +6,8 @@ use mathlib.Core.Option.{Option, none, some}
 use mathlib.Core.List.{List, [], _∷_, _++_}
 use lib.Dec.{eqb}
 use lib.ListN.{length}
+use mathlib.Core.Path.{_≡_}
+use Rattle.nodes.specs.Lists.{All}
 use Rattle.nodes.specs.Nodes.{Node, node, Ty}
 use Rattle.judgment.specs.Types.{isNode}
 
@@ -42,3 +44,27 @@ writeOut (_≔_ k s ∷ σ) t = writeOut σ (replace k s t)
 unfoldable pub solutionNodes : Solutions → ℕ
 solutionNodes [] = 0
 solutionNodes (_≔_ k s ∷ σ) = length s + solutionNodes σ
+
+-- ---- solutions that lead nowhere back
+-- a node that is not the unknown k; that is none of the unknowns ks
+abbrev pub Avoids : ℕ → Node → Type 0
+Avoids k n = isNode 17 k n ≡ false
+
+abbrev pub Free : List ℕ → Node → Type 0
+Free ks n = All (λ k. Avoids k n) ks
+
+-- the unknowns solved, the newest first, before those of ks
+abbrev pub keysAfter : List ℕ → Solutions → List ℕ
+keysAfter ks [] = ks
+keysAfter ks (_≔_ k s ∷ σ) = keysAfter (k ∷ ks) σ
+
+abbrev pub keys : Solutions → List ℕ
+keys σ = keysAfter [] σ
+
+-- Each unknown is solved once, by a type without it and without any that was solved before.
+abbrev pub FineAfter : List ℕ → Solutions → Type 0
+FineAfter ks [] = Unit {0}
+FineAfter ks (_≔_ k s ∷ σ) = Free ks (node 17 k) × All (Free (k ∷ ks)) s × FineAfter (k ∷ ks) σ
+
+abbrev pub Fine : Solutions → Type 0
+Fine σ = FineAfter [] σ
