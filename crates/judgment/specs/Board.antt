@@ -56,7 +56,7 @@ findVar x [] = none
 findVar x (e ∷ Γ) = orElse (varNamed x e) (findVar x Γ)
 
 -- `before`: the newest TVar of a is older than the newest one of b
-abbrev isTVar : ℕ → Entry → Bool
+abbrev pub isTVar : ℕ → Entry → Bool
 isTVar k (tvar n) = isNode 17 k n
 isTVar k (var x t) = false
 isTVar k (sub s t) = false
@@ -64,7 +64,7 @@ isTVar k (inf e t) = false
 isTVar k (chk e t) = false
 isTVar k (infApp f e t) = false
 
-abbrev hasTVar : ℕ → Board → Bool
+abbrev pub hasTVar : ℕ → Board → Bool
 hasTVar k [] = false
 hasTVar k (e ∷ Γ) = cond (isTVar k e) true (hasTVar k Γ)
 

@@ -1,7 +1,7 @@
 // Types as nodes of two words: a kind, and a name, number or count (core.rs, `CoreType`).
 ghost use mathlib.Core.Path.{_≡_};
 ghost use Prim.Native.Nat.{_+_, _*_, _≤_};
-ghost use lib.ListN.{length};
+ghost use lib.ListN.{length, replicate};
 ghost use lib.Seq.{sets};
 ghost use Rattle.nodes.specs.Nodes.{words, nodesAt};
 
@@ -16,6 +16,19 @@ pub fn copy_nodes(dst: &mut [u32], at: usize, src: &[u32], from: usize, n: usize
         let s = from + 2 * i;
         dst[d] = src[s];
         dst[d + 1] = src[s + 1];
+        i += 1;
+    }
+}
+
+// Puts 0 into n words from word `at` on.
+pub fn clear_words(dst: &mut [u32], at: usize, n: usize)
+    requires { ⌜ at + n ≤ length (now dst) ⌝ }
+    ensures { λ _. ⌜ now (dst .exit) ≡ sets (now (dst .entry)) at (replicate n 0) ⌝ }
+{
+    let end = at + n;
+    let mut i = at;
+    while i < end {
+        dst[i] = 0;
         i += 1;
     }
 }

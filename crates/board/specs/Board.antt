@@ -1,0 +1,112 @@
+-- The board's words, and the entries that they hold. Assumes nothing: these are definitions.
+-- Entry i has words 8 i to 8 i + 3: what it is, its number, and how many nodes its two types have. The nodes of all types stand from word 4,096 on, two words each,
+-- entry by entry. Words 12,288 to 16,383 are not used.
+use mathlib.Core.Path.{_≡_}
+use mathlib.Core.Bool.{Bool, true, false, cond, _&&_}
+use mathlib.Core.Option.{Option, none, some}
+use mathlib.Core.List.{List, [], _∷_, _++_}
+use Prim.Native.Nat.{ℕ, zero, suc, _+_, _*_, _-_, _≤_, _<_}
+use lib.ListN.{length, getD, drop}
+use lib.Seq.{sets}
+use lib.Dec.{eqb, leb, ltb}
+use Rattle.nodes.specs.Nodes.{Node, node, Ty, words, nodesAt}
+use Rattle.nodes.specs.Parts.{takeParts}
+use Rattle.spelling.specs.declared.Triple.{Triple}
+use Rattle.kinds.specs.Kinds.{partsOf}
+use Rattle.judgment.specs.Types.{isNode}
+use Rattle.judgment.specs.Terms.{Term}
+use Rattle.judgment.specs.Board.{Entry, tvar, var, sub, inf, chk, infApp, entryNodes}
+use Rattle.judgment.specs.Board.{Board as Entries}
+use Rattle.board.specs.declared.Board.{Board}
+use Rattle.board.specs.declared.Top.{Top}
+use Rattle.board.specs.declared.Place.{Place}
+use Rattle.board.specs.declared.Found.{Found}
+use Rattle.board.specs.declared.Found.the-variants.{At, Nothing}
+
+-- the term that starts at a line
+unfoldable pub termAt : List Triple → ℕ → Term
+termAt ls p = takeParts partsOf (drop p ls) 1
+
+-- What an entry is: 2 Var, 3 Sub, 4 Inf, 5 Chk, 6 InfApp; any other kind is that of the node that a TVar names. Its number is a Var's name, a term's first line,
+-- or the number of that node.
+unfoldable pub entryOf : List Triple → ℕ → ℕ → Ty → Ty → Entry
+entryOf ls k n l r =
+    cond (eqb k 2) (var n l) (cond (eqb k 3) (sub l r) (cond (eqb k 4) (inf (termAt ls n) l) (cond (eqb k 5) (chk (termAt ls n) l)
+    (cond (eqb k 6) (infApp l (termAt ls n) r) (tvar (node k n))))))
+
+abbrev pub word : List ℕ → ℕ → ℕ → ℕ
+word w i k = getD w (8 * i + k) 0
+
+abbrev pub size : List ℕ → ℕ → ℕ
+size w i = word w i 2 + word w i 3
+
+-- how many nodes the entries below entry i have
+unfoldable pub nodesBelow : List ℕ → ℕ → ℕ
+nodesBelow w zero = 0
+nodesBelow w (suc i) = nodesBelow w i + size w i
+
+-- where the nodes of entry i's types stand
+abbrev pub leftAt : List ℕ → ℕ → ℕ
+leftAt w i = 4096 + 2 * nodesBelow w i
+
+abbrev pub entryAt : List Triple → List ℕ → ℕ → Entry
+entryAt ls w i =
+    entryOf ls (word w i 0) (word w i 1) (nodesAt w (leftAt w i) (word w i 2)) (nodesAt w (leftAt w i + 2 * word w i 2) (word w i 3))
+
+-- the newest first
+unfoldable pub entriesOf : List Triple → List ℕ → ℕ → Entries
+entriesOf ls w zero = []
+entriesOf ls w (suc i) = entryAt ls w i ∷ entriesOf ls w i
+
+-- the words of a board: its nodes are those of its entries, and an entry's types are all that it counts
+pub record Stacked (w : List ℕ) (b : Board) : Type 0 where
+  pub room : 12288 ≤ length w
+  pub fewEntries : b .entries ≤ 512
+  pub fewNodes : b .nodes ≤ 4096
+  pub nodes : nodesBelow w (b .entries) ≡ b .nodes
+  pub counted : (i : ℕ) → i < b .entries → (ls : List Triple) → entryNodes (entryAt ls w i) ≡ size w i
+
+-- ---- push
+-- one more entry, of n nodes, passes neither limit
+abbrev pub fitting : Board → ℕ → Bool
+fitting b n = ltb (b .entries) 512 && leb (b .nodes + n) 4096
+
+unfoldable pub laid : List ℕ → Board → ℕ → ℕ → Ty → Ty → List ℕ
+laid w b k n t u = sets (sets w (8 * b .entries) (k ∷ n ∷ length t ∷ length u ∷ [])) (4096 + 2 * b .nodes) (words (t ++ u))
+
+abbrev pub grown : Board → ℕ → Board
+grown b n = record { entries = b .entries + 1; nodes = b .nodes + n }
+
+pub record PushAsk (w : List ℕ) (b : Board) (l : List ℕ) (la ln : ℕ) (r : List ℕ) (ra rn : ℕ) : Type 0 where
+  pub room : 12288 ≤ length w
+  pub few : b .entries < 512
+  pub fits : b .nodes + (ln + rn) ≤ 4096
+  pub left : la + 2 * ln ≤ length l
+  pub right : ra + 2 * rn ≤ length r
+
+-- ---- pop
+-- the newest entry, where its types stand, and the board without it
+unfoldable pub topOf : List ℕ → Board → Top
+topOf w b =
+    let i = b .entries - 1 in
+    let n = b .nodes - size w i in
+    record {
+      kind = word w i 0;
+      number = word w i 1;
+      at = 4096 + 2 * n;
+      left = word w i 2;
+      right = word w i 3;
+      rest = record { entries = i; nodes = n };
+    }
+
+-- ---- find_var
+-- where the type of the newest Var of that name stands, among the entries below entry i
+unfoldable pub varPlace : ℕ → List ℕ → ℕ → Found
+varPlace x w zero = Nothing
+varPlace x w (suc i) =
+    let older = varPlace x w i in
+    cond (isNode 2 x (node (word w i 0) (word w i 1))) (At (record { start = leftAt w i; count = word w i 2 })) older
+
+abbrev pub typeIn : List ℕ → Found → Option Ty
+typeIn w (At p) = some (nodesAt w (p .start) (p .count))
+typeIn w Nothing = none
