@@ -22,12 +22,16 @@ pub struct Board {
 
 impl Board {
     pub const ENTRIES: usize = 512;
+
     pub const NODES: usize = 4096;
 
     pub fn new() -> Board
         ensures { λ r. ⌜ r ≡ record { entries = 0; nodes = 0 } ⌝ }
     {
-        Board { entries: 0, nodes: 0 }
+        Board {
+            entries: 0,
+            nodes: 0,
+        }
     }
 
     // One more entry, of n nodes, passes neither limit.
@@ -65,7 +69,18 @@ pub struct Top {
 }
 
 // Lays an entry on the board whose types are ln nodes at word la of l and rn nodes at word ra of r.
-pub fn push(board: &mut [u32], b: Board, kind: u32, number: u32, l: &[u32], la: usize, ln: usize, r: &[u32], ra: usize, rn: usize) -> Board
+pub fn push(
+    board: &mut [u32],
+    b: Board,
+    kind: u32,
+    number: u32,
+    l: &[u32],
+    la: usize,
+    ln: usize,
+    r: &[u32],
+    ra: usize,
+    rn: usize,
+) -> Board
     requires { ⌜ PushAsk (now board) b (now l) la ln (now r) ra rn ⌝ }
     ensures { λ p. ⌜ (now (board .exit) ≡ laid (now (board .entry)) b kind number (nodesAt (now (l .entry)) la ln) (nodesAt (now (r .entry)) ra rn)) × (p ≡ grown b (ln + rn)) ⌝ }
 {

@@ -6,9 +6,9 @@ use Prim.Native.Nat.{ℕ, zero, suc, _+_, _*_, _-_, _≤_, _<_}
 use native.Mathlib.Nat.{add-zero, add-suc, suc-add, not-suc-le-zero}
 use native.Mathlib.Numerals.{add-one, add-two}
 use native.Mathlib.Omega.{arith}
-use lib.ListN.{length, getD, set, take, drop, replicate, length-set, length-append}
+use lib.ListN.{length, getD, set, take, drop, length-set, length-append}
 use lib.Seq.{sets, length-sets, getD-set-same, getD-set-other}
-use Rattle.nodes.specs.Nodes.{Node, node, words, nodesAt}
+use Rattle.nodes.specs.Nodes.{Node, node, words, nodesAt, zeros}
 
 -- ---- stores one after another
 
@@ -163,14 +163,15 @@ nodesAt-agree b b' p (suc n) f =
     rw (f p (omega arith) (omega arith), f (p + 1) (omega arith) (omega arith), nodesAt-agree b b' (p + 2) n (λ j l q. f j (omega arith) (omega arith)))
 
 -- a turn of the loop that clears: one more 0
-pub clear-step : (l : List ℕ) (at m : ℕ) → set (sets l at (replicate m 0)) (at + m) 0 ≡ sets l at (replicate (suc m) 0)
+pub clear-step : (l : List ℕ) (at m : ℕ) → set (sets l at (zeros m)) (at + m) 0 ≡ sets l at (zeros (suc m))
+unfolding zeros
 clear-step l at zero = ap (λ (k : ℕ). set l k 0) (add-zero at)
 clear-step l at (suc m) =
     let e : at + suc m ≡ suc at + m = omega arith in
-    ap (λ (k : ℕ). set (sets (set l at 0) (suc at) (replicate m 0)) k 0) e ∙ clear-step (set l at 0) (suc at) m
+    ap (λ (k : ℕ). set (sets (set l at 0) (suc at) (zeros m)) k 0) e ∙ clear-step (set l at 0) (suc at) m
 
-pub clear-turn : (l : List ℕ) (at i : ℕ) (d : List ℕ) → at ≤ i → d ≡ sets l at (replicate (i - at) 0) → set d i 0 ≡ sets l at (replicate (i + 1 - at) 0)
+pub clear-turn : (l : List ℕ) (at i : ℕ) (d : List ℕ) → at ≤ i → d ≡ sets l at (zeros (i - at)) → set d i 0 ≡ sets l at (zeros (i + 1 - at))
 clear-turn l at i d h q =
     let e : i ≡ at + (i - at) = omega arith in
     let f : i + 1 - at ≡ suc (i - at) = omega arith in
-    rw (q, f) (ap (λ (k : ℕ). set (sets l at (replicate (i - at) 0)) k 0) e ∙ clear-step l at (i - at))
+    rw (q, f) (ap (λ (k : ℕ). set (sets l at (zeros (i - at))) k 0) e ∙ clear-step l at (i - at))

@@ -3,7 +3,7 @@ use Prim.Native.Nat.{ℕ, zero, suc, _+_}
 use mathlib.Core.Bool.{cond}
 use mathlib.Core.List.{List, [], _∷_}
 use lib.Dec.{eqb}
-use lib.ListN.{getD}
+use lib.ListN.{getD, replicate}
 
 -- A node is its kind and its number: a name, a number, a Product's count; 0 for Arrow and App.
 -- Kinds: 11 Var, 12 Con, 13 Arrow, 14 Forall, 15 App, 16 Product, 17 unknown (`ETVar`), 18 fresh universal.
@@ -33,3 +33,7 @@ words (node k v ∷ t) = k ∷ v ∷ words t
 unfoldable pub nodesAt : List ℕ → ℕ → ℕ → Ty
 nodesAt b p zero = []
 nodesAt b p (suc n) = node (getD b p 0) (getD b (p + 1) 0) ∷ nodesAt b (p + 2) n
+
+-- n words that are 0; shut, so that no comparison goes through them one by one
+unfoldable pub zeros : ℕ → List ℕ
+zeros n = replicate n 0

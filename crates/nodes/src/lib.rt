@@ -1,9 +1,9 @@
 // Types as nodes of two words: a kind, and a name, number or count (core.rs, `CoreType`).
 ghost use mathlib.Core.Path.{_≡_};
 ghost use Prim.Native.Nat.{_+_, _*_, _≤_};
-ghost use lib.ListN.{length, replicate};
+ghost use lib.ListN.{length};
 ghost use lib.Seq.{sets};
-ghost use Rattle.nodes.specs.Nodes.{words, nodesAt};
+ghost use Rattle.nodes.specs.Nodes.{words, nodesAt, zeros};
 
 // Copies n nodes from word `from` of src to word `at` of dst.
 pub fn copy_nodes(dst: &mut [u32], at: usize, src: &[u32], from: usize, n: usize)
@@ -23,7 +23,7 @@ pub fn copy_nodes(dst: &mut [u32], at: usize, src: &[u32], from: usize, n: usize
 // Puts 0 into n words from word `at` on.
 pub fn clear_words(dst: &mut [u32], at: usize, n: usize)
     requires { ⌜ at + n ≤ length (now dst) ⌝ }
-    ensures { λ _. ⌜ now (dst .exit) ≡ sets (now (dst .entry)) at (replicate n 0) ⌝ }
+    ensures { λ _. ⌜ now (dst .exit) ≡ sets (now (dst .entry)) at (zeros n) ⌝ }
 {
     let end = at + n;
     let mut i = at;

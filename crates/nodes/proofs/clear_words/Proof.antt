@@ -1,7 +1,8 @@
 use mathlib.Core.Path.{_≡_, refl}
 use Prim.Native.Nat.{ℕ, _+_, _-_, _≤_}
-use lib.ListN.{length, replicate, length-set}
+use lib.ListN.{length, length-set}
 use lib.Seq.{sets}
+use Rattle.nodes.specs.Nodes.{zeros}
 use Rattle.nodes.proofs.Laws.{clear-turn}
 use native.Mathlib.Omega.{arith}
 use borrow.Author.Needs.{needs}
@@ -9,12 +10,13 @@ use Rattle.nodes.proofs.clear_words.Statement.{statement}
 use Rattle.nodes.proofs.clear_words.Tie as tie
 
 abbrev Inv-loop : tie.InvT-loop
-Inv-loop dst₀ at n end i₀ dst i = (at ≤ i) × (i ≤ end) × (length dst ≡ length dst₀) × (dst ≡ sets dst₀ at (replicate (i - at) 0))
+Inv-loop dst₀ at n end i₀ dst i = (at ≤ i) × (i ≤ end) × (length dst ≡ length dst₀) × (dst ≡ sets dst₀ at (zeros (i - at)))
 
 abbrev μ-loop : tie.MeasureT-loop
 μ-loop dst₀ at n end i₀ dst i = end - i
 
 loop-holds : tie.Need-loop-holds Inv-loop μ-loop
+unfolding zeros
 loop-holds c =
     let a = c .args in
     let e : a .at - a .at ≡ 0 = omega arith in

@@ -1,0 +1,245 @@
+-- A turn of `write_out` on plain values: the write-out of a type by its first node, the number that falls, and how what two calls leave goes together.
+-- Assumes nothing.
+use mathlib.Core.Path.{_≡_, refl, sym, ap, ap₂, _∙_, subst}
+use mathlib.Core.Logic.{_≢_, _⊎_, inl, inr}
+use mathlib.Core.Bool.{Bool, true, false, cond, true≢false}
+use mathlib.Core.List.{List, [], _∷_, _++_, append-nil}
+use Prim.Native.Nat.{ℕ, zero, suc, _+_, _*_, _-_, _≤_, _<_}
+use native.Mathlib.Numerals.{add-one}
+use native.Mathlib.Omega.{arith}
+use lib.ListN.{length, getD, set, take, length-append}
+use lib.Seq.{sets, take-all, take-append-le, take-append-add}
+use lib.Dec.{leb, ltb, eqb}
+use borrow.Author.Tests.{leb-true, leb-false, ltb-true, ltb-false, eqb-true, eqb-false, le-leb, lt-leb}
+use Rattle.nodes.specs.Nodes.{Node, node, Ty, words, nodesAt}
+use Rattle.nodes.specs.Lists.{In}
+use Rattle.nodes.proofs.Laws.{nodesAt-cons, words-append, sets-append, length-words}
+use Rattle.judgment.specs.Types.{unknown}
+use Rattle.judgment.specs.Solutions.{Solution, _≔_, Solutions, writeOut, Free, keys, Fine}
+use Rattle.judgment.proofs.SolutionLaws.{written-append, written-free, solved}
+use Rattle.judgment.proofs.Visits.{visits, visits-append, visits-free, visits-solved}
+use Rattle.book.specs.declared.Book.{Book}
+use Rattle.book.specs.declared.Place.{Place}
+use Rattle.book.specs.declared.Found.{Found}
+use Rattle.book.specs.declared.Found.the-variants.{At, Nothing}
+use Rattle.book.specs.declared.Wrote.{Wrote}
+use Rattle.book.specs.declared.Wrote.the-variants.{Fits, Over}
+use Rattle.book.specs.Book.{startOf, countOf, sols, Holds, Booked, placeOf, WriteAsk, wrote, writtenTo}
+use Rattle.book.proofs.Holdings.{found-in, free-of, free-kind}
+
+-- ---- what `find` tells
+pub record Solved (w : List ℕ) (d v : ℕ) (p : Place) : Type 0 where
+  pub unknown : d ≡ 17
+  pub small : v < 1000
+  pub high : 2000 ≤ startOf w v
+  pub start : p .start ≡ startOf w v
+  pub count : p .count ≡ countOf w v
+
+abbrev pub Unsolved : List ℕ → ℕ → ℕ → Type 0
+Unsolved w d v = d ≡ 17 → v < 1000 → startOf w v < 2000
+
+abbrev Told : List ℕ → ℕ → ℕ → Found → Type 0
+Told w d v (At p) = Solved w d v p
+Told w d v Nothing = Unsolved w d v
+
+told : (w : List ℕ) (d v : ℕ) (r : Found) → r ≡ placeOf w d v → Told w d v r
+unfolding placeOf
+told w d v r e = rw e (go (eqb d 17) refl)
+  where
+    go₃ : d ≡ 17 → v < 1000 → (c : Bool) → ltb (startOf w v) 2000 ≡ c → Told w d v (cond c Nothing (At (record { start = startOf w v; count = countOf w v })))
+    go₃ i l true q = λ _ _. ltb-true (startOf w v) 2000 q
+    go₃ i l false q = record { unknown = i; small = l; high = ltb-false (startOf w v) 2000 q; start = refl; count = refl }
+
+    go₂ : d ≡ 17 → (c : Bool) → ltb v 1000 ≡ c → Told w d v (cond c (cond (ltb (startOf w v) 2000) Nothing (At (record { start = startOf w v; count = countOf w v }))) Nothing)
+    go₂ i true q = go₃ i (ltb-true v 1000 q) (ltb (startOf w v) 2000) refl
+    go₂ i false q = λ _ l. absurd (let m = ltb-false v 1000 q in omega arith)
+
+    go : (c : Bool) → eqb d 17 ≡ c
+        → Told w d v (cond c (cond (ltb v 1000) (cond (ltb (startOf w v) 2000) Nothing (At (record { start = startOf w v; count = countOf w v }))) Nothing) Nothing)
+    go true q = go₂ (eqb-true d 17 q) (ltb v 1000) refl
+    go false q = λ i _. absurd (eqb-false d 17 q i)
+
+pub told-at : (w : List ℕ) (d v : ℕ) {r : Found} {p : Place} → r ≡ placeOf w d v → r ≡ At p → Solved w d v p
+told-at w d v {r} e q = subst (Told w d v) q (told w d v r e)
+
+pub told-none : (w : List ℕ) (d v : ℕ) {r : Found} → r ≡ placeOf w d v → r ≡ Nothing → Unsolved w d v
+told-none w d v {r} e q = subst (Told w d v) q (told w d v r e)
+
+-- ---- what two calls leave
+module _ (x y : Ty) (n end : ℕ) (o : List ℕ) where
+  fits-told : (m : ℕ) → wrote x n end ≡ Fits m → (n + length x ≤ end) × (m ≡ n + length x)
+  fits-told m e = go (leb (n + length x) end) refl e
+    where
+      go : (c : Bool) → leb (n + length x) end ≡ c → cond c (Fits (n + length x)) Over ≡ Fits m → (n + length x ≤ end) × (m ≡ n + length x)
+      go true q e = (leb-true (n + length x) end q, cc)
+      go false q e = absurd (true≢false cc)
+
+  over-told : wrote x n end ≡ Over → end < n + length x
+  over-told e = go (leb (n + length x) end) refl e
+    where
+      go : (c : Bool) → leb (n + length x) end ≡ c → cond c (Fits (n + length x)) Over ≡ Over → end < n + length x
+      go true q e = absurd (true≢false cc)
+      go false q e = leb-false (n + length x) end q
+
+  -- the second goes on where the first ended
+  then-wrote : wrote y (n + length x) end ≡ wrote (x ++ y) n end
+  then-wrote =
+      let e : n + length x + length y ≡ n + length (x ++ y) = omega (arith, length-append x y) in
+      rw e
+
+  then-written : n + length x ≤ end → writtenTo y (n + length x) end (writtenTo x n end o) ≡ writtenTo (x ++ y) n end o
+  then-written h =
+      let e : end - n ≡ length x + (end - (n + length x)) = omega arith in
+      let f : 2 * n + length (words x) ≡ 2 * (n + length x) = omega (arith, length-words x) in
+      ap (λ (t : Ty). sets (sets o (2 * n) (words t)) (2 * (n + length x)) (words (take (end - (n + length x)) y))) (take-all (end - n) x (omega arith))
+      ∙ ap (λ (k : ℕ). sets (sets o (2 * n) (words x)) k (words (take (end - (n + length x)) y))) (sym f)
+      ∙ sym (sets-append o (2 * n) (words x) (words (take (end - (n + length x)) y)))
+      ∙ ap (λ (l : List ℕ). sets o (2 * n) l) (sym (words-append x (take (end - (n + length x)) y)))
+      ∙ ap (λ (t : Ty). sets o (2 * n) (words t)) (sym (ap (λ (k : ℕ). take k (x ++ y)) e ∙ take-append-add x y (end - (n + length x))))
+
+  -- the first passes the end
+  over-wrote : end < n + length x → wrote (x ++ y) n end ≡ Over
+  over-wrote h = rw (lt-leb (n + length (x ++ y)) end (omega (arith, length-append x y)))
+
+  over-written : end < n + length x → writtenTo x n end o ≡ writtenTo (x ++ y) n end o
+  over-written h = ap (λ (t : Ty). sets o (2 * n) (words t)) (sym (take-append-le (end - n) x y (omega arith)))
+
+-- one node
+one-written : (d v : ℕ) (n end : ℕ) (o : List ℕ) → n < end → writtenTo (node d v ∷ []) n end o ≡ set (set o (2 * n) d) (2 * n + 1) v
+unfolding words
+one-written d v n end o h =
+    ap (λ (t : Ty). sets o (2 * n) (words t)) (take-all (end - n) (node d v ∷ []) (omega arith)) ∙ ap (λ (k : ℕ). set (set o (2 * n) d) k v) (sym (add-one (2 * n)))
+
+-- no room for it
+none-wrote : (x : Node) (y : Ty) (n end : ℕ) → end ≤ n → wrote ((x ∷ []) ++ y) n end ≡ Over
+none-wrote x y n end h = over-wrote (x ∷ []) y n end [] (omega arith)
+
+none-written : (t : Ty) (n end : ℕ) (o : List ℕ) → end ≤ n → o ≡ writtenTo t n end o
+unfolding words
+none-written t n end o h = let e : end - n ≡ 0 = omega arith in rw e
+
+-- ---- the first node of a call at which nodes are left. t is its measure
+module _ {s : List ℕ} {at left : ℕ} {w o : List ℕ} {n end : ℕ} (ask : WriteAsk s at left w o n end) (some : left ≢ 0) where
+  abbrev σ : Solutions
+  σ = sols w
+
+  abbrev d : ℕ
+  d = getD s at 0
+
+  abbrev v : ℕ
+  v = getD s (at + 1) 0
+
+  abbrev others : Ty
+  others = nodesAt s (at + 2) (left - 1)
+
+  cons : nodesAt s at left ≡ (node d v ∷ []) ++ others
+  cons = nodesAt-cons s at left (omega arith)
+
+  -- what the call for the nodes after the first asks
+  pub on-ask : (o' : List ℕ) (m : ℕ) → length o' ≡ length o → m ≤ end → WriteAsk s (at + 2) (left - 1) w o' m end
+  on-ask o' m e l = record {
+    within = let z = ask .within in omega arith;
+    book = ask .book;
+    room = let z = ask .room in omega arith;
+    most = l;
+  }
+
+  -- what a call leaves that writes t out
+  abbrev Leaves : Ty → ℕ → List ℕ → Wrote → List ℕ → Type 0
+  Leaves t m o₁ r o₂ = (r ≡ wrote t m end) × (o₂ ≡ writtenTo t m end o₁)
+
+  module _ (f : Unsolved w d v) where
+    free : Free (keys σ) (node d v)
+    free = go (eqb d 17) refl
+      where
+        go : (c : Bool) → eqb d 17 ≡ c → Free (keys σ) (node d v)
+        go true q = let i = eqb-true d 17 q in rw i (free-of w (ask .book .0) v (ask .book .1) (f i))
+        go false q = free-kind (keys σ) d v (eqb-false d 17 q)
+
+    miss-out : writeOut σ (nodesAt s at left) ≡ (node d v ∷ []) ++ writeOut σ others
+    miss-out = ap (writeOut σ) cons ∙ written-append σ (node d v ∷ []) others ∙ ap (λ (t : Ty). t ++ writeOut σ others) (written-free σ (node d v ∷ []) (free, tt))
+
+    pub miss-falls : (t : ℕ) → visits σ (nodesAt s at left) ≡ t → visits σ others < t
+    miss-falls t e =
+        let q : visits σ (nodesAt s at left) ≡ visits σ (node d v ∷ []) + visits σ others = ap (visits σ) cons ∙ visits-append σ (node d v ∷ []) others in
+        let one = visits-free σ (node d v) free in
+        omega arith
+
+    pub miss-full : end ≤ n → Leaves (writeOut σ (nodesAt s at left)) n o Over o
+    miss-full h = rw miss-out (sym (none-wrote (node d v) (writeOut σ others) n end h), none-written ((node d v ∷ []) ++ writeOut σ others) n end o h)
+
+    pub miss-on : {r : Wrote} {o₂ : List ℕ} → n < end → Leaves (writeOut σ others) (n + 1) (set (set o (2 * n) d) (2 * n + 1) v) r o₂ → Leaves (writeOut σ (nodesAt s at left)) n o r o₂
+    miss-on h l =
+        let x : Ty = node d v ∷ [] in
+        let y : Ty = writeOut σ others in
+        rw miss-out
+        (l .0 ∙ then-wrote x y n end o, l .1 ∙ ap (λ (q : List ℕ). writtenTo y (n + 1) end q) (sym (one-written d v n end o h)) ∙ then-written x y n end o (omega arith))
+
+  module _ {p : Place} (f : Solved w d v p) where
+    abbrev solution : Ty
+    solution = nodesAt w (p .start) (p .count)
+
+    found : In (_≔_ v solution) σ × (0 < p .count) × (p .start + 2 * p .count ≤ 2000 + 2 * ask .book .0 .nodes)
+    found = rw (f .start, f .count) (found-in w (2000 + 2 * ask .book .0 .nodes) 2000 σ v (ask .book .1 .holds) (f .small) (f .high))
+
+    first : nodesAt s at left ≡ unknown v ++ others
+    first = cons ∙ ap (λ (k : ℕ). (node k v ∷ []) ++ others) (f .unknown)
+
+    hit-out : writeOut σ (nodesAt s at left) ≡ writeOut σ solution ++ writeOut σ others
+    hit-out = ap (writeOut σ) first ∙ written-append σ (unknown v) others ∙ ap (λ (t : Ty). t ++ writeOut σ others) (solved σ (ask .book .1 .fine) (_≔_ v solution) (found .0))
+
+    steps : visits σ (nodesAt s at left) ≡ 1 + visits σ solution + visits σ others
+    steps = ap (visits σ) first ∙ visits-append σ (unknown v) others ∙ ap (λ (k : ℕ). k + visits σ others) (visits-solved σ v solution (ask .book .1 .fine) (found .0))
+
+    pub in-falls : (t : ℕ) → visits σ (nodesAt s at left) ≡ t → visits σ solution < t
+    in-falls t e = omega (arith, steps)
+
+    pub on-falls : (t : ℕ) → visits σ (nodesAt s at left) ≡ t → visits σ others < t
+    on-falls t e = omega (arith, steps)
+
+    -- what the call for the solution asks
+    pub in-ask : WriteAsk w (p .start) (p .count) w o n end
+    in-ask = record {
+      within = let z = found .2 in let r = ask .book .1 .room in let u = ask .book .1 .few in omega arith;
+      book = ask .book;
+      room = ask .room;
+      most = ask .most;
+    }
+
+    pub hit-fits : {r₁ : Wrote} {o₁ : List ℕ} {m : ℕ} → Leaves (writeOut σ solution) n o r₁ o₁ → r₁ ≡ Fits m → m ≤ end
+    hit-fits {m = m} a q = let k = fits-told (writeOut σ solution) [] n end o m (sym (a .0) ∙ q) in let z = k .0 in let y = k .1 in omega arith
+
+    pub hit-on : {r₁ r₂ : Wrote} {o₁ o₂ : List ℕ} {m : ℕ} → Leaves (writeOut σ solution) n o r₁ o₁ → r₁ ≡ Fits m → Leaves (writeOut σ others) m o₁ r₂ o₂
+        → Leaves (writeOut σ (nodesAt s at left)) n o r₂ o₂
+    hit-on {m = m} a q l =
+        let x = writeOut σ solution in
+        let y = writeOut σ others in
+        let k = fits-told x y n end o m (sym (a .0) ∙ q) in
+        rw hit-out (
+          l .0 ∙ ap (λ (j : ℕ). wrote y j end) (k .1) ∙ then-wrote x y n end o,
+          l .1 ∙ ap₂ (λ (j : ℕ) (b : List ℕ). writtenTo y j end b) (k .1) (a .1) ∙ then-written x y n end o (k .0),
+        )
+
+    pub hit-over : {r₁ : Wrote} {o₁ : List ℕ} → Leaves (writeOut σ solution) n o r₁ o₁ → r₁ ≡ Over → Leaves (writeOut σ (nodesAt s at left)) n o Over o₁
+    hit-over a q =
+        let x = writeOut σ solution in
+        let y = writeOut σ others in
+        let k = over-told x y n end o (sym (a .0) ∙ q) in
+        rw hit-out (sym (over-wrote x y n end o k), a .1 ∙ over-written x y n end o k)
+
+-- a call at which no node is left
+pub empty-leaves : {s : List ℕ} {at left : ℕ} {w o : List ℕ} {n end : ℕ} → WriteAsk s at left w o n end → left ≡ 0
+    → (Fits n ≡ wrote (writeOut (sols w) (nodesAt s at left)) n end) × (o ≡ writtenTo (writeOut (sols w) (nodesAt s at left)) n end o)
+unfolding nodesAt words
+empty-leaves {s} {at} {left} {w} {o} {n} {end} ask z =
+    let e : writeOut (sols w) (nodesAt s at left) ≡ [] = ap (λ (k : ℕ). writeOut (sols w) (nodesAt s at k)) z ∙ written-free (sols w) [] tt in
+    let f : n + 0 ≡ n = omega arith in
+    rw (e, f, le-leb n end (ask .most)) (refl, ap (λ (t : Ty). sets o (2 * n) (words t)) (sym (take-all (end - n) [] (omega arith))))
+
+-- ---- a sum tested by a difference
+pub leb-shift : (a n m : ℕ) → n ≤ m → leb a (m - n) ≡ leb (a + n) m
+leb-shift a n m h = go (leb (a + n) m) refl
+  where
+    go : (c : Bool) → leb (a + n) m ≡ c → leb a (m - n) ≡ c
+    go true q = let l = leb-true (a + n) m q in le-leb a (m - n) (omega arith)
+    go false q = let l = leb-false (a + n) m q in lt-leb a (m - n) (omega arith)
