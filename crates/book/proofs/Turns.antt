@@ -235,11 +235,3 @@ empty-leaves {s} {at} {left} {w} {o} {n} {end} ask z =
     let e : writeOut (sols w) (nodesAt s at left) ≡ [] = ap (λ (k : ℕ). writeOut (sols w) (nodesAt s at k)) z ∙ written-free (sols w) [] tt in
     let f : n + 0 ≡ n = omega arith in
     rw (e, f, le-leb n end (ask .most)) (refl, ap (λ (t : Ty). sets o (2 * n) (words t)) (sym (take-all (end - n) [] (omega arith))))
-
--- ---- a sum tested by a difference
-pub leb-shift : (a n m : ℕ) → n ≤ m → leb a (m - n) ≡ leb (a + n) m
-leb-shift a n m h = go (leb (a + n) m) refl
-  where
-    go : (c : Bool) → leb (a + n) m ≡ c → leb a (m - n) ≡ c
-    go true q = let l = leb-true (a + n) m q in le-leb a (m - n) (omega arith)
-    go false q = let l = leb-false (a + n) m q in lt-leb a (m - n) (omega arith)

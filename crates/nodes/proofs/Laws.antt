@@ -1,6 +1,7 @@
 -- Laws of `words`, `nodesAt` and `sets`. Assumes nothing.
 use mathlib.Core.Path.{_≡_, refl, sym, ap, ap₂, _∙_, subst}
 use mathlib.Core.Logic.{_≢_}
+use mathlib.Core.Bool.{Bool, true, false}
 use mathlib.Core.List.{List, [], _∷_, _++_, append-assoc}
 use Prim.Native.Nat.{ℕ, zero, suc, _+_, _*_, _-_, _≤_, _<_}
 use native.Mathlib.Nat.{add-zero, add-suc, suc-add, not-suc-le-zero}
@@ -8,6 +9,8 @@ use native.Mathlib.Numerals.{add-one, add-two}
 use native.Mathlib.Omega.{arith}
 use lib.ListN.{length, getD, set, take, drop, length-set, length-append}
 use lib.Seq.{sets, length-sets, getD-set-same, getD-set-other}
+use lib.Dec.{leb}
+use borrow.Author.Tests.{leb-true, leb-false, le-leb, lt-leb}
 use Rattle.nodes.specs.Nodes.{Node, node, words, nodesAt, zeros}
 
 -- ---- stores one after another
@@ -175,3 +178,11 @@ clear-turn l at i d h q =
     let e : i ≡ at + (i - at) = omega arith in
     let f : i + 1 - at ≡ suc (i - at) = omega arith in
     rw (q, f) (ap (λ (k : ℕ). set (sets l at (zeros (i - at))) k 0) e ∙ clear-step l at (i - at))
+
+-- ---- a sum tested by a difference
+pub leb-shift : (a n m : ℕ) → n ≤ m → leb a (m - n) ≡ leb (a + n) m
+leb-shift a n m h = go (leb (a + n) m) refl
+  where
+    go : (c : Bool) → leb (a + n) m ≡ c → leb a (m - n) ≡ c
+    go true q = let l = leb-true (a + n) m q in le-leb a (m - n) (omega arith)
+    go false q = let l = leb-false (a + n) m q in lt-leb a (m - n) (omega arith)

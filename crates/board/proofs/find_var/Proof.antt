@@ -1,119 +1,54 @@
+use mathlib.Core.Path.{_≡_, refl, sym, ap₂, _∙_}
+use Prim.Native.Nat.{ℕ, _+_, _*_, _≤_}
+use native.Mathlib.Omega.{arith}
+use denote.Ref.{now}
+use borrow.Author.Needs.{needs}
+use Rattle.board.specs.declared.Found.the-variants.{At}
+use Rattle.board.specs.Board.{nodesBelow, varPlace}
+use Rattle.board.proofs.Stacks.{nodes-turn}
+use Rattle.board.proofs.Finds.{find-turn}
 use Rattle.board.proofs.find_var.Statement.{statement}
 use Rattle.board.proofs.find_var.Tie as tie
-use Rattle.board.proofs.find_var.Reads as reads
-use Rattle.board.proofs.find_var.Lts as lts
-use Rattle.nodes.proofs.wide.Reads as wide-reads
-use Rattle.types.proofs.is_node.Reads as is-node-reads
 
 abbrev Inv-loop : tie.InvT-loop
-Inv-loop board name i₀ start₀ i start = ?
+Inv-loop board name i₀ start₀ i start = (i ≤ i₀) × (start ≡ 4096 + 2 * nodesBelow board i) × (nodesBelow board i ≤ 4096) × (varPlace name board i₀ ≡ varPlace name board i)
 
 abbrev μ-loop : tie.MeasureT-loop
-μ-loop board name i₀ start₀ i start = ?
+μ-loop board name i₀ start₀ i start = i
 
--- src/lib.rt:116:28
-mul-start : tie.Need-mul-start Inv-loop μ-loop
-mul-start c = ?
-
--- src/lib.rt:116:21
-add-start : tie.Need-add-start Inv-loop μ-loop
-add-start c = ?
-
--- src/lib.rt:117:5
 loop-holds : tie.Need-loop-holds Inv-loop μ-loop
-loop-holds c = ?
+loop-holds c =
+    let s = c .before .before .pre in
+    let n = s .nodes in
+    let f = s .fewNodes in
+    (search needs, omega arith, omega arith, refl)
 
--- src/lib.rt:118:9
-sub-i : tie.Need-sub-i Inv-loop μ-loop
-sub-i c = ?
-
--- src/lib.rt:119:20
-mul-slot : tie.Need-mul-slot Inv-loop μ-loop
-mul-slot c = ?
-
--- src/lib.rt:120:32
-add-wide : tie.Need-add-wide Inv-loop μ-loop
-add-wide c = ?
-
--- src/lib.rt:120:26
-mul-wide : tie.Need-mul-wide Inv-loop μ-loop
-mul-wide c = ?
-
--- src/lib.rt:120:26
-shared-slice-read-wide : tie.Need-shared-slice-read-wide Inv-loop μ-loop
-shared-slice-read-wide c = ?
-
--- src/lib.rt:120:13
-wide-requires : tie.Need-wide-requires Inv-loop μ-loop
-wide-requires c κs = ?
-
--- src/lib.rt:121:42
-add-wide-2 : tie.Need-add-wide-2 Inv-loop μ-loop
-add-wide-2 c = ?
-
--- src/lib.rt:121:36
-mul-wide-2 : tie.Need-mul-wide-2 Inv-loop μ-loop
-mul-wide-2 c = ?
-
--- src/lib.rt:121:36
-shared-slice-read-wide-2 : tie.Need-shared-slice-read-wide-2 Inv-loop μ-loop
-shared-slice-read-wide-2 c = ?
-
--- src/lib.rt:121:31
-wide-requires-2 : tie.Need-wide-requires-2 Inv-loop μ-loop
-wide-requires-2 c κs = ?
-
--- src/lib.rt:121:23
 add-start-2 : tie.Need-add-start-2 Inv-loop μ-loop
-add-start-2 c = ?
+add-start-2 c = let L = c .before .before .before .before in omega (arith, nodes-turn (now (L .before .before .before .before .args .board)) (L .before .loop .i) (L .loop-test .taken))
 
--- src/lib.rt:121:18
 mul-start-2 : tie.Need-mul-start-2 Inv-loop μ-loop
-mul-start-2 c = ?
+mul-start-2 c = let L = c .before .before .before .before in omega (arith, nodes-turn (now (L .before .before .before .before .args .board)) (L .before .loop .i) (L .loop-test .taken))
 
--- src/lib.rt:121:9
 sub-start : tie.Need-sub-start Inv-loop μ-loop
-sub-start c = ?
+sub-start c = let L = c .before .before .before .before in omega (arith, nodes-turn (now (L .before .before .before .before .args .board)) (L .before .loop .i) (L .loop-test .taken))
 
--- src/lib.rt:122:29
-mul-is-node : tie.Need-mul-is-node Inv-loop μ-loop
-mul-is-node c = ?
-
--- src/lib.rt:122:29
-shared-slice-read-is-node : tie.Need-shared-slice-read-is-node Inv-loop μ-loop
-shared-slice-read-is-node c = ?
-
--- src/lib.rt:122:48
-add-is-node : tie.Need-add-is-node Inv-loop μ-loop
-add-is-node c = ?
-
--- src/lib.rt:122:42
-mul-is-node-2 : tie.Need-mul-is-node-2 Inv-loop μ-loop
-mul-is-node-2 c = ?
-
--- src/lib.rt:122:42
-shared-slice-read-is-node-2 : tie.Need-shared-slice-read-is-node-2 Inv-loop μ-loop
-shared-slice-read-is-node-2 c = ?
-
--- src/lib.rt:122:12
-is-node-requires : tie.Need-is-node-requires Inv-loop μ-loop
-is-node-requires c κs = ?
-
--- src/lib.rt:123:13
 returns : tie.Need-returns Inv-loop μ-loop
-returns c = ?
+returns c =
+    let w = c .before .before .before .before .before .before .wide .ensures in
+    let L = c .before .before .before .before .before .before .before .before in
+    let n = nodes-turn (now (L .before .before .before .before .args .board)) _ (L .loop-test .taken) in
+    ap₂ (λ (s k : ℕ). At (record { start = s; count = k })) (omega arith) w
+    ∙ sym (L .before .loop .inv .3 ∙ find-turn _ _ (L .loop-test .taken) _ (sym (c .before .is-node .ensures) ∙ c .if1 .taken))
 
--- src/lib.rt:117:5
-loop-less : tie.Need-loop-less Inv-loop μ-loop
-loop-less c = ?
-
--- src/lib.rt:117:5
 loop-again : tie.Need-loop-again Inv-loop μ-loop
-loop-again c = ?
+loop-again c =
+    let L = c .before .before .before .before .before .before .before .before in
+    let n = nodes-turn (now (L .before .before .before .before .args .board)) _ (L .loop-test .taken) in
+    (search needs, omega arith, omega arith, L .before .loop .inv .3 ∙ find-turn _ _ (L .loop-test .taken) _ (sym (c .before .is-node .ensures) ∙ c .if1 .left))
 
--- src/lib.rt:111:1
 returns-2 : tie.Need-returns-2 Inv-loop μ-loop
-returns-2 c = ?
+unfolding varPlace
+returns-2 c = let z : c .before .loop .i ≡ 0 = omega arith in sym (rw z at (c .before .loop .inv .3))
 
 pub find-var-spec : {M : Type 1} → statement M
 find-var-spec =
@@ -121,29 +56,29 @@ find-var-spec =
     (tie.spec
     Inv-loop
     μ-loop
-    mul-start
-    add-start
+    (λ c. search needs)
+    (λ c. search needs)
     loop-holds
-    sub-i
-    mul-slot
-    add-wide
-    mul-wide
-    shared-slice-read-wide
-    wide-requires
-    add-wide-2
-    mul-wide-2
-    shared-slice-read-wide-2
-    wide-requires-2
+    (λ c. search needs)
+    (λ c. search needs)
+    (λ c. search needs)
+    (λ c. search needs)
+    (λ c. search needs)
+    (λ c κs. search needs)
+    (λ c. search needs)
+    (λ c. search needs)
+    (λ c. search needs)
+    (λ c κs. search needs)
     add-start-2
     mul-start-2
     sub-start
-    mul-is-node
-    shared-slice-read-is-node
-    add-is-node
-    mul-is-node-2
-    shared-slice-read-is-node-2
-    is-node-requires
+    (λ c. search needs)
+    (λ c. search needs)
+    (λ c. search needs)
+    (λ c. search needs)
+    (λ c. search needs)
+    (λ c κs. search needs)
     returns
-    loop-less
+    (λ c. search needs)
     loop-again
     returns-2)

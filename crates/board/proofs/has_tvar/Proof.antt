@@ -1,66 +1,40 @@
+use mathlib.Core.Path.{_≡_, refl, sym, _∙_}
+use mathlib.Core.List.{List}
+use Prim.Native.Nat.{_≤_}
+use native.Mathlib.Omega.{arith}
+use borrow.Author.Needs.{needs}
+use Rattle.spelling.specs.declared.Triple.{Triple}
+use Rattle.judgment.specs.Board.{hasTVar}
+use Rattle.board.specs.Board.{entriesOf}
+use Rattle.board.proofs.Finds.{has-turn}
 use Rattle.board.proofs.has_tvar.Statement.{statement}
 use Rattle.board.proofs.has_tvar.Tie as tie
-use Rattle.board.proofs.has_tvar.Reads as reads
-use Rattle.board.proofs.has_tvar.Lts as lts
-use Rattle.types.proofs.is_node.Reads as is-node-reads
 
 abbrev Inv-loop : tie.InvT-loop
-Inv-loop board n k i₀ i = ?
+Inv-loop board n k i₀ i = (i ≤ n) × ((ls : List Triple) → hasTVar k (entriesOf ls board n) ≡ hasTVar k (entriesOf ls board i))
 
 abbrev μ-loop : tie.MeasureT-loop
-μ-loop board n k i₀ i = ?
+μ-loop board n k i₀ i = i
 
--- src/lib.rt:135:5
 loop-holds : tie.Need-loop-holds Inv-loop μ-loop
-loop-holds c = ?
+loop-holds c = (search needs, λ ls. refl)
 
--- src/lib.rt:136:9
-sub-i : tie.Need-sub-i Inv-loop μ-loop
-sub-i c = ?
-
--- src/lib.rt:137:20
-mul-slot : tie.Need-mul-slot Inv-loop μ-loop
-mul-slot c = ?
-
--- src/lib.rt:138:27
-mul-is-node : tie.Need-mul-is-node Inv-loop μ-loop
-mul-is-node c = ?
-
--- src/lib.rt:138:27
-shared-slice-read-is-node : tie.Need-shared-slice-read-is-node Inv-loop μ-loop
-shared-slice-read-is-node c = ?
-
--- src/lib.rt:138:46
-add-is-node : tie.Need-add-is-node Inv-loop μ-loop
-add-is-node c = ?
-
--- src/lib.rt:138:40
-mul-is-node-2 : tie.Need-mul-is-node-2 Inv-loop μ-loop
-mul-is-node-2 c = ?
-
--- src/lib.rt:138:40
-shared-slice-read-is-node-2 : tie.Need-shared-slice-read-is-node-2 Inv-loop μ-loop
-shared-slice-read-is-node-2 c = ?
-
--- src/lib.rt:138:12
-is-node-requires : tie.Need-is-node-requires Inv-loop μ-loop
-is-node-requires c κs = ?
-
--- src/lib.rt:139:13
 returns : tie.Need-returns Inv-loop μ-loop
-returns c = ?
+returns c = λ ls.
+    sym (c .before .before .before .before .before .loop .inv .1 ls
+    ∙ has-turn _ _ (c .before .before .before .before .loop-test .taken) _ (sym (c .before .is-node .ensures) ∙ c .if1 .taken) ls)
 
--- src/lib.rt:135:5
-loop-less : tie.Need-loop-less Inv-loop μ-loop
-loop-less c = ?
-
--- src/lib.rt:135:5
 loop-again : tie.Need-loop-again Inv-loop μ-loop
-loop-again c = ?
+loop-again c = (
+  search needs,
+  λ ls.
+      c .before .before .before .before .before .loop .inv .1 ls
+      ∙ has-turn _ _ (c .before .before .before .before .loop-test .taken) _ (sym (c .before .is-node .ensures) ∙ c .if1 .left) ls,
+)
 
--- src/lib.rt:130:1
 returns-2 : tie.Need-returns-2 Inv-loop μ-loop
-returns-2 c = ?
+unfolding entriesOf
+returns-2 c = λ ls. let z : c .before .loop .i ≡ 0 = omega arith in sym (rw z at (c .before .loop .inv .1 ls))
 
 pub has-tvar-spec : {M : Type 1} → statement M
 has-tvar-spec =
@@ -69,15 +43,15 @@ has-tvar-spec =
     Inv-loop
     μ-loop
     loop-holds
-    sub-i
-    mul-slot
-    mul-is-node
-    shared-slice-read-is-node
-    add-is-node
-    mul-is-node-2
-    shared-slice-read-is-node-2
-    is-node-requires
+    (λ c. search needs)
+    (λ c. search needs)
+    (λ c. search needs)
+    (λ c. search needs)
+    (λ c. search needs)
+    (λ c. search needs)
+    (λ c. search needs)
+    (λ c κs. search needs)
     returns
-    loop-less
+    (λ c. search needs)
     loop-again
     returns-2)

@@ -1,19 +1,23 @@
+use Prim.Native.Nat.{_+_}
+use native.Mathlib.Omega.{arith}
+use borrow.Author.Tests.{lt-ltb, le-ltb, lt-leb}
+use Rattle.nodes.proofs.Laws.{leb-shift}
 use Rattle.board.proofs.Board.fits.Statement.{statement}
 use Rattle.board.proofs.Board.fits.Tie as tie
-use Rattle.board.proofs.Board.fits.Reads as reads
-use Rattle.board.proofs.Board.fits.Lts as lts
 
--- src/lib.rt:39:17
 returns : tie.Need-returns
-returns c = ?
+returns c =
+    let a = c .before .before .before .before .args in
+    rw (lt-ltb (a .self .entries) 512 (c .before .before .if1 .taken)) (leb-shift (a .self .nodes) (a .n) 4096 (c .before .if2 .taken))
 
--- src/lib.rt:34:5
 returns-2 : tie.Need-returns-2
-returns-2 c = ?
+returns-2 c =
+    let a = c .before .before .before .args in
+    let l = c .if2 .left in
+    rw (lt-ltb (a .self .entries) 512 (c .before .if1 .taken), lt-leb (a .self .nodes + a .n) 4096 (omega arith))
 
--- src/lib.rt:34:5
 returns-3 : tie.Need-returns-3
-returns-3 c = ?
+returns-3 c = rw (le-ltb (c .before .before .args .self .entries) 512 (c .if1 .left))
 
 pub fits-spec : {M : Type 1} → statement M
 fits-spec = tie.close (tie.spec returns returns-2 returns-3)

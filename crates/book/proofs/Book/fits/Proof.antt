@@ -2,7 +2,7 @@ use mathlib.Core.Path.{_≡_, sym, _∙_}
 use Prim.Native.Nat.{_+_}
 use native.Mathlib.Omega.{arith}
 use borrow.Author.Tests.{lt-leb}
-use Rattle.book.proofs.Turns.{leb-shift}
+use Rattle.nodes.proofs.Laws.{leb-shift}
 use Rattle.book.proofs.Book.fits.Statement.{statement}
 use Rattle.book.proofs.Book.fits.Tie as tie
 
