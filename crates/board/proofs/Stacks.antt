@@ -1,5 +1,6 @@
 -- What the words of a board hold, and how a push and a pop change that. Assumes nothing.
 use mathlib.Core.Path.{_≡_, refl, sym, ap, _∙_}
+use mathlib.Core.Bool.{true}
 use mathlib.Core.List.{List, [], _∷_, _++_}
 use Prim.Native.Nat.{ℕ, zero, suc, _+_, _*_, _-_, _≤_, _<_}
 use native.Mathlib.Nat.{not-suc-le-zero}
@@ -7,10 +8,13 @@ use native.Mathlib.Numerals.{add-one, towards-suc}
 use native.Mathlib.Omega.{arith}
 use lib.ListN.{length, getD, set, take, drop, length-append}
 use lib.Seq.{sets, length-sets, take-append-seam, drop-append-seam}
+use lib.Dec.{leb, ltb}
+use borrow.Author.Tests.{leb-true, ltb-true}
 use borrow.Author.Count.{below-more}
 use Rattle.nodes.specs.Nodes.{Ty, words, nodesAt}
 use Rattle.nodes.proofs.Laws.{length-words, words-append, length-nodesAt, sets-append, getD-sets-below, getD-sets-above, getD-sets-in, nodesAt-same, nodesAt-agree, take-nodesAt, drop-nodesAt}
 use Rattle.spelling.specs.declared.Triple.{Triple}
+use Rattle.judgment.proofs.TypeLaws.{both}
 use Rattle.judgment.specs.Board.{Entry, entryNodes, boardNodes, Limits, roomFor}
 use Rattle.board.specs.declared.Board.{Board}
 use Rattle.board.specs.Board.{entryOf, word, size, nodesBelow, leftAt, entryAt, entriesOf, Stacked, fitting, laid, grown, topOf}
@@ -193,6 +197,12 @@ unfolding boardNodes
 fits-room ls {w} {b} s L p q e m z =
     let g : m + b .nodes ≡ b .nodes + m = omega arith in
     rw (p, q, z, length-entries ls w (b .entries), nodes-total ls s, g)
+
+-- what `fits` tells
+pub fits-facts : (b : Board) (n : ℕ) → fitting b n ≡ true → (b .entries < 512) × (b .nodes + n ≤ 4096)
+fits-facts b n e =
+    let q = both (ltb (b .entries) 512) (leb (b .nodes + n) 4096) e in
+    (ltb-true (b .entries) 512 (q .0), leb-true (b .nodes + n) 4096 (q .1))
 
 -- ---- a pop
 module _ {w : List ℕ} {b : Board} (s : Stacked w b) (h : 0 < b .entries) where

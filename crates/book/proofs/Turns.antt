@@ -67,14 +67,14 @@ told-none w d v {r} e q = subst (Told w d v) q (told w d v r e)
 
 -- ---- what two calls leave
 module _ (x y : Ty) (n end : ℕ) (o : List ℕ) where
-  fits-told : (m : ℕ) → wrote x n end ≡ Fits m → (n + length x ≤ end) × (m ≡ n + length x)
+  pub fits-told : (m : ℕ) → wrote x n end ≡ Fits m → (n + length x ≤ end) × (m ≡ n + length x)
   fits-told m e = go (leb (n + length x) end) refl e
     where
       go : (c : Bool) → leb (n + length x) end ≡ c → cond c (Fits (n + length x)) Over ≡ Fits m → (n + length x ≤ end) × (m ≡ n + length x)
       go true q e = (leb-true (n + length x) end q, cc)
       go false q e = absurd (true≢false cc)
 
-  over-told : wrote x n end ≡ Over → end < n + length x
+  pub over-told : wrote x n end ≡ Over → end < n + length x
   over-told e = go (leb (n + length x) end) refl e
     where
       go : (c : Bool) → leb (n + length x) end ≡ c → cond c (Fits (n + length x)) Over ≡ Over → end < n + length x

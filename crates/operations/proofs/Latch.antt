@@ -1,0 +1,247 @@
+-- A run that was refused stays; what each operation leaves of one that goes on. Assumes nothing.
+use mathlib.Core.Path.{_≡_, refl, sym, ap, ap₂, _∙_, subst}
+use mathlib.Core.Logic.{_≢_}
+use mathlib.Core.Bool.{Bool, true, false, cond, true≢false, false≢true}
+use mathlib.Core.Option.{Option, none, some}
+use mathlib.Core.List.{List, [], _∷_, _++_}
+use Prim.Native.Nat.{ℕ, zero, suc, _+_, _*_, _-_, _≤_, _<_}
+use native.Mathlib.Numerals.{add-one}
+use native.Mathlib.Omega.{arith}
+use lib.ListN.{length}
+use lib.Dec.{eqb, leb, ltb}
+use Rattle.nodes.specs.Nodes.{Node, node, Ty, nodesAt}
+use Rattle.nodes.proofs.Laws.{length-nodesAt}
+use Rattle.spelling.specs.declared.Triple.{Triple}
+use Rattle.judgment.specs.declared.TypeError.{TypeError}
+use Rattle.judgment.specs.declared.TypeError.the-variants.{BoardFull, TypeTooLong, NoFreshNumber, SolutionsFull}
+use Rattle.judgment.specs.Solutions.{Solution, _≔_, Solutions, find, solutionNodes, writeOut, Free, keys}
+use Rattle.judgment.specs.Board.{Entry, entryNodes, Limits, Rule, done, refuse, fresh, push, solve, zonk, State, state, Outcome, finished, refused, roomFor}
+use Rattle.judgment.specs.Chain.{performO, stays, refuseO, freshO, pushO, solveO, zonkO}
+use Rattle.judgment.specs.Result.{limitsWith}
+use Rattle.judgment.proofs.SolutionLaws.{find-none}
+use Rattle.board.specs.declared.Board.{Board}
+use Rattle.board.specs.Board.{entryOf, entriesOf, Stacked}
+use Rattle.board.specs.Board.{fitting as fitsBoard, laid, grown as boardGrown, PushAsk as BoardAsk}
+use Rattle.board.proofs.Stacks.{laid-entries, laid-stacked, fits-room, fits-facts}
+use Rattle.book.specs.declared.Book.{Book}
+use Rattle.book.specs.Book.{startOf, sols, Booked}
+use Rattle.book.specs.Book.{fitting as fitsBook, given, grown as bookGrown, SolveAsk as BookAsk}
+use Rattle.book.proofs.Holdings.{nodes-count, given-sols, given-booked, start-old}
+use borrow.Author.Tests.{leb-true, ltb-true, lt-ltb, le-ltb}
+use Rattle.operations.specs.declared.Halt.{Halt}
+use Rattle.operations.specs.declared.Halt.the-variants.{Going, Refused}
+use Rattle.operations.specs.declared.Run.{Run}
+use Rattle.operations.specs.State.{reported, outcomeBy, stateOf, outcomeOf, WellFormed, Does, Performs, going, stopped, refusedRun, made, freshRun, withBoard, pushRun, pushWords, Pushes, PushAsk, withBook, solveRun, solveWords, Gives, Solves, SolveAsk}
+
+pub going-is : (h : Halt) → going h ≡ true → h ≡ Going
+going-is Going e = refl
+going-is (Refused x) e = absurd (false≢true e)
+
+-- a refused outcome stays
+refused-stays : (L : Limits) (h : Halt) → going h ≡ false → (rep : List ℕ) (s : State) (p : Rule) → outcomeBy h rep s ≡ performO L p (outcomeBy h rep s)
+refused-stays L Going e rep s p = absurd (true≢false e)
+refused-stays L (Refused x) e rep s p = sym (stays L p x (nodesAt rep 0 (reported x)) s)
+
+module _ {w : ℕ} {b k rep : List ℕ} {c : Run} (f : WellFormed w b k rep c) where
+  -- nothing is done once a run was refused
+  pub stays-does : going (c .halt) ≡ false → (p : List Triple → Rule) → Does w b k rep c p b k rep c
+  stays-does e p = record {
+    kept = f;
+    taken = refl;
+    outcome = λ ls. refused-stays (limitsWith w) (c .halt) e rep (stateOf ls b k c) (p ls);
+  }
+
+  stopped-kept : (e : TypeError) → WellFormed w b k rep (stopped c e)
+  stopped-kept e = record { board = f .board; book = f .book; numbers = f .numbers; unmade = f .unmade; limit = f .limit; report = f .report }
+
+  -- an operation that a run does not pass: p is the rule, e its error
+  stops-does : going (c .halt) ≡ true → (e : TypeError) (p : List Triple → Rule)
+      → ((ls : List Triple) → refused e (nodesAt rep 0 (reported e)) (stateOf ls b k c) ≡ performO (limitsWith w) (p ls) (finished (stateOf ls b k c)))
+      → Does w b k rep c p b k rep (stopped c e)
+  stops-does g e p q = record {
+    kept = stopped-kept e;
+    taken = refl;
+    outcome = λ ls. q ls ∙ ap (λ (h : Halt). performO (limitsWith w) (p ls) (outcomeBy h rep (stateOf ls b k c))) (sym (going-is (c .halt) g));
+  }
+
+  pub refuse-does : going (c .halt) ≡ true → (e : TypeError) → Does w b k rep c (λ ls. refuse e (nodesAt rep 0 (reported e))) b k rep (stopped c e)
+  unfolding refuseO
+  refuse-does g e = stops-does g e (λ ls. refuse e (nodesAt rep 0 (reported e))) (λ ls. refl)
+
+  -- ---- a fresh number
+  pub fresh-stops : going (c .halt) ≡ true → ltb (c .fresh) 1000 ≡ false → Does w b k rep c (λ ls. fresh (λ n. done)) b k rep (stopped c NoFreshNumber)
+  unfolding freshO nodesAt
+  fresh-stops g e = stops-does g NoFreshNumber (λ ls. fresh (λ n. done)) (λ ls. rw e)
+
+  pub fresh-does : going (c .halt) ≡ true → ltb (c .fresh) 1000 ≡ true → Does w b k rep c (λ ls. fresh (λ n. done)) b k rep (made c)
+  unfolding freshO
+  fresh-does g e = record {
+    kept = record {
+      board = f .board;
+      book = f .book;
+      numbers = let l = ltb-true (c .fresh) 1000 e in omega arith;
+      unmade = λ j h. f .unmade j (omega arith);
+      limit = f .limit;
+      report = f .report;
+    };
+    taken = refl;
+    outcome = λ ls. rw (going-is (c .halt) g, e, add-one (c .fresh));
+  }
+
+  -- ---- a push
+  module _ (kind number : ℕ) (t u : Ty) (counts : (ls : List Triple) → entryNodes (entryOf ls kind number t u) ≡ length t + length u) (g : going (c .halt) ≡ true) where
+    abbrev entry : List Triple → Entry
+    entry ls = entryOf ls kind number t u
+
+    abbrev n : ℕ
+    n = length t + length u
+
+    pub push-stops : fitsBoard (c .board) n ≡ false → Does w b k rep c (λ ls. push (entry ls) done) b k rep (stopped c BoardFull)
+    unfolding pushO nodesAt
+    push-stops e = stops-does g BoardFull (λ ls. push (entry ls) done) (λ ls. rw (fits-room ls (f .board) (limitsWith w) refl refl (entry ls) n (counts ls), e))
+
+    pub push-does : fitsBoard (c .board) n ≡ true → Does w b k rep c (λ ls. push (entry ls) done) (laid b (c .board) kind number t u) k rep (withBoard c (boardGrown (c .board) n))
+    unfolding pushO
+    push-does e =
+        let few = fits-facts (c .board) n e .0 in
+        let fits = fits-facts (c .board) n e .1 in
+        record {
+          kept = record {
+            board = laid-stacked (f .board) kind number t u few fits counts;
+            book = f .book;
+            numbers = f .numbers;
+            unmade = f .unmade;
+            limit = f .limit;
+            report = f .report;
+          };
+          taken = refl;
+          outcome = λ ls.
+              rw (going-is (c .halt) g, fits-room ls (f .board) (limitsWith w) refl refl (entry ls) n (counts ls), e, laid-entries (f .board) kind number t u few fits ls);
+        }
+
+  -- ---- a solution
+  module _ (x : ℕ) (t : Ty) (some : 0 < length t) (s : Solves k c x t) (g : going (c .halt) ≡ true) where
+    none-yet : find x (sols k) ≡ none
+    none-yet = find-none (sols k) x (s .unsolved)
+
+    used : solutionNodes (sols k) ≡ c .book .nodes
+    used = let q = nodes-count k (2000 + 2 * c .book .nodes) 2000 (sols k) (f .book .holds) in omega arith
+
+    pub solve-stops : fitsBook (c .book) (length t) ≡ false → Does w b k rep c (λ ls. solve x t done) b k rep (stopped c SolutionsFull)
+    unfolding solveO nodesAt
+    solve-stops e = stops-does g SolutionsFull (λ ls. solve x t done) (λ ls. rw (none-yet, used, e))
+
+    pub solve-does : fitsBook (c .book) (length t) ≡ true → Does w b k rep c (λ ls. solve x t done) b (given k (c .book) x t) rep (withBook c (bookGrown (c .book) (length t)))
+    unfolding solveO
+    solve-does e =
+        let small : x < 1000 = let l = s .made in let m = f .numbers in omega arith in
+        let fits : c .book .nodes + length t ≤ 4096 = leb-true (c .book .nodes + length t) 4096 e in
+        let q = given-sols k (c .book) x t (f .book) small fits some (s .unsolved) in
+        record {
+          kept = record {
+            board = f .board;
+            book = given-booked k (c .book) x t (f .book) small fits some (s .unsolved) (s .free);
+            numbers = f .numbers;
+            unmade = λ j h l.
+                let m = s .made in
+                let r = f .book .room in
+                let o = start-old k (c .book) x t small (omega arith) j l (omega arith) in
+                let v = f .unmade j h l in
+                omega arith;
+            limit = f .limit;
+            report = f .report;
+          };
+          taken = refl;
+          outcome = λ ls. rw (going-is (c .halt) g, none-yet, used, e, q);
+        }
+
+-- ---- what the functions return
+refused-run : (c : Run) (e : TypeError) → going (c .halt) ≡ true → refusedRun c e ≡ stopped c e
+refused-run c e g = rw g
+
+module _ (c : Run) (g : going (c .halt) ≡ false) where
+  pub refuse-stays : (e : TypeError) → (c ≡ refusedRun c e) × Performs c (λ rep ls. refuse e (nodesAt rep 0 (reported e))) c
+  refuse-stays e = (rw g refl, λ w b k rep f. stays-does f g (λ ls. refuse e (nodesAt rep 0 (reported e))))
+
+  pub fresh-stays : (c ≡ freshRun c) × Performs c (λ rep ls. fresh (λ n. done)) c
+  fresh-stays = (rw g refl, λ w b k rep f. stays-does f g (λ ls. fresh (λ n. done)))
+
+  pub solve-stays : (k : List ℕ) (x : ℕ) (t : Ty) → Gives k c x t k c
+  solve-stays k x t = (rw g refl, rw g refl, λ w b rep f. stays-does f g (λ ls. solve x t done))
+
+module _ (c : Run) (g : going (c .halt) ≡ true) where
+  pub refuse-returns : (e : TypeError) → (stopped c e ≡ refusedRun c e) × Performs c (λ rep ls. refuse e (nodesAt rep 0 (reported e))) (stopped c e)
+  refuse-returns e = (rw g refl, λ w b k rep f. refuse-does f g e)
+
+  pub fresh-returns : c .fresh < 1000 → (made c ≡ freshRun c) × Performs c (λ rep ls. fresh (λ n. done)) (made c)
+  fresh-returns l =
+      let e = lt-ltb (c .fresh) 1000 l in
+      (rw (g, e) refl, λ w b k rep f. fresh-does f g e)
+
+  pub fresh-refuses : (r : Run) → 1000 ≤ c .fresh → r ≡ refusedRun c NoFreshNumber → (r ≡ freshRun c) × Performs c (λ rep ls. fresh (λ n. done)) r
+  fresh-refuses r l q =
+      let e = le-ltb (c .fresh) 1000 l in
+      rw (q, g, e) (refl, λ w b k rep f. fresh-stops f g e)
+
+module _ {c : Run} {b : List ℕ} {kind number : ℕ} {l : List ℕ} {la ln : ℕ} {r : List ℕ} {ra rn : ℕ} (a : PushAsk b c kind number l la ln r ra rn) where
+  abbrev t : Ty
+  t = nodesAt l la ln
+
+  abbrev u : Ty
+  u = nodesAt r ra rn
+
+  abbrev pushed : List Triple → Entry
+  pushed ls = entryOf ls kind number t u
+
+  sizes : ln + rn ≡ length t + length u
+  sizes = ap₂ (λ (x y : ℕ). x + y) (sym (length-nodesAt l la ln)) (sym (length-nodesAt r ra rn))
+
+  counted : (ls : List Triple) → entryNodes (pushed ls) ≡ length t + length u
+  counted ls = a .counts ls ∙ sizes
+
+  pub push-stays : going (c .halt) ≡ false → Pushes b c kind number t u pushed b c
+  push-stays g = (rw g refl, rw g refl, λ w k rep f. stays-does f g (λ ls. push (pushed ls) done))
+
+  pub push-asks : fitsBoard (c .board) (ln + rn) ≡ true → BoardAsk b (c .board) l la ln r ra rn
+  push-asks e =
+      let q = fits-facts (c .board) (ln + rn) e in
+      record { room = a .board .room; few = q .0; fits = q .1; left = a .left; right = a .right }
+
+  pub push-returns : {b' : List ℕ} {d : Board} → going (c .halt) ≡ true → fitsBoard (c .board) (ln + rn) ≡ true → (b' ≡ laid b (c .board) kind number t u) × (d ≡ boardGrown (c .board) (ln + rn))
+      → Pushes b c kind number t u pushed b' (withBoard c d)
+  push-returns g e q =
+      let f : fitsBoard (c .board) (length t + length u) ≡ true = subst (λ (m : ℕ). fitsBoard (c .board) m ≡ true) sizes e in
+      rw (q .0, q .1, sizes) (rw (g, f) refl, rw (g, f) refl, λ w k rep h. push-does h kind number t u counted g f)
+
+  pub push-refuses : {p : Run} → going (c .halt) ≡ true → fitsBoard (c .board) (ln + rn) ≡ false → p ≡ refusedRun c BoardFull → Pushes b c kind number t u pushed b p
+  push-refuses g e q =
+      let f : fitsBoard (c .board) (length t + length u) ≡ false = subst (λ (m : ℕ). fitsBoard (c .board) m ≡ false) sizes e in
+      rw (q ∙ refused-run c BoardFull g) (rw (g, f) refl, rw (g, f) refl, λ w k rep h. push-stops h kind number t u counted g f)
+
+module _ {k : List ℕ} {c : Run} {x : ℕ} {s : List ℕ} {from n : ℕ} (a : SolveAsk k c x s from n) (g : going (c .halt) ≡ true) where
+  abbrev v : Ty
+  v = nodesAt s from n
+
+  long : n ≡ length v
+  long = sym (length-nodesAt s from n)
+
+  many : 0 < length v
+  many = let z = a .some in omega (arith, long)
+
+  pub solve-asks : fitsBook (c .book) n ≡ true → BookAsk k (c .book) x s from n
+  solve-asks e = record {
+    room = a .book .room;
+    small = let z = a .solves (going-is (c .halt) g) .made in let y = a .numbers in omega arith;
+    fits = leb-true (c .book .nodes + n) 4096 e;
+    within = a .within;
+  }
+
+  pub solve-returns : {k' : List ℕ} {d : Book} → fitsBook (c .book) n ≡ true → (k' ≡ given k (c .book) x v) × (d ≡ bookGrown (c .book) n) → Gives k c x v k' (withBook c d)
+  solve-returns e q =
+      let f : fitsBook (c .book) (length v) ≡ true = subst (λ (m : ℕ). fitsBook (c .book) m ≡ true) long e in
+      rw (q .0, q .1 ∙ ap (bookGrown (c .book)) long) (rw (g, f) refl, rw (g, f) refl, λ w b rep h. solve-does h x v many (a .solves (going-is (c .halt) g)) g f)
+
+  pub solve-refuses : {p : Run} → fitsBook (c .book) n ≡ false → p ≡ refusedRun c SolutionsFull → Gives k c x v k p
+  solve-refuses e q =
+      let f : fitsBook (c .book) (length v) ≡ false = subst (λ (m : ℕ). fitsBook (c .book) m ≡ false) long e in
+      rw (q ∙ refused-run c SolutionsFull g) (rw (g, f) refl, rw (g, f) refl, λ w b rep h. solve-stops h x v many (a .solves (going-is (c .halt) g)) g f)

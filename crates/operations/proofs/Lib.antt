@@ -1,0 +1,4 @@
+pub mod Latch
+pub mod Entries
+pub mod Zonking
+pub mod Then

@@ -1,0 +1,168 @@
+-- One operation, and then the rest of a rule: the proof of a rule in code follows the rule. Assumes nothing.
+use mathlib.Core.Path.{_≡_, refl, sym, ap, ap₂, _∙_, subst}
+use mathlib.Core.Bool.{Bool, true, false, cond, true≢false}
+use mathlib.Core.Option.{Option, none, some}
+use mathlib.Core.List.{List, [], _∷_, _++_}
+use Prim.Native.Nat.{ℕ, zero, suc, _+_, _*_, _≤_}
+use native.Mathlib.Nat.{le-refl, le-trans}
+use native.Mathlib.Omega.{arith}
+use lib.Dec.{ltb, leb}
+use lib.ListN.{length}
+use Rattle.nodes.specs.Nodes.{Ty, nodesAt}
+use Rattle.nodes.proofs.ListLaws.{cond-ind}
+use Rattle.spelling.specs.declared.Triple.{Triple}
+use Rattle.judgment.specs.declared.TypeError.{TypeError}
+use Rattle.judgment.specs.Types.{canUnify}
+use Rattle.judgment.specs.Solutions.{Solution, _≔_, Solutions, find, solutionNodes, writeOut}
+use Rattle.judgment.specs.Board.{Entry, Board as Entries, Limits, Rule, done, refuse, fresh, push, solve, zonk, look, State, state, Outcome, finished, refused, roomFor, solving}
+use Rattle.judgment.specs.Chain.{boardOf, solutionsOf, counterOf, performO, stays, refuseO, freshO, pushO, solveO, zonkO}
+use Rattle.judgment.specs.Result.{limitsWith}
+use Rattle.board.specs.Board.{entriesOf}
+use Rattle.book.specs.Book.{sols}
+use Rattle.operations.specs.declared.Halt.{Halt}
+use Rattle.operations.specs.declared.Halt.the-variants.{Going, Refused}
+use Rattle.operations.specs.declared.Run.{Run}
+use Rattle.operations.specs.declared.Zonked.{Zonked}
+use Rattle.operations.specs.State.{reported, outcomeBy, stateOf, outcomeOf, WellFormed, Does, going, Zonks}
+
+-- ---- what an outcome holds, refused or not
+counter-is : (h : Halt) (rep : List ℕ) (Γ : Entries) (σ : Solutions) (n : ℕ) → counterOf (outcomeBy h rep (state Γ σ n)) ≡ n
+counter-is Going rep Γ σ n = refl
+counter-is (Refused e) rep Γ σ n = refl
+
+board-is : (h : Halt) (rep : List ℕ) (Γ : Entries) (σ : Solutions) (n : ℕ) → boardOf (outcomeBy h rep (state Γ σ n)) ≡ Γ
+board-is Going rep Γ σ n = refl
+board-is (Refused e) rep Γ σ n = refl
+
+solutions-are : (h : Halt) (rep : List ℕ) (Γ : Entries) (σ : Solutions) (n : ℕ) → solutionsOf (outcomeBy h rep (state Γ σ n)) ≡ σ
+solutions-are Going rep Γ σ n = refl
+solutions-are (Refused e) rep Γ σ n = refl
+
+-- rules that are the same where a run goes on
+same-going : (L : Limits) (h : Halt) (rep : List ℕ) (s : State) (p q : Rule) → (h ≡ Going → p ≡ q) → performO L p (outcomeBy h rep s) ≡ performO L q (outcomeBy h rep s)
+same-going L Going rep s p q e = ap (λ (r : Rule). performO L r (finished s)) (e refl)
+same-going L (Refused x) rep s p q e = stays L p x (nodesAt rep 0 (reported x)) s ∙ sym (stays L q x (nodesAt rep 0 (reported x)) s)
+
+pub done-does : {w : ℕ} {b k rep : List ℕ} {c : Run} → WellFormed w b k rep c → Does w b k rep c (λ ls. done) b k rep c
+done-does f = record { kept = f; taken = refl; outcome = λ ls. refl }
+
+module _ {w : ℕ} {b k rep : List ℕ} {c : Run} {b₂ k₂ rep₂ : List ℕ} {c₂ : Run} where
+  -- the same rule by another name, where a run goes on
+  pub does-as : {p q : List Triple → Rule} → (c .halt ≡ Going → (ls : List Triple) → p ls ≡ q ls) → Does w b k rep c p b₂ k₂ rep₂ c₂ → Does w b k rep c q b₂ k₂ rep₂ c₂
+  does-as {p} {q} e d = record {
+    kept = d .kept;
+    taken = d .taken;
+    outcome = λ ls. d .outcome ls ∙ same-going (limitsWith w) (c .halt) rep (stateOf ls b k c) (p ls) (q ls) (λ h. e h ls);
+  }
+
+  -- a look at the board
+  pub look-then : {f : List Triple → Entries → Rule} → Does w b k rep c (λ ls. f ls (entriesOf ls b (c .board .entries))) b₂ k₂ rep₂ c₂ → Does w b k rep c (λ ls. look (f ls)) b₂ k₂ rep₂ c₂
+  look-then {f} d = record {
+    kept = d .kept;
+    taken = d .taken;
+    outcome = λ ls.
+        d .outcome ls
+        ∙ ap (λ (Γ : Entries). performO (limitsWith w) (f ls Γ) (outcomeOf ls b k rep c)) (sym (board-is (c .halt) rep (entriesOf ls b (c .board .entries)) (sols k) (c .fresh)));
+  }
+
+  -- a write-out, and then the rest with the type that it left in the report
+  pub zonk-then : {t : Ty} {to : ℕ} {rep₁ : List ℕ} {z : Zonked} {f : List Triple → Ty → Rule} → WellFormed w b k rep c → Zonks k rep c t to w rep₁ z
+      → Does w b k rep₁ (z .run) (λ ls. f ls (nodesAt rep₁ (2 * to) (z .nodes))) b₂ k₂ rep₂ c₂ → Does w b k rep c (λ ls. zonk t (f ls)) b₂ k₂ rep₂ c₂
+  zonk-then {t} {to} {rep₁} {z} {f} h q d =
+      let e = q .does b h in
+      record {
+        kept = d .kept;
+        taken = d .taken ∙ e .taken;
+        outcome = λ ls.
+            d .outcome ls
+            ∙ same-going (limitsWith w) (z .run .halt) rep₁ (stateOf ls b k (z .run)) (f ls (nodesAt rep₁ (2 * to) (z .nodes))) (f ls (writeOut (sols k) t)) (λ g. ap (f ls) (q .nodes g))
+            ∙ ap₂ (λ (σ : Solutions) (o : Outcome). performO (limitsWith w) (f ls (writeOut σ t)) o)
+            (sym (solutions-are (c .halt) rep (entriesOf ls b (c .board .entries)) (sols k) (c .fresh))) (e .outcome ls);
+      }
+
+  module _ {b₁ k₁ rep₁ : List ℕ} {c₁ : Run} where
+    -- the operations of p, and then those of q
+    pub does-then : {p q r : List Triple → Rule} → Does w b k rep c p b₁ k₁ rep₁ c₁ → Does w b₁ k₁ rep₁ c₁ q b₂ k₂ rep₂ c₂
+        → ((ls : List Triple) → performO (limitsWith w) (r ls) (outcomeOf ls b k rep c) ≡ performO (limitsWith w) (q ls) (performO (limitsWith w) (p ls) (outcomeOf ls b k rep c)))
+        → Does w b k rep c r b₂ k₂ rep₂ c₂
+    does-then {p} {q} {r} d e h = record {
+      kept = e .kept;
+      taken = e .taken ∙ d .taken;
+      outcome = λ ls. e .outcome ls ∙ ap (performO (limitsWith w) (q ls)) (d .outcome ls) ∙ sym (h ls);
+    }
+
+    pub push-then : {e : List Triple → Entry} {p : List Triple → Rule} → Does w b k rep c (λ ls. push (e ls) done) b₁ k₁ rep₁ c₁
+        → Does w b₁ k₁ rep₁ c₁ p b₂ k₂ rep₂ c₂ → Does w b k rep c (λ ls. push (e ls) (p ls)) b₂ k₂ rep₂ c₂
+    push-then {e} {p} x y = does-then {p = λ ls. push (e ls) done} {q = p} {r = λ ls. push (e ls) (p ls)} x y (λ ls. refl)
+
+    pub solve-then : {j : ℕ} {t : Ty} {p : List Triple → Rule} → Does w b k rep c (λ ls. solve j t done) b₁ k₁ rep₁ c₁
+        → Does w b₁ k₁ rep₁ c₁ p b₂ k₂ rep₂ c₂ → Does w b k rep c (λ ls. solve j t (p ls)) b₂ k₂ rep₂ c₂
+    solve-then {j} {t} {p} x y = does-then {p = λ ls. solve j t done} {q = p} {r = λ ls. solve j t (p ls)} x y (λ ls. refl)
+
+    pub fresh-then : {f : List Triple → ℕ → Rule} → Does w b k rep c (λ ls. fresh (λ n. done)) b₁ k₁ rep₁ c₁
+        → Does w b₁ k₁ rep₁ c₁ (λ ls. f ls (c .fresh)) b₂ k₂ rep₂ c₂ → Does w b k rep c (λ ls. fresh (f ls)) b₂ k₂ rep₂ c₂
+    fresh-then {f} x y =
+        does-then {p = λ ls. fresh (λ n. done)} {q = λ ls. f ls (c .fresh)} {r = λ ls. fresh (f ls)} x y
+        (λ ls. ap (λ (n : ℕ). performO (limitsWith w) (f ls n) (freshO (limitsWith w) (outcomeOf ls b k rep c))) (counter-is (c .halt) rep (entriesOf ls b (c .board .entries)) (sols k) (c .fresh)))
+
+-- ---- what every rule leaves
+-- an outcome that goes on
+abbrev goes : Outcome → Bool
+goes (finished s) = true
+goes (refused e ts s) = false
+
+goes-is : (h : Halt) (rep : List ℕ) (s : State) → goes (outcomeBy h rep s) ≡ going h
+goes-is Going rep s = refl
+goes-is (Refused e) rep s = refl
+
+goes-back : (L : Limits) (p : Rule) (o : Outcome) → goes (performO L p o) ≡ true → goes o ≡ true
+goes-back L p (finished s) e = refl
+goes-back L p (refused x ts s) e = absurd (true≢false (sym e ∙ ap goes (stays L p x ts s)))
+
+-- a run that goes on after a rule went on before it
+pub alive : {w : ℕ} {b k rep : List ℕ} {c : Run} {p : List Triple → Rule} {b' k' rep' : List ℕ} {r : Run} → Does w b k rep c p b' k' rep' r → going (r .halt) ≡ true → going (c .halt) ≡ true
+alive {w} {b} {k} {rep} {c} {p} {b'} {k'} {rep'} {r} d g =
+    sym (goes-is (c .halt) rep (stateOf [] b k c))
+    ∙ goes-back (limitsWith w) (p []) (outcomeOf [] b k rep c) (ap goes (sym (d .outcome [])) ∙ goes-is (r .halt) rep' (stateOf [] b' k' r) ∙ g)
+
+-- the counter never falls
+counter-grows : (L : Limits) (p : Rule) (o : Outcome) → counterOf o ≤ counterOf (performO L p o)
+unfolding refuseO freshO pushO solveO zonkO
+counter-grows L done o = le-refl (counterOf o)
+counter-grows L (refuse r ts) (finished (state Γ σ n)) = le-refl n
+counter-grows L (refuse r ts) (refused x us (state Γ σ n)) = le-refl n
+counter-grows L (fresh f) o = le-trans (one o) (counter-grows L (f (counterOf o)) (freshO L o))
+  where
+    one : (o : Outcome) → counterOf o ≤ counterOf (freshO L o)
+    one (finished (state Γ σ n)) =
+        cond-ind (λ (x : Outcome). n ≤ counterOf x) (ltb n (L .numbers)) (λ _. omega arith) (λ _. le-refl n)
+    one (refused x us (state Γ σ n)) = le-refl n
+counter-grows L (push e p) o = le-trans (one o) (counter-grows L p (pushO L e o))
+  where
+    one : (o : Outcome) → counterOf o ≤ counterOf (pushO L e o)
+    one (finished (state Γ σ n)) = cond-ind (λ (x : Outcome). n ≤ counterOf x) (roomFor L e Γ) (λ _. le-refl n) (λ _. le-refl n)
+    one (refused x us (state Γ σ n)) = le-refl n
+counter-grows L (solve k t p) o = le-trans (one o) (counter-grows L p (solveO L k t o))
+  where
+    by : (m : Option Ty) (n : ℕ) (x y z : Outcome) → n ≤ counterOf x → n ≤ counterOf y → n ≤ counterOf z → n ≤ counterOf (solving m t x y z)
+    by none n x y z a c d = a
+    by (some u) n x y z a c d = cond-ind (λ (x : Outcome). n ≤ counterOf x) (canUnify t u) (λ _. c) (λ _. d)
+
+    one : (o : Outcome) → counterOf o ≤ counterOf (solveO L k t o)
+    one (finished (state Γ σ n)) =
+        by (find k σ) n _ _ _ (cond-ind (λ (x : Outcome). n ≤ counterOf x) (leb (solutionNodes σ + length t) (L .solved)) (λ _. le-refl n) (λ _. le-refl n)) (le-refl n) (le-refl n)
+    one (refused x us (state Γ σ n)) = le-refl n
+counter-grows L (zonk t f) o = le-trans (one o) (counter-grows L (f (writeOut (solutionsOf o) t)) (zonkO L t o))
+  where
+    one : (o : Outcome) → counterOf o ≤ counterOf (zonkO L t o)
+    one (finished (state Γ σ n)) = cond-ind (λ (x : Outcome). n ≤ counterOf x) (leb (length (writeOut σ t)) (L .written)) (λ _. le-refl n) (λ _. le-refl n)
+    one (refused x us (state Γ σ n)) = le-refl n
+counter-grows L (look f) o = counter-grows L (f (boardOf o)) o
+
+pub grows : {w : ℕ} {b k rep : List ℕ} {c : Run} {p : List Triple → Rule} {b' k' rep' : List ℕ} {r : Run} → Does w b k rep c p b' k' rep' r → c .fresh ≤ r .fresh
+grows {w} {b} {k} {rep} {c} {p} {b'} {k'} {rep'} {r} d =
+    let h = counter-grows (limitsWith w) (p []) (outcomeOf [] b k rep c) in
+    let x = counter-is (c .halt) rep (entriesOf [] b (c .board .entries)) (sols k) (c .fresh) in
+    let y = ap counterOf (d .outcome []) in
+    let z = counter-is (r .halt) rep' (entriesOf [] b' (r .board .entries)) (sols k') (r .fresh) in
+    omega arith

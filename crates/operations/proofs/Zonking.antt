@@ -1,0 +1,114 @@
+-- What a write-out leaves. Assumes nothing.
+use mathlib.Core.Path.{_≡_, refl, sym, ap, ap₂, _∙_, subst}
+use mathlib.Core.Bool.{Bool, true, false, cond, true≢false}
+use mathlib.Core.List.{List, [], _∷_, _++_}
+use Prim.Native.Nat.{ℕ, zero, suc, _+_, _*_, _-_, _≤_, _<_}
+use native.Mathlib.Omega.{arith}
+use lib.ListN.{length, take}
+use lib.Seq.{sets, length-sets, take-all}
+use lib.Dec.{leb}
+use borrow.Author.Tests.{le-leb, lt-leb}
+use Rattle.nodes.specs.Nodes.{Ty, words, nodesAt}
+use Rattle.nodes.proofs.Laws.{nodesAt-same}
+use Rattle.spelling.specs.declared.Triple.{Triple}
+use Rattle.judgment.specs.declared.TypeError.the-variants.{TypeTooLong}
+use Rattle.judgment.specs.Solutions.{writeOut}
+use Rattle.judgment.specs.Board.{Rule, done, zonk, State, state, Outcome, finished, refused}
+use Rattle.judgment.specs.Chain.{performO, zonkO}
+use Rattle.judgment.specs.Result.{limitsWith}
+use Rattle.book.specs.declared.Book.{Book}
+use Rattle.book.specs.declared.Wrote.{Wrote}
+use Rattle.book.specs.declared.Wrote.the-variants.{Fits, Over}
+use Rattle.book.specs.Book.{sols, Booked, WriteAsk, wrote, writtenTo}
+use Rattle.book.proofs.Turns.{fits-told, over-told}
+use Rattle.operations.specs.declared.Halt.{Halt}
+use Rattle.operations.specs.declared.Halt.the-variants.{Going, Refused}
+use Rattle.operations.specs.declared.Run.{Run}
+use Rattle.operations.specs.declared.Zonked.{Zonked}
+use Rattle.operations.specs.State.{reported, outcomeBy, stateOf, outcomeOf, WellFormed, Does, going, stopped, refusedRun, zonkBy, zonkRun, zonkWords, ZonkAsk, Zonks}
+use Rattle.operations.proofs.Latch.{going-is, stays-does}
+
+module _ {k : List ℕ} {c : Run} {s : List ℕ} {at n : ℕ} {rep : List ℕ} {to w : ℕ} (a : ZonkAsk k c s at n rep to w) where
+  abbrev t : Ty
+  t = nodesAt s at n
+
+  abbrev T : Ty
+  T = writeOut (sols k) t
+
+  -- what the function returns
+  abbrev Returns : List ℕ → Zonked → Type 0
+  Returns rep' z = (z ≡ zonkRun c T to w) × (rep' ≡ zonkWords rep c T to w) × Zonks k rep c t to w rep' z
+
+  pub zonk-asks : WriteAsk s at n k rep to (to + w)
+  zonk-asks = record { within = a .within; book = (c .book, a .book); room = a .room; most = omega arith }
+
+  pub zonk-end : {r : Wrote} {end : ℕ} → r ≡ wrote T to (to + w) → r ≡ Fits end → to ≤ end
+  zonk-end {end = end} p e = let z = fits-told T [] to (to + w) rep end (sym p ∙ e) .1 in omega arith
+
+  pub zonk-stays : going (c .halt) ≡ false → Returns rep (record { run = c; nodes = 0 })
+  zonk-stays g = (
+    rw g refl,
+    rw g refl,
+    record {
+      does = λ b f. stays-does f g (λ ls. zonk t (λ _. done));
+      nodes = λ e. absurd (true≢false (ap going (sym e) ∙ g));
+      within = let r = a .room in omega arith;
+    },
+  )
+
+  -- the report, written to
+  module _ {rep' : List ℕ} (q : rep' ≡ writtenTo T to (to + w) rep) (g : going (c .halt) ≡ true) where
+    same-length : length rep' ≡ length rep
+    same-length = ap length q ∙ length-sets rep (2 * to) (words (take (to + w - to) T))
+
+    moved : {b : List ℕ} (h : Halt) → WellFormed w b k rep c → WellFormed w b k rep' (record { taken = c .taken; fresh = c .fresh; board = c .board; book = c .book; halt = h })
+    moved h f = record {
+      board = f .board;
+      book = f .book;
+      numbers = f .numbers;
+      unmade = f .unmade;
+      limit = f .limit;
+      report = let r = f .report in omega (arith, same-length);
+    }
+
+    pub zonk-fits : {r : Wrote} {end : ℕ} → r ≡ wrote T to (to + w) → r ≡ Fits end → Returns rep' (record { run = c; nodes = end - to })
+    unfolding zonkO
+    zonk-fits {end = end} p e =
+        let m = fits-told T [] to (to + w) rep end (sym p ∙ e) in
+        let few : length T ≤ w = let z = m .0 in omega arith in
+        let long : end - to ≡ length T = let z = m .1 in omega arith in (
+          rw (g, sym p ∙ e) refl,
+          rw g q,
+          record {
+            does = λ b f. record {
+              kept = moved (c .halt) f;
+              taken = refl;
+              outcome = λ ls. rw (going-is (c .halt) g, le-leb (length T) w few);
+            };
+            nodes = λ _.
+                let r = a .room in
+                ap₂ (λ (x : List ℕ) (y : ℕ). nodesAt x (2 * to) y) (q ∙ ap (λ (x : Ty). sets rep (2 * to) (words x)) (take-all (to + w - to) T (omega arith))) long
+                ∙ nodesAt-same T rep (2 * to) (omega arith);
+            within = let r = a .room in omega (arith, same-length);
+          },
+        )
+
+    pub zonk-over : {r : Wrote} {d : Run} → r ≡ wrote T to (to + w) → r ≡ Over → d ≡ refusedRun c TypeTooLong → Returns rep' (record { run = d; nodes = 0 })
+    unfolding zonkO nodesAt
+    zonk-over p e u =
+        let m = over-told T [] to (to + w) rep (sym p ∙ e) in
+        let many : w < length T = omega arith in
+        let v : refusedRun c TypeTooLong ≡ stopped c TypeTooLong = rw g in
+        rw (u ∙ v) (
+          rw (g, sym p ∙ e) refl,
+          rw g q,
+          record {
+            does = λ b f. record {
+              kept = moved (Refused TypeTooLong) f;
+              taken = refl;
+              outcome = λ ls. rw (going-is (c .halt) g, lt-leb (length T) w many);
+            };
+            nodes = λ z. absurd (true≢false (ap going (sym z)));
+            within = let r = a .room in omega (arith, same-length);
+          },
+        )

@@ -1,0 +1,18 @@
+use mathlib.Core.Path.{_≡_, sym, _∙_}
+use Rattle.operations.proofs.Latch.{fresh-returns, fresh-refuses, fresh-stays}
+use borrow.Author.Needs.{needs}
+use Rattle.operations.proofs.fresh_evar.Statement.{statement}
+use Rattle.operations.proofs.fresh_evar.Tie as tie
+
+returns : tie.Need-returns
+returns c = fresh-returns _ (sym (c .before .before .before .before .is-going .ensures) ∙ c .before .before .before .if1 .taken) (c .before .before .if2 .taken)
+
+returns-2 : tie.Need-returns-2
+returns-2 c = fresh-refuses _ (sym (c .before .before .before .is-going .ensures) ∙ c .before .before .if1 .taken) _ (c .before .if2 .left) (c .refuse .ensures .0)
+
+returns-3 : tie.Need-returns-3
+returns-3 c = fresh-stays _ (sym (c .before .is-going .ensures) ∙ c .if1 .left)
+
+pub fresh-evar-spec : {M : Type 1} → statement M
+fresh-evar-spec =
+    tie.close (tie.spec (λ c κs. search needs) (λ c. search needs) (λ c. search needs) returns (λ c κs. search needs) returns-2 returns-3)

@@ -1,0 +1,168 @@
+-- What the words of board, book and report and a run's counters stand for, and what an operation leaves of them. Assumes nothing: these are definitions.
+use mathlib.Core.Path.{_≡_}
+use mathlib.Core.Bool.{Bool, true, false, cond}
+use mathlib.Core.List.{List, [], _∷_, _++_}
+use Prim.Native.Nat.{ℕ, zero, suc, _+_, _*_, _-_, _≤_, _<_}
+use lib.ListN.{length}
+use lib.Dec.{eqb, leb, ltb}
+use Rattle.nodes.specs.Nodes.{Node, node, Ty, nodesAt}
+use Rattle.nodes.specs.Lists.{All}
+use Rattle.spelling.specs.declared.Triple.{Triple}
+use Rattle.judgment.specs.declared.TypeError.{TypeError}
+use Rattle.judgment.specs.declared.TypeError.the-variants.{UnboundVariable, UnboundDataConstructor, NotAFunction, ArityMismatch, SubtypingError, TypeUnificationError, InstantiationError, IntrinsicArityMismatch, UnknownIntrinsic, BoardFull, TypeTooLong, NoFreshNumber, SolutionsFull}
+use Rattle.judgment.specs.Solutions.{writeOut, Free, keys}
+use Rattle.judgment.specs.Board.{Entry, entryNodes, Rule, done, refuse, fresh, push, solve, zonk, State, state, Outcome, finished, refused}
+use Rattle.judgment.specs.Chain.{performO}
+use Rattle.judgment.specs.Result.{limitsWith}
+use Rattle.board.specs.declared.Board.{Board}
+use Rattle.board.specs.Board.{entryOf, entriesOf, Stacked}
+use Rattle.board.specs.Board.{fitting as fitsBoard, laid, grown as boardGrown}
+use Rattle.book.specs.declared.Book.{Book}
+use Rattle.book.specs.declared.Wrote.{Wrote}
+use Rattle.book.specs.declared.Wrote.the-variants.{Fits, Over}
+use Rattle.book.specs.Book.{startOf, sols, Booked, wrote, writtenTo}
+use Rattle.book.specs.Book.{fitting as fitsBook, given, grown as bookGrown}
+use Rattle.operations.specs.declared.Halt.{Halt}
+use Rattle.operations.specs.declared.Halt.the-variants.{Going, Refused}
+use Rattle.operations.specs.declared.Run.{Run}
+use Rattle.operations.specs.declared.Zonked.{Zonked}
+
+-- ---- what a state in words stands for
+-- how many nodes of types an error reports; they stand at the front of the report
+abbrev pub reported : TypeError → ℕ
+reported (UnboundVariable x) = 0
+reported (UnboundDataConstructor x) = 0
+reported (NotAFunction n) = n
+reported (ArityMismatch e a) = 0
+reported (SubtypingError l r) = l + r
+reported TypeUnificationError = 0
+reported (InstantiationError k n) = n
+reported (IntrinsicArityMismatch a) = 0
+reported (UnknownIntrinsic x) = 0
+reported BoardFull = 0
+reported TypeTooLong = 0
+reported NoFreshNumber = 0
+reported SolutionsFull = 0
+
+abbrev pub outcomeBy : Halt → List ℕ → State → Outcome
+outcomeBy Going rep s = finished s
+outcomeBy (Refused e) rep s = refused e (nodesAt rep 0 (reported e)) s
+
+abbrev pub stateOf : List Triple → List ℕ → List ℕ → Run → State
+stateOf ls b k c = state (entriesOf ls b (c .board .entries)) (sols k) (c .fresh)
+
+abbrev pub outcomeOf : List Triple → List ℕ → List ℕ → List ℕ → Run → Outcome
+outcomeOf ls b k rep c = outcomeBy (c .halt) rep (stateOf ls b k c)
+
+-- Kept by every operation, also after a refusal: b, k and rep are the words of board, book and report, and w is the limit of a write-out.
+pub record WellFormed (w : ℕ) (b k rep : List ℕ) (c : Run) : Type 0 where
+  pub board : Stacked b (c .board)
+  pub book : Booked k (c .book)
+  pub numbers : c .fresh ≤ 1000
+  pub unmade : (j : ℕ) → c .fresh ≤ j → j < 1000 → startOf k j < 2000  -- a number that is not made has no solution
+  pub limit : w ≤ 4096
+  pub report : 4 * w ≤ length rep
+
+-- what code that performs a rule leaves
+pub record Does (w : ℕ) (b k rep : List ℕ) (c : Run) (p : List Triple → Rule) (b' k' rep' : List ℕ) (r : Run) : Type 0 where
+  pub kept : WellFormed w b' k' rep' r
+  pub taken : r .taken ≡ c .taken
+  pub outcome : (ls : List Triple) → outcomeOf ls b' k' rep' r ≡ performO (limitsWith w) (p ls) (outcomeOf ls b k rep c)
+
+-- code that changes none of the buffers; only the board; only the book
+abbrev pub Performs : Run → (List ℕ → List Triple → Rule) → Run → Type 0
+Performs c p r = (w : ℕ) (b k rep : List ℕ) → WellFormed w b k rep c → Does w b k rep c (p rep) b k rep r
+
+abbrev pub PerformsOnBoard : List ℕ → Run → (List Triple → Rule) → List ℕ → Run → Type 0
+PerformsOnBoard b c p b' r = (w : ℕ) (k rep : List ℕ) → WellFormed w b k rep c → Does w b k rep c p b' k rep r
+
+abbrev pub PerformsOnBook : List ℕ → Run → (List Triple → Rule) → List ℕ → Run → Type 0
+PerformsOnBook k c p k' r = (w : ℕ) (b rep : List ℕ) → WellFormed w b k rep c → Does w b k rep c p b k' rep r
+
+-- ---- the operations on words: a refused run stays as it is
+abbrev pub going : Halt → Bool
+going Going = true
+going (Refused e) = false
+
+abbrev pub stopped : Run → TypeError → Run
+stopped c e = record { taken = c .taken; fresh = c .fresh; board = c .board; book = c .book; halt = Refused e }
+
+abbrev pub refusedRun : Run → TypeError → Run
+refusedRun c e = cond (going (c .halt)) (stopped c e) c
+
+abbrev pub made : Run → Run
+made c = record { taken = c .taken; fresh = c .fresh + 1; board = c .board; book = c .book; halt = c .halt }
+
+abbrev pub freshRun : Run → Run
+freshRun c = cond (going (c .halt)) (cond (ltb (c .fresh) 1000) (made c) (stopped c NoFreshNumber)) c
+
+abbrev pub withBoard : Run → Board → Run
+withBoard c b = record { taken = c .taken; fresh = c .fresh; board = b; book = c .book; halt = c .halt }
+
+-- a push of an entry of n nodes
+abbrev pub pushRun : Run → ℕ → Run
+pushRun c n = cond (going (c .halt)) (cond (fitsBoard (c .board) n) (withBoard c (boardGrown (c .board) n)) (stopped c BoardFull)) c
+
+abbrev pub pushWords : List ℕ → Run → ℕ → ℕ → Ty → Ty → List ℕ
+pushWords b c kind number t u =
+    cond (going (c .halt)) (cond (fitsBoard (c .board) (length t + length u)) (laid b (c .board) kind number t u) b) b
+
+-- what a push of the entry e leaves, on the board as one of that kind and number with the types t and u
+abbrev pub Pushes : List ℕ → Run → ℕ → ℕ → Ty → Ty → (List Triple → Entry) → List ℕ → Run → Type 0
+Pushes b c kind number t u e b' r =
+    (r ≡ pushRun c (length t + length u)) × (b' ≡ pushWords b c kind number t u) × PerformsOnBoard b c (λ ls. push (e ls) done) b' r
+
+pub record PushAsk (b : List ℕ) (c : Run) (kind number : ℕ) (l : List ℕ) (la ln : ℕ) (r : List ℕ) (ra rn : ℕ) : Type 0 where
+  pub board : Stacked b (c .board)
+  pub left : la + 2 * ln ≤ length l
+  pub right : ra + 2 * rn ≤ length r
+  pub counts : (ls : List Triple) → entryNodes (entryOf ls kind number (nodesAt l la ln) (nodesAt r ra rn)) ≡ ln + rn
+
+abbrev pub withBook : Run → Book → Run
+withBook c b = record { taken = c .taken; fresh = c .fresh; board = c .board; book = b; halt = c .halt }
+
+-- a solution of n nodes
+abbrev pub solveRun : Run → ℕ → Run
+solveRun c n = cond (going (c .halt)) (cond (fitsBook (c .book) n) (withBook c (bookGrown (c .book) n)) (stopped c SolutionsFull)) c
+
+abbrev pub solveWords : List ℕ → Run → ℕ → Ty → List ℕ
+solveWords k c x t = cond (going (c .halt)) (cond (fitsBook (c .book) (length t)) (given k (c .book) x t) k) k
+
+-- what giving x the solution t leaves
+abbrev pub Gives : List ℕ → Run → ℕ → Ty → List ℕ → Run → Type 0
+Gives k c x t k' r = (r ≡ solveRun c (length t)) × (k' ≡ solveWords k c x t) × PerformsOnBook k c (λ ls. solve x t done) k' r
+
+-- an unknown that was made and is not solved, and a type with neither it nor a solved one
+pub record Solves (k : List ℕ) (c : Run) (x : ℕ) (t : Ty) : Type 0 where
+  pub made : x < c .fresh
+  pub unsolved : Free (keys (sols k)) (node 17 x)
+  pub free : All (Free (x ∷ keys (sols k))) t
+
+pub record SolveAsk (k : List ℕ) (c : Run) (x : ℕ) (s : List ℕ) («from» n : ℕ) : Type 0 where
+  pub book : Booked k (c .book)
+  pub numbers : c .fresh ≤ 1000
+  pub some : 0 < n
+  pub within : «from» + 2 * n ≤ length s
+  pub solves : c .halt ≡ Going → Solves k c x (nodesAt s «from» n)
+
+-- a write-out to node `to` of the report
+abbrev pub zonkBy : Wrote → Run → ℕ → Zonked
+zonkBy (Fits n) c to = record { run = c; nodes = n - to }
+zonkBy Over c to = record { run = stopped c TypeTooLong; nodes = 0 }
+
+abbrev pub zonkRun : Run → Ty → ℕ → ℕ → Zonked
+zonkRun c t to w = cond (going (c .halt)) (zonkBy (wrote t to (to + w)) c to) (record { run = c; nodes = 0 })
+
+abbrev pub zonkWords : List ℕ → Run → Ty → ℕ → ℕ → List ℕ
+zonkWords rep c t to w = cond (going (c .halt)) (writtenTo t to (to + w) rep) rep
+
+pub record ZonkAsk (k : List ℕ) (c : Run) (s : List ℕ) (at n : ℕ) (rep : List ℕ) (to w : ℕ) : Type 0 where
+  pub book : Booked k (c .book)
+  pub within : at + 2 * n ≤ length s
+  pub room : 2 * (to + w) ≤ length rep
+
+-- what a write-out of t leaves: the outcome, and the type where it did not refuse
+pub record Zonks (k rep : List ℕ) (c : Run) (t : Ty) (to w : ℕ) (rep' : List ℕ) (z : Zonked) : Type 0 where
+  pub does : (b : List ℕ) → WellFormed w b k rep c → Does w b k rep c (λ ls. zonk t (λ _. done)) b k rep' (z .run)
+  pub nodes : z .run .halt ≡ Going → nodesAt rep' (2 * to) (z .nodes) ≡ writeOut (sols k) t
+  pub within : 2 * (to + z .nodes) ≤ length rep'
