@@ -177,7 +177,7 @@ module _ (w : List ℕ) (room : 10192 ≤ length w) where
   abbrev empty : List ℕ
   empty = sets w 0 (bookWords [])
 
-  zero-at : (j : ℕ) → j < 10192 → getD empty j 0 ≡ 0
+  pub zero-at : (j : ℕ) → j < 10192 → getD empty j 0 ≡ 0
   unfolding zeros
   zero-at j l =
       let e : 0 + j ≡ j = omega arith in

@@ -2,3 +2,4 @@ pub mod Latch
 pub mod Entries
 pub mod Zonking
 pub mod Then
+pub mod Start

@@ -8,22 +8,23 @@ use native.Mathlib.Nat.{le-refl, le-trans}
 use native.Mathlib.Omega.{arith}
 use lib.Dec.{ltb, leb}
 use lib.ListN.{length}
-use Rattle.nodes.specs.Nodes.{Ty, nodesAt}
+use Rattle.nodes.specs.Nodes.{node, Ty, nodesAt}
 use Rattle.nodes.proofs.ListLaws.{cond-ind}
 use Rattle.spelling.specs.declared.Triple.{Triple}
-use Rattle.judgment.specs.declared.TypeError.{TypeError}
+use Rattle.judgment.specs.declared.TypeError.the-variants.{NoFreshNumber}
 use Rattle.judgment.specs.Types.{canUnify}
-use Rattle.judgment.specs.Solutions.{Solution, _≔_, Solutions, find, solutionNodes, writeOut}
+use Rattle.judgment.specs.Solutions.{Solution, _≔_, Solutions, find, solutionNodes, writeOut, Free, keys}
 use Rattle.judgment.specs.Board.{Entry, Board as Entries, Limits, Rule, done, refuse, fresh, push, solve, zonk, look, State, state, Outcome, finished, refused, roomFor, solving}
 use Rattle.judgment.specs.Chain.{boardOf, solutionsOf, counterOf, performO, stays, refuseO, freshO, pushO, solveO, zonkO}
 use Rattle.judgment.specs.Result.{limitsWith}
 use Rattle.board.specs.Board.{entriesOf}
 use Rattle.book.specs.Book.{sols}
+use Rattle.book.proofs.Holdings.{free-of}
 use Rattle.operations.specs.declared.Halt.{Halt}
 use Rattle.operations.specs.declared.Halt.the-variants.{Going, Refused}
 use Rattle.operations.specs.declared.Run.{Run}
 use Rattle.operations.specs.declared.Zonked.{Zonked}
-use Rattle.operations.specs.State.{reported, outcomeBy, stateOf, outcomeOf, WellFormed, Does, going, Zonks}
+use Rattle.operations.specs.State.{reported, outcomeBy, stateOf, outcomeOf, WellFormed, Does, going, stopped, made, freshRun, Zonks}
 
 -- ---- what an outcome holds, refused or not
 counter-is : (h : Halt) (rep : List ℕ) (Γ : Entries) (σ : Solutions) (n : ℕ) → counterOf (outcomeBy h rep (state Γ σ n)) ≡ n
@@ -166,3 +167,16 @@ grows {w} {b} {k} {rep} {c} {p} {b'} {k'} {rep'} {r} d =
     let y = ap counterOf (d .outcome []) in
     let z = counter-is (r .halt) rep' (entriesOf [] b' (r .board .entries)) (sols k') (r .fresh) in
     omega arith
+
+-- ---- fresh numbers
+-- a number that is not made is none of the solved unknowns
+pub unmade-free : {w : ℕ} {b k rep : List ℕ} {c : Run} → WellFormed w b k rep c → (j : ℕ) → c .fresh ≤ j → Free (keys (sols k)) (node 17 j)
+unmade-free {k = k} {c = c} f j h = free-of k (c .book) j (f .book) (λ l. f .unmade j h l)
+
+pub fresh-made : (c r : Run) → r ≡ freshRun c → going (r .halt) ≡ true → r .fresh ≡ c .fresh + 1
+fresh-made c r e g = by (going (c .halt)) refl (ltb (c .fresh) 1000) refl
+  where
+    by : (x : Bool) → going (c .halt) ≡ x → (y : Bool) → ltb (c .fresh) 1000 ≡ y → r .fresh ≡ c .fresh + 1
+    by true p true q = let z : r ≡ made c = e ∙ rw (p, q) in ap (λ (d : Run). d .fresh) z
+    by true p false q = let z : r ≡ stopped c NoFreshNumber = e ∙ rw (p, q) in absurd (true≢false (sym g ∙ ap (λ (d : Run). going (d .halt)) z))
+    by false p y q = let z : r ≡ c = e ∙ rw p in absurd (true≢false (sym g ∙ ap (λ (d : Run). going (d .halt)) z ∙ p))

@@ -1,0 +1,115 @@
+// Every operation on real buffers: what stands in them afterwards is written out, word by word.
+ghost use mathlib.Core.Path.{_≡_};
+ghost use Prim.Native.Nat.{_≤_};
+ghost use lib.ListN.{length};
+ghost use Rattle.operations.specs.State.{WellFormed, Does};
+ghost use Rattle.operations_run.specs.Script.{script as scriptRule};
+use board::Board;
+use board::clear_board;
+use book::Book;
+use book::clear_book;
+use io::print_decimal;
+use io::write_all;
+use judgment::TypeError;
+use nodes::clear_words;
+use nodes::wide;
+use operations::Halt;
+use operations::Run;
+use operations::fresh_evar;
+use operations::is_going;
+use operations::push_sub;
+use operations::push_tvar;
+use operations::push_var;
+use operations::refuse;
+use operations::solve_evar;
+use operations::zonk;
+
+fn script(board: &mut [u32], book: &mut [u32], report: &mut [u32], c: Run) -> Run
+    requires { ⌜ WellFormed 1024 (now board) (now book) (now report) c ⌝ }
+    ensures { λ r. ⌜ Does 1024 (now (board .entry)) (now (book .entry)) (now (report .entry)) c (λ ls. scriptRule) (now (board .exit)) (now (book .exit)) (now (report .exit)) r ⌝ }
+{
+    let a = c.fresh;
+    let c1 = fresh_evar(c);
+    let b = c1.fresh;
+    let c2 = fresh_evar(c1);
+    let types = [17u32, a, 13, 0, 17, b, 17, b];
+    let c3 = push_tvar(board, c2, 17, a);
+    let c4 = push_sub(board, c3, &types, 0, 1, &types, 2, 3);
+    let c5 = solve_evar(book, c4, a, &types, 2, 3);
+    let z = zonk(book, c5, &types, 0, 1, report, 0, 1024);
+    let c6 = z.run;
+    let n = z.nodes;
+    push_var(board, c6, 10, report, 0, n)
+}
+
+fn number(n: usize) {
+    let _done = print_decimal(1, n as u64);
+}
+
+// Writes out the place and the value of each word that is not 0.
+fn words(w: &[u32]) {
+    let mut i = 0;
+    while i < w.len() {
+        let x = wide(w[i]);
+        if x != 0 {
+            number(i);
+            let _space = write_all(1, b" ");
+            number(x);
+            let _end = write_all(1, b"\n");
+        }
+        i += 1;
+    }
+}
+
+// Writes out the counters, and whether the run goes on.
+fn counters(c: Run) {
+    let board = c.board;
+    let book = c.book;
+    let halt = c.halt;
+    number(wide(c.fresh));
+    let _one = write_all(1, b" ");
+    number(board.entries);
+    let _two = write_all(1, b" ");
+    number(board.nodes);
+    let _three = write_all(1, b" ");
+    number(book.nodes);
+    let _four = write_all(1, b" ");
+    number(is_going(halt) as usize);
+    let _end = write_all(1, b"\n");
+}
+
+// All that stands in the buffers and the counters.
+fn show(board: &[u32], book: &[u32], report: &[u32], c: Run) {
+    counters(c);
+    words(board);
+    words(book);
+    words(report);
+}
+
+fn run(board: &mut [u32], book: &mut [u32], report: &mut [u32])
+    requires { ⌜ (16384 ≤ length (now board)) × (10192 ≤ length (now book)) × (4096 ≤ length (now report)) ⌝ }
+{
+    clear_board(board);
+    clear_book(book);
+    clear_words(report, 0, 4096);
+    let start = Run {
+        taken: 0,
+        fresh: 0,
+        board: Board::new(),
+        book: Book::new(),
+        halt: Halt::Going,
+    };
+    let c1 = script(board, book, report, start);
+    let c2 = script(board, book, report, c1);
+    show(board, book, report, c2);
+    let c3 = refuse(c2, TypeError::BoardFull);
+    let c4 = script(board, book, report, c3);
+    show(board, book, report, c4);
+}
+
+fn main() {
+    let mut board = [7u32; 16386];
+    let mut book = [7u32; 10194];
+    let mut report = [7u32; 4097];
+    run(&mut board, &mut book, &mut report);
+}
