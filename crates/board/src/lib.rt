@@ -9,10 +9,10 @@ ghost use Rattle.spelling.specs.declared.Triple.{Triple};
 ghost use Rattle.judgment.specs.Board.{hasTVar, before as isBefore};
 ghost use Rattle.judgment.specs.Result.{boardWords};
 ghost use Rattle.board.specs.Board.{entriesOf, Stacked, fitting, laid, grown, PushAsk, topOf, varPlace};
+use core_types::is_node;
 use nodes::clear_words;
 use nodes::copy_nodes;
 use nodes::wide;
-use types::is_node;
 
 // How many entries stand on the board, and how many nodes their types have.
 pub struct Board {

@@ -1,0 +1,215 @@
+// Types on words: what the rules ask of them, and the two substitutions (worklist.rs).
+ghost use mathlib.Core.Path.{_≡_};
+ghost use Prim.Native.Nat.{ℕ, _+_, _*_, _-_, _≤_, _<_};
+ghost use lib.ListN.{length};
+ghost use lib.Seq.{sets};
+ghost use Rattle.nodes.specs.Nodes.{node, nodeParts};
+ghost use Rattle.judgment.specs.Types.{isNode as nodeIs, eqTy, first, occurs as occursIn, isMonotype, substitute as substituted, frontNames, renameNode};
+ghost use Rattle.nodes.specs.Nodes.{words, nodesAt};
+ghost use Rattle.core_types.specs.Walk.{substituting};
+ghost use mathlib.Core.List.{[]};
+ghost use Rattle.core_types.specs.Names.{namesAt, pairs, numberOf, renaming};
+use nodes::wide;
+
+// A node is of this kind and number.
+pub fn is_node(kind: u32, number: u32, k: u32, v: u32) -> bool
+    ensures { λ r. ⌜ r ≡ nodeIs kind number (node k v) ⌝ }
+{
+    if kind == k {
+        return number == v;
+    }
+    false
+}
+
+// How many types follow a node.
+pub fn node_parts(kind: u32, number: u32) -> u32
+    ensures { λ r. ⌜ r ≡ nodeParts (node kind number) ⌝ }
+{
+    if kind == 13 {
+        return 2;
+    }
+    if kind == 14 {
+        return 1;
+    }
+    if kind == 15 {
+        return 2;
+    }
+    if kind == 16 {
+        return number;
+    }
+    0
+}
+
+// The unknown k occurs in the n nodes at word `at` of t.
+pub fn occurs_check(t: &[u32], at: usize, n: usize, k: u32) -> bool
+    requires { ⌜ at + 2 * n ≤ length (now t) ⌝ }
+    ensures { λ r. ⌜ r ≡ occursIn k (nodesAt (now (t .entry)) at n) ⌝ }
+{
+    let mut p = at;
+    let mut left = n;
+    while 0 < left {
+        if is_node(17, k, t[p], t[p + 1]) {
+            return true;
+        }
+        p += 2;
+        left -= 1;
+    }
+    false
+}
+
+// No quantifier stands in the n nodes at word `at` of t.
+pub fn is_monotype(t: &[u32], at: usize, n: usize) -> bool
+    requires { ⌜ at + 2 * n ≤ length (now t) ⌝ }
+    ensures { λ r. ⌜ r ≡ isMonotype (nodesAt (now (t .entry)) at n) ⌝ }
+{
+    let mut p = at;
+    let mut left = n;
+    while 0 < left {
+        if t[p] == 14 {
+            return false;
+        }
+        p += 2;
+        left -= 1;
+    }
+    true
+}
+
+// The two types are one and the same.
+pub fn same_type(l: &[u32], la: usize, ln: usize, r: &[u32], ra: usize, rn: usize) -> bool
+    requires { ⌜ (la + 2 * ln ≤ length (now l)) × (ra + 2 * rn ≤ length (now r)) ⌝ }
+    ensures { λ b. ⌜ b ≡ eqTy (nodesAt (now (l .entry)) la ln) (nodesAt (now (r .entry)) ra rn) ⌝ }
+{
+    let mut p = la;
+    let mut pn = ln;
+    let mut q = ra;
+    let mut qn = rn;
+    while 0 < pn {
+        if qn == 0 {
+            return false;
+        }
+        if is_node(l[p], l[p + 1], r[q], r[q + 1]) {
+            p += 2;
+            pn -= 1;
+            q += 2;
+            qn -= 1;
+        } else {
+            return false;
+        }
+    }
+    qn == 0
+}
+
+// How many of the n nodes at word `at` of src the first type has.
+pub fn first_part(src: &[u32], at: usize, n: usize) -> usize
+    requires { ⌜ (at + 2 * n ≤ length (now src)) × (n ≤ 4096) ⌝ }
+    ensures { λ r. ⌜ r ≡ length (first (nodesAt (now (src .entry)) at n)) ⌝ }
+{
+    let mut pending: usize = 1;
+    let mut i = 0;
+    while i < n {
+        if pending == 0 {
+            return i;
+        }
+        let p = at + 2 * i;
+        pending = pending - 1 + wide(node_parts(src[p], src[p + 1]));
+        i += 1;
+    }
+    i
+}
+
+// One node of a substitution: the answer is how many types after it are left alone.
+fn substitute_node(t: &mut [u32], p: usize, name: u32, kind: u32, number: u32, skip: usize) -> usize
+    requires { ⌜ (p + 2 ≤ length (now t)) × (skip < 1099511627776000) ⌝ }
+    ensures { λ r. ⌜ (r ≤ skip + 4294967296) × ((left : ℕ) → 0 < left → substituting name (node kind number) (now (t .entry)) p left skip ≡ substituting name (node kind number) (now (t .exit)) (p + 2) (left - 1) r) ⌝ }
+{
+    let k = t[p];
+    let v = t[p + 1];
+    if skip != 0 {
+        return skip - 1 + wide(node_parts(k, v));
+    }
+    if is_node(11, name, k, v) {
+        t[p] = kind;
+        t[p + 1] = number;
+        return 0;
+    }
+    if is_node(14, name, k, v) {
+        return 1;
+    }
+    0
+}
+
+// Puts a node for each free variable `name` of the n nodes at word `at`, in place. It leaves the body of a Forall of that name alone.
+pub fn substitute_type(t: &mut [u32], at: usize, n: usize, name: u32, kind: u32, number: u32)
+    requires { ⌜ (at + 2 * n ≤ length (now t)) × (n ≤ 4096) ⌝ }
+    ensures { λ _. ⌜ now (t .exit) ≡ sets (now (t .entry)) at (words (substituted name (node kind number) (nodesAt (now (t .entry)) at n))) ⌝ }
+{
+    let mut skip: usize = 0;
+    let mut p = at;
+    let mut left = n;
+    while 0 < left {
+        skip = substitute_node(t, p, name, kind, number, skip);
+        p += 2;
+        left -= 1;
+    }
+}
+
+// How many quantifiers stand at the front of the n nodes of t.
+pub fn front_count(t: &[u32], n: usize) -> usize
+    requires { ⌜ 2 * n ≤ length (now t) ⌝ }
+    ensures { λ r. ⌜ r ≡ length (frontNames (nodesAt (now (t .entry)) 0 n)) ⌝ }
+{
+    let mut i = 0;
+    while i < n {
+        if t[2 * i] != 14 {
+            return i;
+        }
+        i += 1;
+    }
+    i
+}
+
+// The last of the n names at the front that is `name`: 1 for the first; 0 where none is.
+fn name_index(t: &[u32], n: usize, name: u32) -> usize
+    requires { ⌜ 2 * n ≤ length (now t) ⌝ }
+    ensures { λ r. ⌜ (r ≤ n) × ((a : ℕ) → renameNode (pairs (namesAt (now (t .entry)) 0 n) a []) (node 11 name) ≡ numberOf r a name) ⌝ }
+{
+    let mut i = n;
+    while 0 < i {
+        if t[2 * i - 1] == name {
+            return i;
+        }
+        i -= 1;
+    }
+    0
+}
+
+// One node of a renaming.
+fn rename_node(t: &mut [u32], n: usize, p: usize, base: u32)
+    requires { ⌜ (2 * n ≤ p) × (p + 2 ≤ length (now t)) × (n ≤ 4096) × (base ≤ 1000) ⌝ }
+    ensures { λ _. ⌜ (namesAt (now (t .exit)) 0 n ≡ namesAt (now (t .entry)) 0 n) × ((left : ℕ) → 0 < left → renaming (pairs (namesAt (now (t .entry)) 0 n) base []) (now (t .entry)) p left ≡ renaming (pairs (namesAt (now (t .entry)) 0 n) base []) (now (t .exit)) (p + 2) (left - 1)) ⌝ }
+{
+    if t[p] != 11 {
+        return;
+    }
+    let name = t[p + 1];
+    let i = name_index(t, n, name);
+    if i == 0 {
+        return;
+    }
+    t[p] = 17;
+    t[p + 1] = base + ((i - 1) as u32);
+}
+
+// Puts the unknowns from `base` on for the names of the n quantifiers at the front, in all nodes after those.
+pub fn apply_type_substitutions(t: &mut [u32], n: usize, total: usize, base: u32)
+    requires { ⌜ (n ≤ total) × (2 * total ≤ length (now t)) × (n ≤ 4096) × (base ≤ 1000) ⌝ }
+    ensures { λ _. ⌜ now (t .exit) ≡ renaming (pairs (namesAt (now (t .entry)) 0 n) base []) (now (t .entry)) (2 * n) (total - n) ⌝ }
+{
+    let mut p = 2 * n;
+    let mut left = total - n;
+    while 0 < left {
+        rename_node(t, n, p, base);
+        p += 2;
+        left -= 1;
+    }
+}
