@@ -20,6 +20,21 @@ pub fn copy_nodes(dst: &mut [u32], at: usize, src: &[u32], from: usize, n: usize
     }
 }
 
+// Moves the n nodes at word `from` to the front.
+pub fn move_to_front(t: &mut [u32], from: usize, n: usize)
+    requires { ⌜ from + 2 * n ≤ length (now t) ⌝ }
+    ensures { λ _. ⌜ now (t .exit) ≡ sets (now (t .entry)) 0 (words (nodesAt (now (t .entry)) from n)) ⌝ }
+{
+    let mut i = 0;
+    while i < n {
+        let d = 2 * i;
+        let s = from + d;
+        t[d] = t[s];
+        t[d + 1] = t[s + 1];
+        i += 1;
+    }
+}
+
 // Puts 0 into n words from word `at` on.
 pub fn clear_words(dst: &mut [u32], at: usize, n: usize)
     requires { ⌜ at + n ≤ length (now dst) ⌝ }

@@ -42,7 +42,7 @@ refused-stays : (L : Limits) (h : Halt) → going h ≡ false → (rep : List �
 refused-stays L Going e rep s p = absurd (true≢false e)
 refused-stays L (Refused x) e rep s p = sym (stays L p x (nodesAt rep 0 (reported x)) s)
 
-module _ {w : ℕ} {b k rep : List ℕ} {c : Run} (f : WellFormed w b k rep c) where
+module _ {b k : List ℕ} {c : Run} (f : WellFormed b k c) (w : ℕ) (rep : List ℕ) where
   -- nothing is done once a run was refused
   pub stays-does : going (c .halt) ≡ false → (p : List Triple → Rule) → Does w b k rep c p b k rep c
   stays-does e p = record {
@@ -51,8 +51,8 @@ module _ {w : ℕ} {b k rep : List ℕ} {c : Run} (f : WellFormed w b k rep c) w
     outcome = λ ls. refused-stays (limitsWith w) (c .halt) e rep (stateOf ls b k c) (p ls);
   }
 
-  stopped-kept : (e : TypeError) → WellFormed w b k rep (stopped c e)
-  stopped-kept e = record { board = f .board; book = f .book; numbers = f .numbers; unmade = f .unmade; limit = f .limit; report = f .report }
+  stopped-kept : (e : TypeError) → WellFormed b k (stopped c e)
+  stopped-kept e = record { board = f .board; book = f .book; numbers = f .numbers; unmade = f .unmade }
 
   -- an operation that a run does not pass: p is the rule, e its error
   stops-does : going (c .halt) ≡ true → (e : TypeError) (p : List Triple → Rule)
@@ -81,8 +81,6 @@ module _ {w : ℕ} {b k rep : List ℕ} {c : Run} (f : WellFormed w b k rep c) w
       book = f .book;
       numbers = let l = ltb-true (c .fresh) 1000 e in omega arith;
       unmade = λ j h. f .unmade j (omega arith);
-      limit = f .limit;
-      report = f .report;
     };
     taken = refl;
     outcome = λ ls. rw (going-is (c .halt) g, e, add-one (c .fresh));
@@ -111,8 +109,6 @@ module _ {w : ℕ} {b k rep : List ℕ} {c : Run} (f : WellFormed w b k rep c) w
             book = f .book;
             numbers = f .numbers;
             unmade = f .unmade;
-            limit = f .limit;
-            report = f .report;
           };
           taken = refl;
           outcome = λ ls.
@@ -148,8 +144,6 @@ module _ {w : ℕ} {b k rep : List ℕ} {c : Run} (f : WellFormed w b k rep c) w
                 let o = start-old k (c .book) x t small (omega arith) j l (omega arith) in
                 let v = f .unmade j h l in
                 omega arith;
-            limit = f .limit;
-            report = f .report;
           };
           taken = refl;
           outcome = λ ls. rw (going-is (c .halt) g, none-yet, used, e, q);
@@ -161,27 +155,27 @@ refused-run c e g = rw g
 
 module _ (c : Run) (g : going (c .halt) ≡ false) where
   pub refuse-stays : (e : TypeError) → (c ≡ refusedRun c e) × Performs c (λ rep ls. refuse e (nodesAt rep 0 (reported e))) c
-  refuse-stays e = (rw g refl, λ w b k rep f. stays-does f g (λ ls. refuse e (nodesAt rep 0 (reported e))))
+  refuse-stays e = (rw g refl, λ w b k rep f. stays-does f w rep g (λ ls. refuse e (nodesAt rep 0 (reported e))))
 
   pub fresh-stays : (c ≡ freshRun c) × Performs c (λ rep ls. fresh (λ n. done)) c
-  fresh-stays = (rw g refl, λ w b k rep f. stays-does f g (λ ls. fresh (λ n. done)))
+  fresh-stays = (rw g refl, λ w b k rep f. stays-does f w rep g (λ ls. fresh (λ n. done)))
 
   pub solve-stays : (k : List ℕ) (x : ℕ) (t : Ty) → Gives k c x t k c
-  solve-stays k x t = (rw g refl, rw g refl, λ w b rep f. stays-does f g (λ ls. solve x t done))
+  solve-stays k x t = (rw g refl, rw g refl, λ w b rep f. stays-does f w rep g (λ ls. solve x t done))
 
 module _ (c : Run) (g : going (c .halt) ≡ true) where
   pub refuse-returns : (e : TypeError) → (stopped c e ≡ refusedRun c e) × Performs c (λ rep ls. refuse e (nodesAt rep 0 (reported e))) (stopped c e)
-  refuse-returns e = (rw g refl, λ w b k rep f. refuse-does f g e)
+  refuse-returns e = (rw g refl, λ w b k rep f. refuse-does f w rep g e)
 
   pub fresh-returns : c .fresh < 1000 → (made c ≡ freshRun c) × Performs c (λ rep ls. fresh (λ n. done)) (made c)
   fresh-returns l =
       let e = lt-ltb (c .fresh) 1000 l in
-      (rw (g, e) refl, λ w b k rep f. fresh-does f g e)
+      (rw (g, e) refl, λ w b k rep f. fresh-does f w rep g e)
 
   pub fresh-refuses : (r : Run) → 1000 ≤ c .fresh → r ≡ refusedRun c NoFreshNumber → (r ≡ freshRun c) × Performs c (λ rep ls. fresh (λ n. done)) r
   fresh-refuses r l q =
       let e = le-ltb (c .fresh) 1000 l in
-      rw (q, g, e) (refl, λ w b k rep f. fresh-stops f g e)
+      rw (q, g, e) (refl, λ w b k rep f. fresh-stops f w rep g e)
 
 module _ {c : Run} {b : List ℕ} {kind number : ℕ} {l : List ℕ} {la ln : ℕ} {r : List ℕ} {ra rn : ℕ} (a : PushAsk b c kind number l la ln r ra rn) where
   abbrev t : Ty
@@ -200,7 +194,7 @@ module _ {c : Run} {b : List ℕ} {kind number : ℕ} {l : List ℕ} {la ln : �
   counted ls = a .counts ls ∙ sizes
 
   pub push-stays : going (c .halt) ≡ false → Pushes b c kind number t u pushed b c
-  push-stays g = (rw g refl, rw g refl, λ w k rep f. stays-does f g (λ ls. push (pushed ls) done))
+  push-stays g = (rw g refl, rw g refl, λ w k rep f. stays-does f w rep g (λ ls. push (pushed ls) done))
 
   pub push-asks : fitsBoard (c .board) (ln + rn) ≡ true → BoardAsk b (c .board) l la ln r ra rn
   push-asks e =
@@ -211,12 +205,12 @@ module _ {c : Run} {b : List ℕ} {kind number : ℕ} {l : List ℕ} {la ln : �
       → Pushes b c kind number t u pushed b' (withBoard c d)
   push-returns g e q =
       let f : fitsBoard (c .board) (length t + length u) ≡ true = subst (λ (m : ℕ). fitsBoard (c .board) m ≡ true) sizes e in
-      rw (q .0, q .1, sizes) (rw (g, f) refl, rw (g, f) refl, λ w k rep h. push-does h kind number t u counted g f)
+      rw (q .0, q .1, sizes) (rw (g, f) refl, rw (g, f) refl, λ w k rep h. push-does h w rep kind number t u counted g f)
 
   pub push-refuses : {p : Run} → going (c .halt) ≡ true → fitsBoard (c .board) (ln + rn) ≡ false → p ≡ refusedRun c BoardFull → Pushes b c kind number t u pushed b p
   push-refuses g e q =
       let f : fitsBoard (c .board) (length t + length u) ≡ false = subst (λ (m : ℕ). fitsBoard (c .board) m ≡ false) sizes e in
-      rw (q ∙ refused-run c BoardFull g) (rw (g, f) refl, rw (g, f) refl, λ w k rep h. push-stops h kind number t u counted g f)
+      rw (q ∙ refused-run c BoardFull g) (rw (g, f) refl, rw (g, f) refl, λ w k rep h. push-stops h w rep kind number t u counted g f)
 
 module _ {k : List ℕ} {c : Run} {x : ℕ} {s : List ℕ} {from n : ℕ} (a : SolveAsk k c x s from n) (g : going (c .halt) ≡ true) where
   abbrev v : Ty
@@ -239,9 +233,9 @@ module _ {k : List ℕ} {c : Run} {x : ℕ} {s : List ℕ} {from n : ℕ} (a : S
   pub solve-returns : {k' : List ℕ} {d : Book} → fitsBook (c .book) n ≡ true → (k' ≡ given k (c .book) x v) × (d ≡ bookGrown (c .book) n) → Gives k c x v k' (withBook c d)
   solve-returns e q =
       let f : fitsBook (c .book) (length v) ≡ true = subst (λ (m : ℕ). fitsBook (c .book) m ≡ true) long e in
-      rw (q .0, q .1 ∙ ap (bookGrown (c .book)) long) (rw (g, f) refl, rw (g, f) refl, λ w b rep h. solve-does h x v many (a .solves (going-is (c .halt) g)) g f)
+      rw (q .0, q .1 ∙ ap (bookGrown (c .book)) long) (rw (g, f) refl, rw (g, f) refl, λ w b rep h. solve-does h w rep x v many (a .solves (going-is (c .halt) g)) g f)
 
   pub solve-refuses : {p : Run} → fitsBook (c .book) n ≡ false → p ≡ refusedRun c SolutionsFull → Gives k c x v k p
   solve-refuses e q =
       let f : fitsBook (c .book) (length v) ≡ false = subst (λ (m : ℕ). fitsBook (c .book) m ≡ false) long e in
-      rw (q ∙ refused-run c SolutionsFull g) (rw (g, f) refl, rw (g, f) refl, λ w b rep h. solve-stops h x v many (a .solves (going-is (c .halt) g)) g f)
+      rw (q ∙ refused-run c SolutionsFull g) (rw (g, f) refl, rw (g, f) refl, λ w b rep h. solve-stops h w rep x v many (a .solves (going-is (c .halt) g)) g f)

@@ -14,12 +14,10 @@ use Rattle.operations.specs.State.{WellFormed}
 abbrev pub started : Run
 started = record { taken = 0; fresh = 0; board = record { entries = 0; nodes = 0 }; book = record { nodes = 0 }; halt = Going }
 
-pub start-formed : (w : ℕ) (b k rep : List ℕ) → 12288 ≤ length b → 10192 ≤ length k → w ≤ 4096 → 4 * w ≤ length rep → WellFormed w b (sets k 0 (bookWords [])) rep started
-start-formed w b k rep lb lk l lr = record {
+pub start-formed : (b k : List ℕ) → 12288 ≤ length b → 10192 ≤ length k → WellFormed b (sets k 0 (bookWords [])) started
+start-formed b k lb lk = record {
   board = new-stacked b lb;
   book = new-booked k lk;
   numbers = omega arith;
   unmade = λ j _ i. let z = zero-at k lk (2 * j) (omega arith) in omega arith;
-  limit = l;
-  report = lr;
 }

@@ -44,7 +44,7 @@ same-going : (L : Limits) (h : Halt) (rep : List ℕ) (s : State) (p q : Rule) �
 same-going L Going rep s p q e = ap (λ (r : Rule). performO L r (finished s)) (e refl)
 same-going L (Refused x) rep s p q e = stays L p x (nodesAt rep 0 (reported x)) s ∙ sym (stays L q x (nodesAt rep 0 (reported x)) s)
 
-pub done-does : {w : ℕ} {b k rep : List ℕ} {c : Run} → WellFormed w b k rep c → Does w b k rep c (λ ls. done) b k rep c
+pub done-does : {w : ℕ} {b k rep : List ℕ} {c : Run} → WellFormed b k c → Does w b k rep c (λ ls. done) b k rep c
 done-does f = record { kept = f; taken = refl; outcome = λ ls. refl }
 
 module _ {w : ℕ} {b k rep : List ℕ} {c : Run} {b₂ k₂ rep₂ : List ℕ} {c₂ : Run} where
@@ -67,7 +67,7 @@ module _ {w : ℕ} {b k rep : List ℕ} {c : Run} {b₂ k₂ rep₂ : List ℕ} 
   }
 
   -- a write-out, and then the rest with the type that it left in the report
-  pub zonk-then : {t : Ty} {to : ℕ} {rep₁ : List ℕ} {z : Zonked} {f : List Triple → Ty → Rule} → WellFormed w b k rep c → Zonks k rep c t to w rep₁ z
+  pub zonk-then : {t : Ty} {to : ℕ} {rep₁ : List ℕ} {z : Zonked} {f : List Triple → Ty → Rule} → WellFormed b k c → Zonks k rep c t to w rep₁ z
       → Does w b k rep₁ (z .run) (λ ls. f ls (nodesAt rep₁ (2 * to) (z .nodes))) b₂ k₂ rep₂ c₂ → Does w b k rep c (λ ls. zonk t (f ls)) b₂ k₂ rep₂ c₂
   zonk-then {t} {to} {rep₁} {z} {f} h q d =
       let e = q .does b h in
@@ -170,7 +170,7 @@ grows {w} {b} {k} {rep} {c} {p} {b'} {k'} {rep'} {r} d =
 
 -- ---- fresh numbers
 -- a number that is not made is none of the solved unknowns
-pub unmade-free : {w : ℕ} {b k rep : List ℕ} {c : Run} → WellFormed w b k rep c → (j : ℕ) → c .fresh ≤ j → Free (keys (sols k)) (node 17 j)
+pub unmade-free : {b k : List ℕ} {c : Run} → WellFormed b k c → (j : ℕ) → c .fresh ≤ j → Free (keys (sols k)) (node 17 j)
 unmade-free {k = k} {c = c} f j h = free-of k (c .book) j (f .book) (λ l. f .unmade j h l)
 
 pub fresh-made : (c r : Run) → r ≡ freshRun c → going (r .halt) ≡ true → r .fresh ≡ c .fresh + 1

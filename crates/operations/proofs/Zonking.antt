@@ -50,7 +50,7 @@ module _ {k : List ℕ} {c : Run} {s : List ℕ} {at n : ℕ} {rep : List ℕ} {
     rw g refl,
     rw g refl,
     record {
-      does = λ b f. stays-does f g (λ ls. zonk t (λ _. done));
+      does = λ b f. stays-does f w rep g (λ ls. zonk t (λ _. done));
       nodes = λ e. absurd (true≢false (ap going (sym e) ∙ g));
       within = let r = a .room in omega arith;
     },
@@ -61,14 +61,12 @@ module _ {k : List ℕ} {c : Run} {s : List ℕ} {at n : ℕ} {rep : List ℕ} {
     same-length : length rep' ≡ length rep
     same-length = ap length q ∙ length-sets rep (2 * to) (words (take (to + w - to) T))
 
-    moved : {b : List ℕ} (h : Halt) → WellFormed w b k rep c → WellFormed w b k rep' (record { taken = c .taken; fresh = c .fresh; board = c .board; book = c .book; halt = h })
+    moved : {b : List ℕ} (h : Halt) → WellFormed b k c → WellFormed b k (record { taken = c .taken; fresh = c .fresh; board = c .board; book = c .book; halt = h })
     moved h f = record {
       board = f .board;
       book = f .book;
       numbers = f .numbers;
       unmade = f .unmade;
-      limit = f .limit;
-      report = let r = f .report in omega (arith, same-length);
     }
 
     pub zonk-fits : {r : Wrote} {end : ℕ} → r ≡ wrote T to (to + w) → r ≡ Fits end → Returns rep' (record { run = c; nodes = end - to })

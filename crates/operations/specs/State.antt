@@ -54,30 +54,28 @@ stateOf ls b k c = state (entriesOf ls b (c .board .entries)) (sols k) (c .fresh
 abbrev pub outcomeOf : List Triple → List ℕ → List ℕ → List ℕ → Run → Outcome
 outcomeOf ls b k rep c = outcomeBy (c .halt) rep (stateOf ls b k c)
 
--- Kept by every operation, also after a refusal: b, k and rep are the words of board, book and report, and w is the limit of a write-out.
-pub record WellFormed (w : ℕ) (b k rep : List ℕ) (c : Run) : Type 0 where
+-- Kept by every operation, also after a refusal: b and k are the words of board and book. The report may hold anything.
+pub record WellFormed (b k : List ℕ) (c : Run) : Type 0 where
   pub board : Stacked b (c .board)
   pub book : Booked k (c .book)
   pub numbers : c .fresh ≤ 1000
   pub unmade : (j : ℕ) → c .fresh ≤ j → j < 1000 → startOf k j < 2000  -- a number that is not made has no solution
-  pub limit : w ≤ 4096
-  pub report : 4 * w ≤ length rep
 
--- what code that performs a rule leaves
+-- what code that performs a rule leaves, w being the limit of a write-out
 pub record Does (w : ℕ) (b k rep : List ℕ) (c : Run) (p : List Triple → Rule) (b' k' rep' : List ℕ) (r : Run) : Type 0 where
-  pub kept : WellFormed w b' k' rep' r
+  pub kept : WellFormed b' k' r
   pub taken : r .taken ≡ c .taken
   pub outcome : (ls : List Triple) → outcomeOf ls b' k' rep' r ≡ performO (limitsWith w) (p ls) (outcomeOf ls b k rep c)
 
 -- code that changes none of the buffers; only the board; only the book
 abbrev pub Performs : Run → (List ℕ → List Triple → Rule) → Run → Type 0
-Performs c p r = (w : ℕ) (b k rep : List ℕ) → WellFormed w b k rep c → Does w b k rep c (p rep) b k rep r
+Performs c p r = (w : ℕ) (b k rep : List ℕ) → WellFormed b k c → Does w b k rep c (p rep) b k rep r
 
 abbrev pub PerformsOnBoard : List ℕ → Run → (List Triple → Rule) → List ℕ → Run → Type 0
-PerformsOnBoard b c p b' r = (w : ℕ) (k rep : List ℕ) → WellFormed w b k rep c → Does w b k rep c p b' k rep r
+PerformsOnBoard b c p b' r = (w : ℕ) (k rep : List ℕ) → WellFormed b k c → Does w b k rep c p b' k rep r
 
 abbrev pub PerformsOnBook : List ℕ → Run → (List Triple → Rule) → List ℕ → Run → Type 0
-PerformsOnBook k c p k' r = (w : ℕ) (b rep : List ℕ) → WellFormed w b k rep c → Does w b k rep c p b k' rep r
+PerformsOnBook k c p k' r = (w : ℕ) (b rep : List ℕ) → WellFormed b k c → Does w b k rep c p b k' rep r
 
 -- ---- the operations on words: a refused run stays as it is
 abbrev pub going : Halt → Bool
@@ -163,6 +161,6 @@ pub record ZonkAsk (k : List ℕ) (c : Run) (s : List ℕ) (at n : ℕ) (rep : L
 
 -- what a write-out of t leaves: the outcome, and the type where it did not refuse
 pub record Zonks (k rep : List ℕ) (c : Run) (t : Ty) (to w : ℕ) (rep' : List ℕ) (z : Zonked) : Type 0 where
-  pub does : (b : List ℕ) → WellFormed w b k rep c → Does w b k rep c (λ ls. zonk t (λ _. done)) b k rep' (z .run)
+  pub does : (b : List ℕ) → WellFormed b k c → Does w b k rep c (λ ls. zonk t (λ _. done)) b k rep' (z .run)
   pub nodes : z .run .halt ≡ Going → nodesAt rep' (2 * to) (z .nodes) ≡ writeOut (sols k) t
   pub within : 2 * (to + z .nodes) ≤ length rep'

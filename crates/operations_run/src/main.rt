@@ -25,7 +25,7 @@ use operations::solve_evar;
 use operations::zonk;
 
 fn script(board: &mut [u32], book: &mut [u32], report: &mut [u32], c: Run) -> Run
-    requires { ⌜ WellFormed 1024 (now board) (now book) (now report) c ⌝ }
+    requires { ⌜ WellFormed (now board) (now book) c × (2048 ≤ length (now report)) ⌝ }
     ensures { λ r. ⌜ Does 1024 (now (board .entry)) (now (book .entry)) (now (report .entry)) c (λ ls. scriptRule) (now (board .exit)) (now (book .exit)) (now (report .exit)) r ⌝ }
 {
     let a = c.fresh;

@@ -19,24 +19,27 @@ use Rattle.operations_run.proofs.script.Tie as tie
 
 push-tvar-requires : tie.Need-push-tvar-requires
 push-tvar-requires c κs =
-    let D1 = c .before .before .fresh-evar .ensures .1 1024 _ _ _ (c .before .before .before .before .before .before .pre) in
-    let D2 = c .before .fresh-evar2 .ensures .1 1024 _ _ _ (D1 .kept) in
+    let R = now (c .before .before .before .before .before .before .args .report) in
+    let D1 = c .before .before .fresh-evar .ensures .1 1024 _ _ R (c .before .before .before .before .before .before .pre .0) in
+    let D2 = c .before .fresh-evar2 .ensures .1 1024 _ _ R (D1 .kept) in
     (D2 .kept .board, omega arith)
 
 push-sub-requires : tie.Need-push-sub-requires
 push-sub-requires c κs =
-    let D1 = c .before .before .before .before .before .before .before .before .fresh-evar .ensures .1 1024 _ _ _ (c .before .before .before .before .before .before .before .before .before .before .before .before .pre) in
-    let D2 = c .before .before .before .before .before .before .before .fresh-evar2 .ensures .1 1024 _ _ _ (D1 .kept) in
-    let D3 = c .before .before .before .before .before .push-tvar .ensures .2 1024 _ _ (D2 .kept) in
+    let R = now (c .before .before .before .before .before .before .before .before .before .before .before .before .args .report) in
+    let D1 = c .before .before .before .before .before .before .before .before .fresh-evar .ensures .1 1024 _ _ R (c .before .before .before .before .before .before .before .before .before .before .before .before .pre .0) in
+    let D2 = c .before .before .before .before .before .before .before .fresh-evar2 .ensures .1 1024 _ _ R (D1 .kept) in
+    let D3 = c .before .before .before .before .before .push-tvar .ensures .2 1024 _ R (D2 .kept) in
     (D3 .kept .board, search needs, search needs)
 
 solve-evar-requires : tie.Need-solve-evar-requires
 unfolding nodesAt
 solve-evar-requires c κs =
-    let D1 = c .before .before .before .before .before .before .before .before .before .before .before .before .before .fresh-evar .ensures .1 1024 _ _ _ (c .before .before .before .before .before .before .before .before .before .before .before .before .before .before .before .before .before .pre) in
-    let D2 = c .before .before .before .before .before .before .before .before .before .before .before .before .fresh-evar2 .ensures .1 1024 _ _ _ (D1 .kept) in
-    let D3 = c .before .before .before .before .before .before .before .before .before .before .push-tvar .ensures .2 1024 _ _ (D2 .kept) in
-    let D4 = c .before .before .before .before .push-sub .ensures .2 1024 _ _ (D3 .kept) in
+    let R = now (c .before .before .before .before .before .before .before .before .before .before .before .before .before .before .before .before .before .args .report) in
+    let D1 = c .before .before .before .before .before .before .before .before .before .before .before .before .before .fresh-evar .ensures .1 1024 _ _ R (c .before .before .before .before .before .before .before .before .before .before .before .before .before .before .before .before .before .pre .0) in
+    let D2 = c .before .before .before .before .before .before .before .before .before .before .before .before .fresh-evar2 .ensures .1 1024 _ _ R (D1 .kept) in
+    let D3 = c .before .before .before .before .before .before .before .before .before .before .push-tvar .ensures .2 1024 _ R (D2 .kept) in
+    let D4 = c .before .before .before .before .push-sub .ensures .2 1024 _ R (D3 .kept) in
     record {
       book = D4 .kept .book;
       numbers = D4 .kept .numbers;
@@ -53,31 +56,33 @@ solve-evar-requires c κs =
           let l4 : c .before .before .before .before .before .before .before .before .before .before .push-tvar .result .fresh ≤ c .before .before .before .before .push-sub .result .fresh = grows D4 in
           let n : a < b = omega arith in
           let u : a < c .before .before .before .before .push-sub .result .fresh = omega arith in
-          let x = unmade-free (c .before .before .before .before .before .before .before .before .before .before .before .before .before .before .before .before .before .pre) b (le-of-lt n) in
+          let x = unmade-free (c .before .before .before .before .before .before .before .before .before .before .before .before .before .before .before .before .before .pre .0) b (le-of-lt n) in
           let y : eqb a b ≡ false = ne-eqb a b (λ e. (let z : a < b = n in omega arith)) in
           record {
             made = u;
-            unsolved = unmade-free (c .before .before .before .before .before .before .before .before .before .before .before .before .before .before .before .before .before .pre) a (le-refl a);
+            unsolved = unmade-free (c .before .before .before .before .before .before .before .before .before .before .before .before .before .before .before .before .before .pre .0) a (le-refl a);
             free = (free-kind (a ∷ keys (sols (now (c .before .before .before .before .before .before .before .before .before .before .before .before .before .before .before .before .before .args .book)))) 13 0 (λ e. omega arith), ((y, x), ((y, x), tt)));
           };
     }
 
 zonk-requires : tie.Need-zonk-requires
 zonk-requires c κs =
-    let D1 = c .before .before .before .before .before .before .before .before .before .before .before .before .before .before .before .before .before .before .before .fresh-evar .ensures .1 1024 _ _ _ (c .before .before .before .before .before .before .before .before .before .before .before .before .before .before .before .before .before .before .before .before .before .before .before .pre) in
-    let D2 = c .before .before .before .before .before .before .before .before .before .before .before .before .before .before .before .before .before .before .fresh-evar2 .ensures .1 1024 _ _ _ (D1 .kept) in
-    let D3 = c .before .before .before .before .before .before .before .before .before .before .before .before .before .before .before .before .push-tvar .ensures .2 1024 _ _ (D2 .kept) in
-    let D4 = c .before .before .before .before .before .before .before .before .before .before .push-sub .ensures .2 1024 _ _ (D3 .kept) in
-    let D5 = c .before .before .before .before .before .solve-evar .ensures .2 1024 _ _ (D4 .kept) in
-    record { book = D5 .kept .book; within = search needs; room = let r = D5 .kept .report in omega arith }
+    let R = now (c .before .before .before .before .before .before .before .before .before .before .before .before .before .before .before .before .before .before .before .before .before .before .before .args .report) in
+    let D1 = c .before .before .before .before .before .before .before .before .before .before .before .before .before .before .before .before .before .before .before .fresh-evar .ensures .1 1024 _ _ R (c .before .before .before .before .before .before .before .before .before .before .before .before .before .before .before .before .before .before .before .before .before .before .before .pre .0) in
+    let D2 = c .before .before .before .before .before .before .before .before .before .before .before .before .before .before .before .before .before .before .fresh-evar2 .ensures .1 1024 _ _ R (D1 .kept) in
+    let D3 = c .before .before .before .before .before .before .before .before .before .before .before .before .before .before .before .before .push-tvar .ensures .2 1024 _ R (D2 .kept) in
+    let D4 = c .before .before .before .before .before .before .before .before .before .before .push-sub .ensures .2 1024 _ R (D3 .kept) in
+    let D5 = c .before .before .before .before .before .solve-evar .ensures .2 1024 _ R (D4 .kept) in
+    record { book = D5 .kept .book; within = search needs; room = let r = c .before .before .before .before .before .before .before .before .before .before .before .before .before .before .before .before .before .before .before .before .before .before .before .pre .1 in omega arith }
 
 push-var-requires : tie.Need-push-var-requires
 push-var-requires c κs =
-    let D1 = c .before .before .before .before .before .before .before .before .before .before .before .before .before .before .before .before .before .before .before .before .before .before .before .before .before .fresh-evar .ensures .1 1024 _ _ _ (c .before .before .before .before .before .before .before .before .before .before .before .before .before .before .before .before .before .before .before .before .before .before .before .before .before .before .before .before .before .pre) in
-    let D2 = c .before .before .before .before .before .before .before .before .before .before .before .before .before .before .before .before .before .before .before .before .before .before .before .before .fresh-evar2 .ensures .1 1024 _ _ _ (D1 .kept) in
-    let D3 = c .before .before .before .before .before .before .before .before .before .before .before .before .before .before .before .before .before .before .before .before .before .before .push-tvar .ensures .2 1024 _ _ (D2 .kept) in
-    let D4 = c .before .before .before .before .before .before .before .before .before .before .before .before .before .before .before .before .push-sub .ensures .2 1024 _ _ (D3 .kept) in
-    let D5 = c .before .before .before .before .before .before .before .before .before .before .before .solve-evar .ensures .2 1024 _ _ (D4 .kept) in
+    let R = now (c .before .before .before .before .before .before .before .before .before .before .before .before .before .before .before .before .before .before .before .before .before .before .before .before .before .before .before .before .before .args .report) in
+    let D1 = c .before .before .before .before .before .before .before .before .before .before .before .before .before .before .before .before .before .before .before .before .before .before .before .before .before .fresh-evar .ensures .1 1024 _ _ R (c .before .before .before .before .before .before .before .before .before .before .before .before .before .before .before .before .before .before .before .before .before .before .before .before .before .before .before .before .before .pre .0) in
+    let D2 = c .before .before .before .before .before .before .before .before .before .before .before .before .before .before .before .before .before .before .before .before .before .before .before .before .fresh-evar2 .ensures .1 1024 _ _ R (D1 .kept) in
+    let D3 = c .before .before .before .before .before .before .before .before .before .before .before .before .before .before .before .before .before .before .before .before .before .before .push-tvar .ensures .2 1024 _ R (D2 .kept) in
+    let D4 = c .before .before .before .before .before .before .before .before .before .before .before .before .before .before .before .before .push-sub .ensures .2 1024 _ R (D3 .kept) in
+    let D5 = c .before .before .before .before .before .before .before .before .before .before .before .solve-evar .ensures .2 1024 _ R (D4 .kept) in
     let Z = c .before .before .before .before .before .zonk .ensures .2 in
     let D6 = Z .does _ (D5 .kept) in
     (D6 .kept .board, let z = Z .within in omega arith)
@@ -94,11 +99,12 @@ same-length-3 c = c .before .before .before .before .before .before .before .bef
 returns : tie.Need-returns
 unfolding nodesAt
 returns c =
-    let D1 = c .before .before .before .before .before .before .before .before .before .before .before .before .before .before .before .before .before .before .before .before .before .before .before .before .before .before .before .before .fresh-evar .ensures .1 1024 _ _ _ (c .before .before .before .before .before .before .before .before .before .before .before .before .before .before .before .before .before .before .before .before .before .before .before .before .before .before .before .before .before .before .before .before .pre) in
-    let D2 = c .before .before .before .before .before .before .before .before .before .before .before .before .before .before .before .before .before .before .before .before .before .before .before .before .before .before .before .fresh-evar2 .ensures .1 1024 _ _ _ (D1 .kept) in
-    let D3 = c .before .before .before .before .before .before .before .before .before .before .before .before .before .before .before .before .before .before .before .before .before .before .before .before .before .push-tvar .ensures .2 1024 _ _ (D2 .kept) in
-    let D4 = c .before .before .before .before .before .before .before .before .before .before .before .before .before .before .before .before .before .before .before .push-sub .ensures .2 1024 _ _ (D3 .kept) in
-    let D5 = c .before .before .before .before .before .before .before .before .before .before .before .before .before .before .solve-evar .ensures .2 1024 _ _ (D4 .kept) in
+    let R = now (c .before .before .before .before .before .before .before .before .before .before .before .before .before .before .before .before .before .before .before .before .before .before .before .before .before .before .before .before .before .before .before .before .args .report) in
+    let D1 = c .before .before .before .before .before .before .before .before .before .before .before .before .before .before .before .before .before .before .before .before .before .before .before .before .before .before .before .before .fresh-evar .ensures .1 1024 _ _ R (c .before .before .before .before .before .before .before .before .before .before .before .before .before .before .before .before .before .before .before .before .before .before .before .before .before .before .before .before .before .before .before .before .pre .0) in
+    let D2 = c .before .before .before .before .before .before .before .before .before .before .before .before .before .before .before .before .before .before .before .before .before .before .before .before .before .before .before .fresh-evar2 .ensures .1 1024 _ _ R (D1 .kept) in
+    let D3 = c .before .before .before .before .before .before .before .before .before .before .before .before .before .before .before .before .before .before .before .before .before .before .before .before .before .push-tvar .ensures .2 1024 _ R (D2 .kept) in
+    let D4 = c .before .before .before .before .before .before .before .before .before .before .before .before .before .before .before .before .before .before .before .push-sub .ensures .2 1024 _ R (D3 .kept) in
+    let D5 = c .before .before .before .before .before .before .before .before .before .before .before .before .before .before .solve-evar .ensures .2 1024 _ R (D4 .kept) in
     let Z = c .before .before .before .before .before .before .before .before .zonk .ensures .2 in
     let D6 = Z .does _ (D5 .kept) in
     let D7 = c .before .before .push-var .ensures .2 1024 _ _ (D6 .kept) in

@@ -1,0 +1,112 @@
+-- What the code of Sub cites: a type's view as a number, and what a call asks. Assumes nothing: these are definitions.
+use mathlib.Core.Path.{_≡_}
+use mathlib.Core.Logic.{_≢_}
+use mathlib.Core.Bool.{Bool, true, false, cond}
+use mathlib.Core.List.{List, [], _∷_, _++_}
+use Prim.Native.Nat.{ℕ, zero, suc, _+_, _*_, _-_, _≤_, _<_}
+use lib.ListN.{length}
+use Rattle.nodes.specs.Nodes.{Node, node, Ty, kind, number, nodesAt}
+use Rattle.nodes.specs.Lists.{All}
+use Rattle.judgment.specs.Types.{unknown, first, rest, View, isArrow, isApp, isForall, isUnknown, isOther, view, eqTy}
+use Rattle.judgment.specs.Solutions.{Free, keys}
+use Rattle.judgment.specs.Board.{tvar, sub, Rule, done, fresh, push, solve, _>>=_, _>>_}
+use Rattle.judgment.specs.Rules.{Side, left, right, onSide, mismatch, unknownRight, subtypeBy}
+use Rattle.book.specs.Book.{sols, Booked}
+use Rattle.operations.specs.declared.Run.{Run}
+use Rattle.operations.specs.State.{WellFormed, going, Solves}
+
+-- a view as a number: the constants of the code
+abbrev pub shapeOf : View → ℕ
+shapeOf (isArrow a b) = 1
+shapeOf (isApp a b) = 2
+shapeOf (isForall x b) = 3
+shapeOf (isUnknown k) = 4
+shapeOf isOther = 5
+
+abbrev pub sideOf : Bool → Side
+sideOf true = left
+sideOf false = right
+
+-- every unknown of a type was made
+abbrev pub Made : ℕ → Node → Type 0
+Made n x = kind x ≡ 17 → number x < n
+
+-- k solved by a pair of two fresh unknowns, and these compared with the two parts of t
+abbrev pub splitBy : ℕ → ℕ → Side → Side → Ty → Rule
+splitBy kind k d e t = do
+  a ← fresh
+  b ← fresh
+  solve k (node kind 0 ∷ (unknown a ++ unknown b))
+  push (tvar (node 17 a))
+  push (tvar (node 17 b))
+  push (onSide d (unknown a) (first t))
+  push (onSide e (unknown b) (rest t))
+  done
+
+-- the right side alone
+abbrev pub rightBy : Ty → Ty → View → Rule
+rightBy l r (isArrow a b) = mismatch l r
+rightBy l r (isApp a b) = mismatch l r
+rightBy l r (isForall x b) = mismatch l r
+rightBy l r (isUnknown k) = unknownRight l r k
+rightBy l r isOther = mismatch l r
+
+-- the parts of two Arrows, crossed, or of two Apps
+abbrev pub partsBy : Bool → Ty → Ty → Rule
+partsBy true l r = do
+  push (sub (first r) (first l))
+  push (sub (rest l) (rest r))
+  done
+partsBy false l r = do
+  push (sub (first l) (first r))
+  push (sub (rest l) (rest r))
+  done
+
+-- two written-out types
+abbrev pub writtenBy : Ty → Ty → Rule
+writtenBy l r = cond (eqTy l r) done (subtypeBy l r (view l) (view r))
+
+-- A pair of kind 13 or 15 for the unsolved x, and a type whose parts are compared.
+pub record SplitAsk (b k : List ℕ) (c : Run) (kind x : ℕ) (t : List ℕ) (at n : ℕ) : Type 0 where
+  pub formed : WellFormed b k c
+  pub pair : kind ≢ 17
+  pub within : at + 2 * n ≤ length t
+  pub few : n ≤ 4096
+  pub known : x < c .fresh
+  pub unsolved : Free (keys (sols k)) (node 17 x)
+
+-- A solution for x, the n nodes at word `at` of the report.
+pub record MonoAsk (k rep : List ℕ) (c : Run) (x at n : ℕ) : Type 0 where
+  pub book : Booked k (c .book)
+  pub numbers : c .fresh ≤ 1000
+  pub goes : going (c .halt) ≡ true
+  pub within : at + 2 * n ≤ length rep
+  pub some : 0 < n
+  pub few : n ≤ 4096
+  pub solves : Solves k c x (nodesAt rep at n)
+
+-- Instantiation of the unknown x with the n nodes at word `at` of the report, which have no quantifier in front: x is unsolved and does not occur.
+pub record InstAsk (b k rep : List ℕ) (c : Run) (x at n : ℕ) : Type 0 where
+  pub formed : WellFormed b k c
+  pub goes : going (c .halt) ≡ true
+  pub within : at + 2 * n ≤ length rep
+  pub some : 0 < n
+  pub few : n ≤ 4096
+  pub flat : shapeOf (view (nodesAt rep at n)) ≢ 3
+  pub solves : Solves k c x (nodesAt rep at n)
+  pub made : All (Made (c .fresh)) (nodesAt rep at n)
+
+-- A type of a comparison, written out.
+pub record Written (k : List ℕ) (c : Run) (t : Ty) : Type 0 where
+  pub some : 0 < length t
+  pub few : length t ≤ 4096
+  pub free : All (Free (keys (sols k))) t
+  pub made : All (Made (c .fresh)) t
+
+-- Two written-out types, one after the other in the report.
+pub record SubAsk (b k rep : List ℕ) (c : Run) (l r : ℕ) : Type 0 where
+  pub formed : WellFormed b k c
+  pub goes : going (c .halt) ≡ true
+  pub within : 2 * (l + r) ≤ length rep
+  pub left : Written k c (nodesAt rep 0 l)
+  pub right : Written k c (nodesAt rep (2 * l) r)
