@@ -11,3 +11,5 @@ pub mod Rounds
 pub mod Words
 pub mod WholeTypes
 pub mod Visits
+pub mod WholeTerms
+pub mod WholeRun

@@ -1,0 +1,94 @@
+-- One whole term each: the parts that the rules take out of a whole term are whole. Assumes nothing.
+use Prim.Native.Nat.{ℕ, suc}
+use mathlib.Core.Path.{_≡_, subst}
+use mathlib.Core.Bool.{true}
+use mathlib.Core.Option.{Option, none, some}
+use mathlib.Core.List.{List, [], _∷_, append-nil}
+use lib.Dec.{eqb}
+use lib.ListN.{replicate}
+use Rattle.nodes.proofs.ListLaws.{cond-ind}
+use Rattle.spelling.specs.declared.Triple.{Triple}
+use Rattle.kinds.specs.Kinds.{aType, aTerm, aPattern, rowOf, find, table}
+use Rattle.grammar.specs.Grammar.{Item, part as item, arms, following}
+use Rattle.sheet.specs.Form.{Forms, IsPart}
+use Rattle.sheet.proofs.Forming.{due-following, split}
+use Rattle.sheet.proofs.TypeLines.{type-whole}
+use Rattle.judgment.specs.Terms.{Term, part, afterParts, Lambda, lambdaOf, TermView, isVar, isLitInt, isLambda, isApply, isTypeLambda, isConstructor, isCase, isBinOp, isIf, isIntrinsic, isNone, termView}
+use Rattle.judgment.proofs.TypeLaws.{eqb-true}
+use Rattle.judgment.proofs.WholeTypes.{IsTy}
+
+-- one whole term
+abbrev pub TermOK : Term → Type 0
+TermOK e = IsPart aTerm e
+
+-- n arms, each a whole pattern and a whole term
+abbrev pub ArmsOK : ℕ → Term → Type 0
+ArmsOK n ls = Forms ls (arms n)
+
+-- ---- lines, part by part
+front : (ls : Term) (x : ℕ) (ahead : List Item) → Forms ls (item x ∷ ahead) → IsPart x (part 0 ls) × Forms (afterParts 1 ls) ahead
+front ls x ahead f = split ls (item x ∷ []) ahead tt f
+
+two : (ls : Term) (x y : ℕ) (ahead : List Item) → Forms ls (item x ∷ item y ∷ ahead) → IsPart x (part 0 ls) × IsPart y (part 1 ls)
+two ls x y ahead f =
+    let p = front ls x (item y ∷ ahead) f in
+    (p .0, front (afterParts 1 ls) y ahead (p .1) .0)
+
+-- the first arm, as `checkArms` takes it, and the others
+pub arms-whole : (n : ℕ) (ls : Term) → ArmsOK (suc n) ls → IsPart aPattern (part 0 ls) × TermOK (part 1 ls) × ArmsOK n (afterParts 2 ls)
+unfolding arms
+arms-whole n ls f =
+    let p = two ls aPattern aTerm (arms n) f in
+    (p .0, p .1, split ls (item aPattern ∷ item aTerm ∷ []) (arms n) tt f .1)
+
+-- the lines after a term's first, which has kind k
+after : (t : Triple) (ls : Term) → TermOK (t ∷ ls) → (k : ℕ) → t .kind ≡ k → Forms ls (following (rowOf k .types) (rowOf k .terms) (rowOf k .each) (t .count))
+after t ls h k e =
+    subst (λ (j : ℕ). Forms ls (following (rowOf j .types) (rowOf j .terms) (rowOf j .each) (t .count))) e
+    (subst (Forms ls) (due-following aTerm t (h .0) .1) (subst (Forms ls) (append-nil _) (h .1)))
+
+-- ---- what is taken out of a term
+-- an Intrinsic may have no argument; its rule takes the first only where the count is 1
+abbrev pub TermViewWhole : TermView → Type 0
+TermViewWhole (isVar x) = Unit {0}
+TermViewWhole isLitInt = Unit {0}
+TermViewWhole (isLambda x s e) = IsTy s × TermOK e
+TermViewWhole (isApply f e) = TermOK f × TermOK e
+TermViewWhole (isTypeLambda x e) = TermOK e
+TermViewWhole (isConstructor x) = Unit {0}
+TermViewWhole (isCase n e arms) = TermOK e × ArmsOK n arms
+TermViewWhole (isBinOp op e₁ e₂) = TermOK e₁ × TermOK e₂
+TermViewWhole (isIf e₁ e₂ e₃) = TermOK e₁ × TermOK e₂ × TermOK e₃
+TermViewWhole (isIntrinsic x n e) = n ≡ 1 → TermOK e
+TermViewWhole isNone = Unit {0}
+
+pub term-view-whole : (e : Term) → TermOK e → TermViewWhole (termView e)
+unfolding termView rowOf find table following
+term-view-whole [] h = tt
+term-view-whole (t ∷ ls) h =
+    let W : TermView → Type 0 = TermViewWhole in
+    cond-ind W (eqb (t .kind) 21) (λ _. tt)
+    (λ _. cond-ind W (eqb (t .kind) 22) (λ _. tt)
+    (λ _. cond-ind W (eqb (t .kind) 23) (λ e. (let p = two ls aType aTerm [] (from 23 e) in (type-whole (part 0 ls) (p .0), p .1)))
+    (λ _. cond-ind W (eqb (t .kind) 24) (λ e. two ls aTerm aTerm [] (from 24 e))
+    (λ _. cond-ind W (eqb (t .kind) 25) (λ e. front ls aTerm [] (from 25 e) .0)
+    (λ _. cond-ind W (eqb (t .kind) 26) (λ _. tt)
+    (λ _. cond-ind W (eqb (t .kind) 27) (λ e. front ls aTerm (arms (t .count)) (from 27 e))
+    (λ _. cond-ind W (eqb (t .kind) 28) (λ e. two ls aTerm aTerm [] (from 28 e))
+    (λ _. cond-ind W (eqb (t .kind) 29) (λ e. (let p = front ls aTerm (item aTerm ∷ item aTerm ∷ []) (from 29 e) in let q = two (afterParts 1 ls) aTerm aTerm [] (p .1) in (p .0, q .0, q .1)))
+    (λ _. cond-ind W (eqb (t .kind) 30) (λ e n. front ls aTerm [] (subst (λ (c : ℕ). Forms ls (replicate c (item aTerm))) n (from 30 e)) .0) (λ _. tt))))))))))
+  where
+    from : (k : ℕ) → eqb (t .kind) k ≡ true → Forms ls (following (rowOf k .types) (rowOf k .terms) (rowOf k .each) (t .count))
+    from k e = after t ls h k (eqb-true (t .kind) k e)
+
+abbrev pub LambdaWhole : Option Lambda → Type 0
+LambdaWhole none = Unit {0}
+LambdaWhole (some f) = IsTy (f .type) × TermOK (f .body)
+
+pub lambda-whole : (e : Term) → TermOK e → LambdaWhole (lambdaOf e)
+unfolding lambdaOf rowOf find table following
+lambda-whole [] h = tt
+lambda-whole (t ∷ ls) h =
+    cond-ind LambdaWhole (eqb (t .kind) 23)
+    (λ e. (let p = two ls aType aTerm [] (after t ls h 23 (eqb-true (t .kind) 23 e)) in (type-whole (part 0 ls) (p .0), p .1)))
+    (λ _. tt)
