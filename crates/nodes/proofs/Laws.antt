@@ -186,3 +186,17 @@ leb-shift a n m h = go (leb (a + n) m) refl
     go : (c : Bool) → leb (a + n) m ≡ c → leb a (m - n) ≡ c
     go true q = let l = leb-true (a + n) m q in le-leb a (m - n) (omega arith)
     go false q = let l = leb-false (a + n) m q in lt-leb a (m - n) (omega arith)
+
+-- a turn of the loop that moves nodes to the front: what it reads is not yet overwritten
+pub move-step : (l : List ℕ) (from i : ℕ) (e : List ℕ) → e ≡ sets l 0 (words (nodesAt l from i))
+    → set (set e (2 * i) (getD e (from + 2 * i) 0)) (2 * i + 1) (getD (set e (2 * i) (getD e (from + 2 * i) 0)) (from + 2 * i + 1) 0) ≡ sets l 0 (words (nodesAt l from (i + 1)))
+move-step l from i e h =
+    let z : 0 + 2 * i ≡ 2 * i = omega arith in
+    let n = length-words (nodesAt l from i) in
+    let m = length-nodesAt l from i in
+    let read : (j : ℕ) → 2 * i ≤ j → getD e j 0 ≡ getD l j 0 =
+    λ j q. ap (λ (x : List ℕ). getD x j 0) h ∙ getD-sets-above l 0 (words (nodesAt l from i)) j (omega arith) in
+    let a : getD e (from + 2 * i) 0 ≡ getD l (from + 2 * i) 0 = read (from + 2 * i) (omega arith) in
+    let b : getD (set e (2 * i) (getD l (from + 2 * i) 0)) (from + 2 * i + 1) 0 ≡ getD l (from + 2 * i + 1) 0 =
+    getD-set-other e (2 * i) (from + 2 * i + 1) (getD l (from + 2 * i) 0) 0 (omega arith) ∙ read (from + 2 * i + 1) (omega arith) in
+    rw (a, b) (ap (λ (x : ℕ). set (set e x (getD l (from + 2 * i) 0)) (x + 1) (getD l (from + 2 * i + 1) 0)) (sym z) ∙ copy-step l l 0 from i e h)

@@ -51,7 +51,7 @@ unfolding nodesAt
 tvar-pushes b c kind number l b' r h p = (
   p .0,
   p .1,
-  λ w k rep f.
-      let d = p .2 w k rep f in
-      record { kept = d .kept; taken = d .taken; outcome = λ ls. rw (← tvar-is ls kind number [] [] h) (d .outcome ls) },
+  λ w ls k rep f.
+      let d = p .2 w ls k rep f in
+      record { kept = d .kept; taken = d .taken; outcome = rw (← tvar-is ls kind number [] [] h) (d .outcome) },
 )

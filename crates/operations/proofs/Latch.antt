@@ -42,38 +42,38 @@ refused-stays : (L : Limits) (h : Halt) → going h ≡ false → (rep : List �
 refused-stays L Going e rep s p = absurd (true≢false e)
 refused-stays L (Refused x) e rep s p = sym (stays L p x (nodesAt rep 0 (reported x)) s)
 
-module _ {b k : List ℕ} {c : Run} (f : WellFormed b k c) (w : ℕ) (rep : List ℕ) where
+module _ {b k : List ℕ} {c : Run} (f : WellFormed b k c) (w : ℕ) (ls : List Triple) (rep : List ℕ) where
   -- nothing is done once a run was refused
-  pub stays-does : going (c .halt) ≡ false → (p : List Triple → Rule) → Does w b k rep c p b k rep c
+  pub stays-does : going (c .halt) ≡ false → (p : Rule) → Does w ls b k rep c p b k rep c
   stays-does e p = record {
     kept = f;
     taken = refl;
-    outcome = λ ls. refused-stays (limitsWith w) (c .halt) e rep (stateOf ls b k c) (p ls);
+    outcome = refused-stays (limitsWith w) (c .halt) e rep (stateOf ls b k c) p;
   }
 
   stopped-kept : (e : TypeError) → WellFormed b k (stopped c e)
   stopped-kept e = record { board = f .board; book = f .book; numbers = f .numbers; unmade = f .unmade }
 
   -- an operation that a run does not pass: p is the rule, e its error
-  stops-does : going (c .halt) ≡ true → (e : TypeError) (p : List Triple → Rule)
-      → ((ls : List Triple) → refused e (nodesAt rep 0 (reported e)) (stateOf ls b k c) ≡ performO (limitsWith w) (p ls) (finished (stateOf ls b k c)))
-      → Does w b k rep c p b k rep (stopped c e)
+  stops-does : going (c .halt) ≡ true → (e : TypeError) (p : Rule)
+      → refused e (nodesAt rep 0 (reported e)) (stateOf ls b k c) ≡ performO (limitsWith w) p (finished (stateOf ls b k c))
+      → Does w ls b k rep c p b k rep (stopped c e)
   stops-does g e p q = record {
     kept = stopped-kept e;
     taken = refl;
-    outcome = λ ls. q ls ∙ ap (λ (h : Halt). performO (limitsWith w) (p ls) (outcomeBy h rep (stateOf ls b k c))) (sym (going-is (c .halt) g));
+    outcome = q ∙ ap (λ (h : Halt). performO (limitsWith w) p (outcomeBy h rep (stateOf ls b k c))) (sym (going-is (c .halt) g));
   }
 
-  pub refuse-does : going (c .halt) ≡ true → (e : TypeError) → Does w b k rep c (λ ls. refuse e (nodesAt rep 0 (reported e))) b k rep (stopped c e)
+  pub refuse-does : going (c .halt) ≡ true → (e : TypeError) → Does w ls b k rep c (refuse e (nodesAt rep 0 (reported e))) b k rep (stopped c e)
   unfolding refuseO
-  refuse-does g e = stops-does g e (λ ls. refuse e (nodesAt rep 0 (reported e))) (λ ls. refl)
+  refuse-does g e = stops-does g e (refuse e (nodesAt rep 0 (reported e))) refl
 
   -- ---- a fresh number
-  pub fresh-stops : going (c .halt) ≡ true → ltb (c .fresh) 1000 ≡ false → Does w b k rep c (λ ls. fresh (λ n. done)) b k rep (stopped c NoFreshNumber)
+  pub fresh-stops : going (c .halt) ≡ true → ltb (c .fresh) 1000 ≡ false → Does w ls b k rep c (fresh (λ n. done)) b k rep (stopped c NoFreshNumber)
   unfolding freshO nodesAt
-  fresh-stops g e = stops-does g NoFreshNumber (λ ls. fresh (λ n. done)) (λ ls. rw e)
+  fresh-stops g e = stops-does g NoFreshNumber (fresh (λ n. done)) (rw e)
 
-  pub fresh-does : going (c .halt) ≡ true → ltb (c .fresh) 1000 ≡ true → Does w b k rep c (λ ls. fresh (λ n. done)) b k rep (made c)
+  pub fresh-does : going (c .halt) ≡ true → ltb (c .fresh) 1000 ≡ true → Does w ls b k rep c (fresh (λ n. done)) b k rep (made c)
   unfolding freshO
   fresh-does g e = record {
     kept = record {
@@ -83,7 +83,7 @@ module _ {b k : List ℕ} {c : Run} (f : WellFormed b k c) (w : ℕ) (rep : List
       unmade = λ j h. f .unmade j (omega arith);
     };
     taken = refl;
-    outcome = λ ls. rw (going-is (c .halt) g, e, add-one (c .fresh));
+    outcome = rw (going-is (c .halt) g, e, add-one (c .fresh));
   }
 
   -- ---- a push
@@ -94,11 +94,11 @@ module _ {b k : List ℕ} {c : Run} (f : WellFormed b k c) (w : ℕ) (rep : List
     abbrev n : ℕ
     n = length t + length u
 
-    pub push-stops : fitsBoard (c .board) n ≡ false → Does w b k rep c (λ ls. push (entry ls) done) b k rep (stopped c BoardFull)
+    pub push-stops : fitsBoard (c .board) n ≡ false → Does w ls b k rep c (push (entry ls) done) b k rep (stopped c BoardFull)
     unfolding pushO nodesAt
-    push-stops e = stops-does g BoardFull (λ ls. push (entry ls) done) (λ ls. rw (fits-room ls (f .board) (limitsWith w) refl refl (entry ls) n (counts ls), e))
+    push-stops e = stops-does g BoardFull (push (entry ls) done) (rw (fits-room ls (f .board) (limitsWith w) refl refl (entry ls) n (counts ls), e))
 
-    pub push-does : fitsBoard (c .board) n ≡ true → Does w b k rep c (λ ls. push (entry ls) done) (laid b (c .board) kind number t u) k rep (withBoard c (boardGrown (c .board) n))
+    pub push-does : fitsBoard (c .board) n ≡ true → Does w ls b k rep c (push (entry ls) done) (laid b (c .board) kind number t u) k rep (withBoard c (boardGrown (c .board) n))
     unfolding pushO
     push-does e =
         let few = fits-facts (c .board) n e .0 in
@@ -111,8 +111,7 @@ module _ {b k : List ℕ} {c : Run} (f : WellFormed b k c) (w : ℕ) (rep : List
             unmade = f .unmade;
           };
           taken = refl;
-          outcome = λ ls.
-              rw (going-is (c .halt) g, fits-room ls (f .board) (limitsWith w) refl refl (entry ls) n (counts ls), e, laid-entries (f .board) kind number t u few fits ls);
+          outcome = rw (going-is (c .halt) g, fits-room ls (f .board) (limitsWith w) refl refl (entry ls) n (counts ls), e, laid-entries (f .board) kind number t u few fits ls);
         }
 
   -- ---- a solution
@@ -123,11 +122,11 @@ module _ {b k : List ℕ} {c : Run} (f : WellFormed b k c) (w : ℕ) (rep : List
     used : solutionNodes (sols k) ≡ c .book .nodes
     used = let q = nodes-count k (2000 + 2 * c .book .nodes) 2000 (sols k) (f .book .holds) in omega arith
 
-    pub solve-stops : fitsBook (c .book) (length t) ≡ false → Does w b k rep c (λ ls. solve x t done) b k rep (stopped c SolutionsFull)
+    pub solve-stops : fitsBook (c .book) (length t) ≡ false → Does w ls b k rep c (solve x t done) b k rep (stopped c SolutionsFull)
     unfolding solveO nodesAt
-    solve-stops e = stops-does g SolutionsFull (λ ls. solve x t done) (λ ls. rw (none-yet, used, e))
+    solve-stops e = stops-does g SolutionsFull (solve x t done) (rw (none-yet, used, e))
 
-    pub solve-does : fitsBook (c .book) (length t) ≡ true → Does w b k rep c (λ ls. solve x t done) b (given k (c .book) x t) rep (withBook c (bookGrown (c .book) (length t)))
+    pub solve-does : fitsBook (c .book) (length t) ≡ true → Does w ls b k rep c (solve x t done) b (given k (c .book) x t) rep (withBook c (bookGrown (c .book) (length t)))
     unfolding solveO
     solve-does e =
         let small : x < 1000 = let l = s .made in let m = f .numbers in omega arith in
@@ -146,7 +145,7 @@ module _ {b k : List ℕ} {c : Run} (f : WellFormed b k c) (w : ℕ) (rep : List
                 omega arith;
           };
           taken = refl;
-          outcome = λ ls. rw (going-is (c .halt) g, none-yet, used, e, q);
+          outcome = rw (going-is (c .halt) g, none-yet, used, e, q);
         }
 
 -- ---- what the functions return
@@ -154,28 +153,28 @@ refused-run : (c : Run) (e : TypeError) → going (c .halt) ≡ true → refused
 refused-run c e g = rw g
 
 module _ (c : Run) (g : going (c .halt) ≡ false) where
-  pub refuse-stays : (e : TypeError) → (c ≡ refusedRun c e) × Performs c (λ rep ls. refuse e (nodesAt rep 0 (reported e))) c
-  refuse-stays e = (rw g refl, λ w b k rep f. stays-does f w rep g (λ ls. refuse e (nodesAt rep 0 (reported e))))
+  pub refuse-stays : (e : TypeError) → (c ≡ refusedRun c e) × Performs c (λ rep. refuse e (nodesAt rep 0 (reported e))) c
+  refuse-stays e = (rw g refl, λ w ls b k rep f. stays-does f w ls rep g (refuse e (nodesAt rep 0 (reported e))))
 
-  pub fresh-stays : (c ≡ freshRun c) × Performs c (λ rep ls. fresh (λ n. done)) c
-  fresh-stays = (rw g refl, λ w b k rep f. stays-does f w rep g (λ ls. fresh (λ n. done)))
+  pub fresh-stays : (c ≡ freshRun c) × Performs c (λ rep. fresh (λ n. done)) c
+  fresh-stays = (rw g refl, λ w ls b k rep f. stays-does f w ls rep g (fresh (λ n. done)))
 
   pub solve-stays : (k : List ℕ) (x : ℕ) (t : Ty) → Gives k c x t k c
-  solve-stays k x t = (rw g refl, rw g refl, λ w b rep f. stays-does f w rep g (λ ls. solve x t done))
+  solve-stays k x t = (rw g refl, rw g refl, λ w ls b rep f. stays-does f w ls rep g (solve x t done))
 
 module _ (c : Run) (g : going (c .halt) ≡ true) where
-  pub refuse-returns : (e : TypeError) → (stopped c e ≡ refusedRun c e) × Performs c (λ rep ls. refuse e (nodesAt rep 0 (reported e))) (stopped c e)
-  refuse-returns e = (rw g refl, λ w b k rep f. refuse-does f w rep g e)
+  pub refuse-returns : (e : TypeError) → (stopped c e ≡ refusedRun c e) × Performs c (λ rep. refuse e (nodesAt rep 0 (reported e))) (stopped c e)
+  refuse-returns e = (rw g refl, λ w ls b k rep f. refuse-does f w ls rep g e)
 
-  pub fresh-returns : c .fresh < 1000 → (made c ≡ freshRun c) × Performs c (λ rep ls. fresh (λ n. done)) (made c)
+  pub fresh-returns : c .fresh < 1000 → (made c ≡ freshRun c) × Performs c (λ rep. fresh (λ n. done)) (made c)
   fresh-returns l =
       let e = lt-ltb (c .fresh) 1000 l in
-      (rw (g, e) refl, λ w b k rep f. fresh-does f w rep g e)
+      (rw (g, e) refl, λ w ls b k rep f. fresh-does f w ls rep g e)
 
-  pub fresh-refuses : (r : Run) → 1000 ≤ c .fresh → r ≡ refusedRun c NoFreshNumber → (r ≡ freshRun c) × Performs c (λ rep ls. fresh (λ n. done)) r
+  pub fresh-refuses : (r : Run) → 1000 ≤ c .fresh → r ≡ refusedRun c NoFreshNumber → (r ≡ freshRun c) × Performs c (λ rep. fresh (λ n. done)) r
   fresh-refuses r l q =
       let e = le-ltb (c .fresh) 1000 l in
-      rw (q, g, e) (refl, λ w b k rep f. fresh-stops f w rep g e)
+      rw (q, g, e) (refl, λ w ls b k rep f. fresh-stops f w ls rep g e)
 
 module _ {c : Run} {b : List ℕ} {kind number : ℕ} {l : List ℕ} {la ln : ℕ} {r : List ℕ} {ra rn : ℕ} (a : PushAsk b c kind number l la ln r ra rn) where
   abbrev t : Ty
@@ -194,7 +193,7 @@ module _ {c : Run} {b : List ℕ} {kind number : ℕ} {l : List ℕ} {la ln : �
   counted ls = a .counts ls ∙ sizes
 
   pub push-stays : going (c .halt) ≡ false → Pushes b c kind number t u pushed b c
-  push-stays g = (rw g refl, rw g refl, λ w k rep f. stays-does f w rep g (λ ls. push (pushed ls) done))
+  push-stays g = (rw g refl, rw g refl, λ w ls k rep f. stays-does f w ls rep g (push (pushed ls) done))
 
   pub push-asks : fitsBoard (c .board) (ln + rn) ≡ true → BoardAsk b (c .board) l la ln r ra rn
   push-asks e =
@@ -205,12 +204,12 @@ module _ {c : Run} {b : List ℕ} {kind number : ℕ} {l : List ℕ} {la ln : �
       → Pushes b c kind number t u pushed b' (withBoard c d)
   push-returns g e q =
       let f : fitsBoard (c .board) (length t + length u) ≡ true = subst (λ (m : ℕ). fitsBoard (c .board) m ≡ true) sizes e in
-      rw (q .0, q .1, sizes) (rw (g, f) refl, rw (g, f) refl, λ w k rep h. push-does h w rep kind number t u counted g f)
+      rw (q .0, q .1, sizes) (rw (g, f) refl, rw (g, f) refl, λ w ls k rep h. push-does h w ls rep kind number t u counted g f)
 
   pub push-refuses : {p : Run} → going (c .halt) ≡ true → fitsBoard (c .board) (ln + rn) ≡ false → p ≡ refusedRun c BoardFull → Pushes b c kind number t u pushed b p
   push-refuses g e q =
       let f : fitsBoard (c .board) (length t + length u) ≡ false = subst (λ (m : ℕ). fitsBoard (c .board) m ≡ false) sizes e in
-      rw (q ∙ refused-run c BoardFull g) (rw (g, f) refl, rw (g, f) refl, λ w k rep h. push-stops h w rep kind number t u counted g f)
+      rw (q ∙ refused-run c BoardFull g) (rw (g, f) refl, rw (g, f) refl, λ w ls k rep h. push-stops h w ls rep kind number t u counted g f)
 
 module _ {k : List ℕ} {c : Run} {x : ℕ} {s : List ℕ} {from n : ℕ} (a : SolveAsk k c x s from n) (g : going (c .halt) ≡ true) where
   abbrev v : Ty
@@ -233,9 +232,9 @@ module _ {k : List ℕ} {c : Run} {x : ℕ} {s : List ℕ} {from n : ℕ} (a : S
   pub solve-returns : {k' : List ℕ} {d : Book} → fitsBook (c .book) n ≡ true → (k' ≡ given k (c .book) x v) × (d ≡ bookGrown (c .book) n) → Gives k c x v k' (withBook c d)
   solve-returns e q =
       let f : fitsBook (c .book) (length v) ≡ true = subst (λ (m : ℕ). fitsBook (c .book) m ≡ true) long e in
-      rw (q .0, q .1 ∙ ap (bookGrown (c .book)) long) (rw (g, f) refl, rw (g, f) refl, λ w b rep h. solve-does h w rep x v many (a .solves (going-is (c .halt) g)) g f)
+      rw (q .0, q .1 ∙ ap (bookGrown (c .book)) long) (rw (g, f) refl, rw (g, f) refl, λ w ls b rep h. solve-does h w ls rep x v many (a .solves (going-is (c .halt) g)) g f)
 
   pub solve-refuses : {p : Run} → fitsBook (c .book) n ≡ false → p ≡ refusedRun c SolutionsFull → Gives k c x v k p
   solve-refuses e q =
       let f : fitsBook (c .book) (length v) ≡ false = subst (λ (m : ℕ). fitsBook (c .book) m ≡ false) long e in
-      rw (q ∙ refused-run c SolutionsFull g) (rw (g, f) refl, rw (g, f) refl, λ w b rep h. solve-stops h w rep x v many (a .solves (going-is (c .halt) g)) g f)
+      rw (q ∙ refused-run c SolutionsFull g) (rw (g, f) refl, rw (g, f) refl, λ w ls b rep h. solve-stops h w ls rep x v many (a .solves (going-is (c .halt) g)) g f)

@@ -44,67 +44,64 @@ same-going : (L : Limits) (h : Halt) (rep : List ℕ) (s : State) (p q : Rule) �
 same-going L Going rep s p q e = ap (λ (r : Rule). performO L r (finished s)) (e refl)
 same-going L (Refused x) rep s p q e = stays L p x (nodesAt rep 0 (reported x)) s ∙ sym (stays L q x (nodesAt rep 0 (reported x)) s)
 
-pub done-does : {w : ℕ} {b k rep : List ℕ} {c : Run} → WellFormed b k c → Does w b k rep c (λ ls. done) b k rep c
-done-does f = record { kept = f; taken = refl; outcome = λ ls. refl }
+pub done-does : {w : ℕ} {ls : List Triple} {b k rep : List ℕ} {c : Run} → WellFormed b k c → Does w ls b k rep c done b k rep c
+done-does f = record { kept = f; taken = refl; outcome = refl }
 
-module _ {w : ℕ} {b k rep : List ℕ} {c : Run} {b₂ k₂ rep₂ : List ℕ} {c₂ : Run} where
+module _ {w : ℕ} {ls : List Triple} {b k rep : List ℕ} {c : Run} {b₂ k₂ rep₂ : List ℕ} {c₂ : Run} where
   -- the same rule by another name, where a run goes on
-  pub does-as : {p q : List Triple → Rule} → (c .halt ≡ Going → (ls : List Triple) → p ls ≡ q ls) → Does w b k rep c p b₂ k₂ rep₂ c₂ → Does w b k rep c q b₂ k₂ rep₂ c₂
+  pub does-as : {p q : Rule} → (c .halt ≡ Going → p ≡ q) → Does w ls b k rep c p b₂ k₂ rep₂ c₂ → Does w ls b k rep c q b₂ k₂ rep₂ c₂
   does-as {p} {q} e d = record {
     kept = d .kept;
     taken = d .taken;
-    outcome = λ ls. d .outcome ls ∙ same-going (limitsWith w) (c .halt) rep (stateOf ls b k c) (p ls) (q ls) (λ h. e h ls);
+    outcome = d .outcome ∙ same-going (limitsWith w) (c .halt) rep (stateOf ls b k c) p q e;
   }
 
   -- a look at the board
-  pub look-then : {f : List Triple → Entries → Rule} → Does w b k rep c (λ ls. f ls (entriesOf ls b (c .board .entries))) b₂ k₂ rep₂ c₂ → Does w b k rep c (λ ls. look (f ls)) b₂ k₂ rep₂ c₂
+  pub look-then : {f : Entries → Rule} → Does w ls b k rep c (f (entriesOf ls b (c .board .entries))) b₂ k₂ rep₂ c₂ → Does w ls b k rep c (look f) b₂ k₂ rep₂ c₂
   look-then {f} d = record {
     kept = d .kept;
     taken = d .taken;
-    outcome = λ ls.
-        d .outcome ls
-        ∙ ap (λ (Γ : Entries). performO (limitsWith w) (f ls Γ) (outcomeOf ls b k rep c)) (sym (board-is (c .halt) rep (entriesOf ls b (c .board .entries)) (sols k) (c .fresh)));
+    outcome =
+        d .outcome
+        ∙ ap (λ (Γ : Entries). performO (limitsWith w) (f Γ) (outcomeOf ls b k rep c)) (sym (board-is (c .halt) rep (entriesOf ls b (c .board .entries)) (sols k) (c .fresh)));
   }
 
   -- a write-out, and then the rest with the type that it left in the report
-  pub zonk-then : {t : Ty} {to : ℕ} {rep₁ : List ℕ} {z : Zonked} {f : List Triple → Ty → Rule} → WellFormed b k c → Zonks k rep c t to w rep₁ z
-      → Does w b k rep₁ (z .run) (λ ls. f ls (nodesAt rep₁ (2 * to) (z .nodes))) b₂ k₂ rep₂ c₂ → Does w b k rep c (λ ls. zonk t (f ls)) b₂ k₂ rep₂ c₂
+  pub zonk-then : {t : Ty} {to : ℕ} {rep₁ : List ℕ} {z : Zonked} {f : Ty → Rule} → WellFormed b k c → Zonks k rep c t to w rep₁ z
+      → Does w ls b k rep₁ (z .run) (f (nodesAt rep₁ (2 * to) (z .nodes))) b₂ k₂ rep₂ c₂ → Does w ls b k rep c (zonk t f) b₂ k₂ rep₂ c₂
   zonk-then {t} {to} {rep₁} {z} {f} h q d =
-      let e = q .does b h in
+      let e = q .does ls b h in
       record {
         kept = d .kept;
         taken = d .taken ∙ e .taken;
-        outcome = λ ls.
-            d .outcome ls
-            ∙ same-going (limitsWith w) (z .run .halt) rep₁ (stateOf ls b k (z .run)) (f ls (nodesAt rep₁ (2 * to) (z .nodes))) (f ls (writeOut (sols k) t)) (λ g. ap (f ls) (q .nodes g))
-            ∙ ap₂ (λ (σ : Solutions) (o : Outcome). performO (limitsWith w) (f ls (writeOut σ t)) o)
-            (sym (solutions-are (c .halt) rep (entriesOf ls b (c .board .entries)) (sols k) (c .fresh))) (e .outcome ls);
+        outcome =
+            d .outcome
+            ∙ same-going (limitsWith w) (z .run .halt) rep₁ (stateOf ls b k (z .run)) (f (nodesAt rep₁ (2 * to) (z .nodes))) (f (writeOut (sols k) t)) (λ g. ap f (q .nodes g))
+            ∙ ap₂ (λ (σ : Solutions) (o : Outcome). performO (limitsWith w) (f (writeOut σ t)) o)
+            (sym (solutions-are (c .halt) rep (entriesOf ls b (c .board .entries)) (sols k) (c .fresh))) (e .outcome);
       }
 
   module _ {b₁ k₁ rep₁ : List ℕ} {c₁ : Run} where
     -- the operations of p, and then those of q
-    pub does-then : {p q r : List Triple → Rule} → Does w b k rep c p b₁ k₁ rep₁ c₁ → Does w b₁ k₁ rep₁ c₁ q b₂ k₂ rep₂ c₂
-        → ((ls : List Triple) → performO (limitsWith w) (r ls) (outcomeOf ls b k rep c) ≡ performO (limitsWith w) (q ls) (performO (limitsWith w) (p ls) (outcomeOf ls b k rep c)))
-        → Does w b k rep c r b₂ k₂ rep₂ c₂
+    pub does-then : {p q r : Rule} → Does w ls b k rep c p b₁ k₁ rep₁ c₁ → Does w ls b₁ k₁ rep₁ c₁ q b₂ k₂ rep₂ c₂
+        → performO (limitsWith w) r (outcomeOf ls b k rep c) ≡ performO (limitsWith w) q (performO (limitsWith w) p (outcomeOf ls b k rep c))
+        → Does w ls b k rep c r b₂ k₂ rep₂ c₂
     does-then {p} {q} {r} d e h = record {
       kept = e .kept;
       taken = e .taken ∙ d .taken;
-      outcome = λ ls. e .outcome ls ∙ ap (performO (limitsWith w) (q ls)) (d .outcome ls) ∙ sym (h ls);
+      outcome = e .outcome ∙ ap (performO (limitsWith w) q) (d .outcome) ∙ sym h;
     }
 
-    pub push-then : {e : List Triple → Entry} {p : List Triple → Rule} → Does w b k rep c (λ ls. push (e ls) done) b₁ k₁ rep₁ c₁
-        → Does w b₁ k₁ rep₁ c₁ p b₂ k₂ rep₂ c₂ → Does w b k rep c (λ ls. push (e ls) (p ls)) b₂ k₂ rep₂ c₂
-    push-then {e} {p} x y = does-then {p = λ ls. push (e ls) done} {q = p} {r = λ ls. push (e ls) (p ls)} x y (λ ls. refl)
+    pub push-then : {e : Entry} {p : Rule} → Does w ls b k rep c (push e done) b₁ k₁ rep₁ c₁ → Does w ls b₁ k₁ rep₁ c₁ p b₂ k₂ rep₂ c₂ → Does w ls b k rep c (push e p) b₂ k₂ rep₂ c₂
+    push-then {e} {p} x y = does-then {p = push e done} {q = p} {r = push e p} x y refl
 
-    pub solve-then : {j : ℕ} {t : Ty} {p : List Triple → Rule} → Does w b k rep c (λ ls. solve j t done) b₁ k₁ rep₁ c₁
-        → Does w b₁ k₁ rep₁ c₁ p b₂ k₂ rep₂ c₂ → Does w b k rep c (λ ls. solve j t (p ls)) b₂ k₂ rep₂ c₂
-    solve-then {j} {t} {p} x y = does-then {p = λ ls. solve j t done} {q = p} {r = λ ls. solve j t (p ls)} x y (λ ls. refl)
+    pub solve-then : {j : ℕ} {t : Ty} {p : Rule} → Does w ls b k rep c (solve j t done) b₁ k₁ rep₁ c₁ → Does w ls b₁ k₁ rep₁ c₁ p b₂ k₂ rep₂ c₂ → Does w ls b k rep c (solve j t p) b₂ k₂ rep₂ c₂
+    solve-then {j} {t} {p} x y = does-then {p = solve j t done} {q = p} {r = solve j t p} x y refl
 
-    pub fresh-then : {f : List Triple → ℕ → Rule} → Does w b k rep c (λ ls. fresh (λ n. done)) b₁ k₁ rep₁ c₁
-        → Does w b₁ k₁ rep₁ c₁ (λ ls. f ls (c .fresh)) b₂ k₂ rep₂ c₂ → Does w b k rep c (λ ls. fresh (f ls)) b₂ k₂ rep₂ c₂
+    pub fresh-then : {f : ℕ → Rule} → Does w ls b k rep c (fresh (λ n. done)) b₁ k₁ rep₁ c₁ → Does w ls b₁ k₁ rep₁ c₁ (f (c .fresh)) b₂ k₂ rep₂ c₂ → Does w ls b k rep c (fresh f) b₂ k₂ rep₂ c₂
     fresh-then {f} x y =
-        does-then {p = λ ls. fresh (λ n. done)} {q = λ ls. f ls (c .fresh)} {r = λ ls. fresh (f ls)} x y
-        (λ ls. ap (λ (n : ℕ). performO (limitsWith w) (f ls n) (freshO (limitsWith w) (outcomeOf ls b k rep c))) (counter-is (c .halt) rep (entriesOf ls b (c .board .entries)) (sols k) (c .fresh)))
+        does-then {p = fresh (λ n. done)} {q = f (c .fresh)} {r = fresh f} x y
+        (ap (λ (n : ℕ). performO (limitsWith w) (f n) (freshO (limitsWith w) (outcomeOf ls b k rep c))) (counter-is (c .halt) rep (entriesOf ls b (c .board .entries)) (sols k) (c .fresh)))
 
 -- ---- what every rule leaves
 -- an outcome that goes on
@@ -121,10 +118,10 @@ goes-back L p (finished s) e = refl
 goes-back L p (refused x ts s) e = absurd (true≢false (sym e ∙ ap goes (stays L p x ts s)))
 
 -- a run that goes on after a rule went on before it
-pub alive : {w : ℕ} {b k rep : List ℕ} {c : Run} {p : List Triple → Rule} {b' k' rep' : List ℕ} {r : Run} → Does w b k rep c p b' k' rep' r → going (r .halt) ≡ true → going (c .halt) ≡ true
-alive {w} {b} {k} {rep} {c} {p} {b'} {k'} {rep'} {r} d g =
-    sym (goes-is (c .halt) rep (stateOf [] b k c))
-    ∙ goes-back (limitsWith w) (p []) (outcomeOf [] b k rep c) (ap goes (sym (d .outcome [])) ∙ goes-is (r .halt) rep' (stateOf [] b' k' r) ∙ g)
+pub alive : {w : ℕ} {ls : List Triple} {b k rep : List ℕ} {c : Run} {p : Rule} {b' k' rep' : List ℕ} {r : Run} → Does w ls b k rep c p b' k' rep' r → going (r .halt) ≡ true → going (c .halt) ≡ true
+alive {w} {ls} {b} {k} {rep} {c} {p} {b'} {k'} {rep'} {r} d g =
+    sym (goes-is (c .halt) rep (stateOf ls b k c))
+    ∙ goes-back (limitsWith w) p (outcomeOf ls b k rep c) (ap goes (sym (d .outcome)) ∙ goes-is (r .halt) rep' (stateOf ls b' k' r) ∙ g)
 
 -- the counter never falls
 counter-grows : (L : Limits) (p : Rule) (o : Outcome) → counterOf o ≤ counterOf (performO L p o)
@@ -160,12 +157,12 @@ counter-grows L (zonk t f) o = le-trans (one o) (counter-grows L (f (writeOut (s
     one (refused x us (state Γ σ n)) = le-refl n
 counter-grows L (look f) o = counter-grows L (f (boardOf o)) o
 
-pub grows : {w : ℕ} {b k rep : List ℕ} {c : Run} {p : List Triple → Rule} {b' k' rep' : List ℕ} {r : Run} → Does w b k rep c p b' k' rep' r → c .fresh ≤ r .fresh
-grows {w} {b} {k} {rep} {c} {p} {b'} {k'} {rep'} {r} d =
-    let h = counter-grows (limitsWith w) (p []) (outcomeOf [] b k rep c) in
-    let x = counter-is (c .halt) rep (entriesOf [] b (c .board .entries)) (sols k) (c .fresh) in
-    let y = ap counterOf (d .outcome []) in
-    let z = counter-is (r .halt) rep' (entriesOf [] b' (r .board .entries)) (sols k') (r .fresh) in
+pub grows : {w : ℕ} {ls : List Triple} {b k rep : List ℕ} {c : Run} {p : Rule} {b' k' rep' : List ℕ} {r : Run} → Does w ls b k rep c p b' k' rep' r → c .fresh ≤ r .fresh
+grows {w} {ls} {b} {k} {rep} {c} {p} {b'} {k'} {rep'} {r} d =
+    let h = counter-grows (limitsWith w) p (outcomeOf ls b k rep c) in
+    let x = counter-is (c .halt) rep (entriesOf ls b (c .board .entries)) (sols k) (c .fresh) in
+    let y = ap counterOf (d .outcome) in
+    let z = counter-is (r .halt) rep' (entriesOf ls b' (r .board .entries)) (sols k') (r .fresh) in
     omega arith
 
 -- ---- fresh numbers

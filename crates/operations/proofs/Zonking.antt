@@ -50,7 +50,7 @@ module _ {k : List ℕ} {c : Run} {s : List ℕ} {at n : ℕ} {rep : List ℕ} {
     rw g refl,
     rw g refl,
     record {
-      does = λ b f. stays-does f w rep g (λ ls. zonk t (λ _. done));
+      does = λ ls b f. stays-does f w ls rep g (zonk t (λ _. done));
       nodes = λ e. absurd (true≢false (ap going (sym e) ∙ g));
       within = let r = a .room in omega arith;
     },
@@ -78,10 +78,10 @@ module _ {k : List ℕ} {c : Run} {s : List ℕ} {at n : ℕ} {rep : List ℕ} {
           rw (g, sym p ∙ e) refl,
           rw g q,
           record {
-            does = λ b f. record {
+            does = λ ls b f. record {
               kept = moved (c .halt) f;
               taken = refl;
-              outcome = λ ls. rw (going-is (c .halt) g, le-leb (length T) w few);
+              outcome = rw (going-is (c .halt) g, le-leb (length T) w few);
             };
             nodes = λ _.
                 let r = a .room in
@@ -101,10 +101,10 @@ module _ {k : List ℕ} {c : Run} {s : List ℕ} {at n : ℕ} {rep : List ℕ} {
           rw (g, sym p ∙ e) refl,
           rw g q,
           record {
-            does = λ b f. record {
+            does = λ ls b f. record {
               kept = moved (Refused TypeTooLong) f;
               taken = refl;
-              outcome = λ ls. rw (going-is (c .halt) g, lt-leb (length T) w many);
+              outcome = rw (going-is (c .halt) g, lt-leb (length T) w many);
             };
             nodes = λ z. absurd (true≢false (ap going (sym z)));
             within = let r = a .room in omega (arith, same-length);

@@ -61,21 +61,21 @@ pub record WellFormed (b k : List ℕ) (c : Run) : Type 0 where
   pub numbers : c .fresh ≤ 1000
   pub unmade : (j : ℕ) → c .fresh ≤ j → j < 1000 → startOf k j < 2000  -- a number that is not made has no solution
 
--- what code that performs a rule leaves, w being the limit of a write-out
-pub record Does (w : ℕ) (b k rep : List ℕ) (c : Run) (p : List Triple → Rule) (b' k' rep' : List ℕ) (r : Run) : Type 0 where
+-- what code that performs a rule leaves, w being the limit of a write-out and ls the lines of the sheet
+pub record Does (w : ℕ) (ls : List Triple) (b k rep : List ℕ) (c : Run) (p : Rule) (b' k' rep' : List ℕ) (r : Run) : Type 0 where
   pub kept : WellFormed b' k' r
   pub taken : r .taken ≡ c .taken
-  pub outcome : (ls : List Triple) → outcomeOf ls b' k' rep' r ≡ performO (limitsWith w) (p ls) (outcomeOf ls b k rep c)
+  pub outcome : outcomeOf ls b' k' rep' r ≡ performO (limitsWith w) p (outcomeOf ls b k rep c)
 
 -- code that changes none of the buffers; only the board; only the book
-abbrev pub Performs : Run → (List ℕ → List Triple → Rule) → Run → Type 0
-Performs c p r = (w : ℕ) (b k rep : List ℕ) → WellFormed b k c → Does w b k rep c (p rep) b k rep r
+abbrev pub Performs : Run → (List ℕ → Rule) → Run → Type 0
+Performs c p r = (w : ℕ) (ls : List Triple) (b k rep : List ℕ) → WellFormed b k c → Does w ls b k rep c (p rep) b k rep r
 
 abbrev pub PerformsOnBoard : List ℕ → Run → (List Triple → Rule) → List ℕ → Run → Type 0
-PerformsOnBoard b c p b' r = (w : ℕ) (k rep : List ℕ) → WellFormed b k c → Does w b k rep c p b' k rep r
+PerformsOnBoard b c p b' r = (w : ℕ) (ls : List Triple) (k rep : List ℕ) → WellFormed b k c → Does w ls b k rep c (p ls) b' k rep r
 
-abbrev pub PerformsOnBook : List ℕ → Run → (List Triple → Rule) → List ℕ → Run → Type 0
-PerformsOnBook k c p k' r = (w : ℕ) (b rep : List ℕ) → WellFormed b k c → Does w b k rep c p b k' rep r
+abbrev pub PerformsOnBook : List ℕ → Run → Rule → List ℕ → Run → Type 0
+PerformsOnBook k c p k' r = (w : ℕ) (ls : List Triple) (b rep : List ℕ) → WellFormed b k c → Does w ls b k rep c p b k' rep r
 
 -- ---- the operations on words: a refused run stays as it is
 abbrev pub going : Halt → Bool
@@ -128,7 +128,7 @@ solveWords k c x t = cond (going (c .halt)) (cond (fitsBook (c .book) (length t)
 
 -- what giving x the solution t leaves
 abbrev pub Gives : List ℕ → Run → ℕ → Ty → List ℕ → Run → Type 0
-Gives k c x t k' r = (r ≡ solveRun c (length t)) × (k' ≡ solveWords k c x t) × PerformsOnBook k c (λ ls. solve x t done) k' r
+Gives k c x t k' r = (r ≡ solveRun c (length t)) × (k' ≡ solveWords k c x t) × PerformsOnBook k c (solve x t done) k' r
 
 -- an unknown that was made and is not solved, and a type with neither it nor a solved one
 pub record Solves (k : List ℕ) (c : Run) (x : ℕ) (t : Ty) : Type 0 where
@@ -161,6 +161,6 @@ pub record ZonkAsk (k : List ℕ) (c : Run) (s : List ℕ) (at n : ℕ) (rep : L
 
 -- what a write-out of t leaves: the outcome, and the type where it did not refuse
 pub record Zonks (k rep : List ℕ) (c : Run) (t : Ty) (to w : ℕ) (rep' : List ℕ) (z : Zonked) : Type 0 where
-  pub does : (b : List ℕ) → WellFormed b k c → Does w b k rep c (λ ls. zonk t (λ _. done)) b k rep' (z .run)
+  pub does : (ls : List Triple) (b : List ℕ) → WellFormed b k c → Does w ls b k rep c (zonk t (λ _. done)) b k rep' (z .run)
   pub nodes : z .run .halt ≡ Going → nodesAt rep' (2 * to) (z .nodes) ≡ writeOut (sols k) t
   pub within : 2 * (to + z .nodes) ≤ length rep'

@@ -47,7 +47,7 @@ pub fn is_going(h: Halt) -> bool
 
 // Refuses. The types that the error names stand at the front of the report.
 pub fn refuse(c: Run, e: TypeError) -> Run
-    ensures { λ r. ⌜ (r ≡ refusedRun c e) × Performs c (λ rep ls. refuseRule e (nodesAt rep 0 (reported e))) r ⌝ }
+    ensures { λ r. ⌜ (r ≡ refusedRun c e) × Performs c (λ rep. refuseRule e (nodesAt rep 0 (reported e))) r ⌝ }
 {
     let halt = c.halt;
     if is_going(halt) {
@@ -66,7 +66,7 @@ pub fn refuse(c: Run, e: TypeError) -> Run
 
 // Makes a fresh number: it is the counter before.
 pub fn fresh_evar(c: Run) -> Run
-    ensures { λ r. ⌜ (r ≡ freshRun c) × Performs c (λ rep ls. freshRule (λ n. done)) r ⌝ }
+    ensures { λ r. ⌜ (r ≡ freshRun c) × Performs c (λ rep. freshRule (λ n. done)) r ⌝ }
 {
     let halt = c.halt;
     if is_going(halt) {

@@ -1,5 +1,7 @@
 // Every operation on real buffers: what stands in them afterwards is written out, word by word.
 ghost use mathlib.Core.Path.{_≡_};
+ghost use mathlib.Core.List.{List};
+ghost use Rattle.spelling.specs.declared.Triple.{Triple};
 ghost use Prim.Native.Nat.{_≤_};
 ghost use lib.ListN.{length};
 ghost use Rattle.operations.specs.State.{WellFormed, Does};
@@ -26,7 +28,7 @@ use operations::zonk;
 
 fn script(board: &mut [u32], book: &mut [u32], report: &mut [u32], c: Run) -> Run
     requires { ⌜ WellFormed (now board) (now book) c × (2048 ≤ length (now report)) ⌝ }
-    ensures { λ r. ⌜ Does 1024 (now (board .entry)) (now (book .entry)) (now (report .entry)) c (λ ls. scriptRule) (now (board .exit)) (now (book .exit)) (now (report .exit)) r ⌝ }
+    ensures { λ r. ⌜ ((ls : List Triple) → Does 1024 ls (now (board .entry)) (now (book .entry)) (now (report .entry)) c scriptRule (now (board .exit)) (now (book .exit)) (now (report .exit)) r) ⌝ }
 {
     let a = c.fresh;
     let c1 = fresh_evar(c);

@@ -84,7 +84,18 @@ fn push_on(board: &mut [u32], c: Run, left: bool, u: &[u32], t: &[u32], at: usiz
 }
 
 // Solves x with a pair of two fresh unknowns, and compares these with the parts of a type: the n nodes at word `at` of t.
-fn split(board: &mut [u32], book: &mut [u32], c: Run, kind: u32, x: u32, first: bool, second: bool, t: &[u32], at: usize, n: usize) -> Run
+fn split(
+    board: &mut [u32],
+    book: &mut [u32],
+    c: Run,
+    kind: u32,
+    x: u32,
+    first: bool,
+    second: bool,
+    t: &[u32],
+    at: usize,
+    n: usize,
+) -> Run
     requires { ⌜ SplitAsk (now board) (now book) c kind x (now t) at n ⌝ }
     ensures { λ r. ⌜ ((w : ℕ) (rep : List ℕ) → Does w (now (board .entry)) (now (book .entry)) rep c (λ ls. splitBy kind x (sideOf first) (sideOf second) (nodesAt (now (t .entry)) at n)) (now (board .exit)) (now (book .exit)) rep r) ⌝ }
 {
@@ -118,7 +129,16 @@ fn solve_monotype(book: &mut [u32], report: &mut [u32], c: Run, x: u32, at: usiz
 }
 
 // Instantiation of x with the n nodes at word `at` of the report, x standing on the left or on the right.
-fn instantiate(board: &mut [u32], book: &mut [u32], report: &mut [u32], c: Run, left: bool, x: u32, at: usize, n: usize) -> Run
+fn instantiate(
+    board: &mut [u32],
+    book: &mut [u32],
+    report: &mut [u32],
+    c: Run,
+    left: bool,
+    x: u32,
+    at: usize,
+    n: usize,
+) -> Run
     requires { ⌜ InstAsk (now board) (now book) (now report) c x at n ⌝ }
     ensures { λ r. ⌜ ((w : ℕ) → Does w (now (board .entry)) (now (book .entry)) (now (report .entry)) c (λ ls. instantiateRule (sideOf left) x (nodesAt (now (report .entry)) at n)) (now (board .exit)) (now (book .exit)) (now (report .exit)) r) ⌝ }
 {

@@ -23,7 +23,7 @@ script-requires-2 c κs =
     let x = p .0 in
     let y = p .2 in
     let l1 = c .before .before .before .before .before .before .before .before .before .script .kept .1 .1 .0 in
-    (c .before .before .before .before .before .before .before .before .before .script .ensures .kept, omega arith)
+    (c .before .before .before .before .before .before .before .before .before .script .ensures [] .kept, omega arith)
 
 script-requires-3 : tie.Need-script-requires-3
 script-requires-3 c κs =
@@ -34,7 +34,7 @@ script-requires-3 c κs =
     let y = p .2 in
     let l1 = c .before .before .before .before .before .before .before .before .before .before .before .before .before .before .before .before .before .before .before .before .before .before .before .before .script .kept .1 .1 .0 in
     let l2 = c .before .before .before .before .before .before .before .before .before .before .before .before .before .before .script2 .kept .1 .1 .0 in
-    (c .before .before .before .refuse .ensures .1 1024 _ _ [] (c .before .before .before .before .before .before .before .before .before .before .before .before .before .before .script2 .ensures .kept) .kept, omega arith)
+    (c .before .before .before .refuse .ensures .1 1024 [] _ _ [] (c .before .before .before .before .before .before .before .before .before .before .before .before .before .before .script2 .ensures [] .kept) .kept, omega arith)
 
 same-length : tie.Need-same-length
 same-length c = c .before .before .before .before .before .before .before .before .before .before .script3 .kept .0 ∙ c .before .before .before .before .before .before .before .before .before .before .before .before .before .before .before .before .before .before .before .before .before .before .before .before .before .script2 .kept .0 ∙ c .before .before .before .before .before .before .before .before .before .before .before .before .before .before .before .before .before .before .before .before .before .before .before .before .before .before .before .before .before .before .before .before .before .before .before .script .kept .0 ∙ c .before .before .before .before .before .before .before .before .before .before .before .before .before .before .before .before .before .before .before .before .before .before .before .before .before .before .before .before .before .before .before .before .before .before .before .before .before .before .before .before .before .before .before .before .before .before .before .before .before .before .before .clear-board .kept .0

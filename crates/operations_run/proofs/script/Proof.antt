@@ -5,7 +5,8 @@ use Prim.Native.Nat.{ℕ, _+_, _≤_, _<_}
 use native.Mathlib.Nat.{le-refl, le-of-lt}
 use lib.Dec.{eqb}
 use denote.Ref.{now}
-use mathlib.Core.List.{_∷_}
+use mathlib.Core.List.{List, [], _∷_}
+use Rattle.spelling.specs.declared.Triple.{Triple}
 use Rattle.judgment.specs.Solutions.{keys}
 use Rattle.book.specs.Book.{sols}
 use mathlib.Core.Bool.{false}
@@ -20,26 +21,29 @@ use Rattle.operations_run.proofs.script.Tie as tie
 push-tvar-requires : tie.Need-push-tvar-requires
 push-tvar-requires c κs =
     let R = now (c .before .before .before .before .before .before .args .report) in
-    let D1 = c .before .before .fresh-evar .ensures .1 1024 _ _ R (c .before .before .before .before .before .before .pre .0) in
-    let D2 = c .before .fresh-evar2 .ensures .1 1024 _ _ R (D1 .kept) in
+    let ls : List Triple = [] in
+    let D1 = c .before .before .fresh-evar .ensures .1 1024 ls _ _ R (c .before .before .before .before .before .before .pre .0) in
+    let D2 = c .before .fresh-evar2 .ensures .1 1024 ls _ _ R (D1 .kept) in
     (D2 .kept .board, omega arith)
 
 push-sub-requires : tie.Need-push-sub-requires
 push-sub-requires c κs =
     let R = now (c .before .before .before .before .before .before .before .before .before .before .before .before .args .report) in
-    let D1 = c .before .before .before .before .before .before .before .before .fresh-evar .ensures .1 1024 _ _ R (c .before .before .before .before .before .before .before .before .before .before .before .before .pre .0) in
-    let D2 = c .before .before .before .before .before .before .before .fresh-evar2 .ensures .1 1024 _ _ R (D1 .kept) in
-    let D3 = c .before .before .before .before .before .push-tvar .ensures .2 1024 _ R (D2 .kept) in
+    let ls : List Triple = [] in
+    let D1 = c .before .before .before .before .before .before .before .before .fresh-evar .ensures .1 1024 ls _ _ R (c .before .before .before .before .before .before .before .before .before .before .before .before .pre .0) in
+    let D2 = c .before .before .before .before .before .before .before .fresh-evar2 .ensures .1 1024 ls _ _ R (D1 .kept) in
+    let D3 = c .before .before .before .before .before .push-tvar .ensures .2 1024 ls _ R (D2 .kept) in
     (D3 .kept .board, search needs, search needs)
 
 solve-evar-requires : tie.Need-solve-evar-requires
 unfolding nodesAt
 solve-evar-requires c κs =
     let R = now (c .before .before .before .before .before .before .before .before .before .before .before .before .before .before .before .before .before .args .report) in
-    let D1 = c .before .before .before .before .before .before .before .before .before .before .before .before .before .fresh-evar .ensures .1 1024 _ _ R (c .before .before .before .before .before .before .before .before .before .before .before .before .before .before .before .before .before .pre .0) in
-    let D2 = c .before .before .before .before .before .before .before .before .before .before .before .before .fresh-evar2 .ensures .1 1024 _ _ R (D1 .kept) in
-    let D3 = c .before .before .before .before .before .before .before .before .before .before .push-tvar .ensures .2 1024 _ R (D2 .kept) in
-    let D4 = c .before .before .before .before .push-sub .ensures .2 1024 _ R (D3 .kept) in
+    let ls : List Triple = [] in
+    let D1 = c .before .before .before .before .before .before .before .before .before .before .before .before .before .fresh-evar .ensures .1 1024 ls _ _ R (c .before .before .before .before .before .before .before .before .before .before .before .before .before .before .before .before .before .pre .0) in
+    let D2 = c .before .before .before .before .before .before .before .before .before .before .before .before .fresh-evar2 .ensures .1 1024 ls _ _ R (D1 .kept) in
+    let D3 = c .before .before .before .before .before .before .before .before .before .before .push-tvar .ensures .2 1024 ls _ R (D2 .kept) in
+    let D4 = c .before .before .before .before .push-sub .ensures .2 1024 ls _ R (D3 .kept) in
     record {
       book = D4 .kept .book;
       numbers = D4 .kept .numbers;
@@ -68,23 +72,25 @@ solve-evar-requires c κs =
 zonk-requires : tie.Need-zonk-requires
 zonk-requires c κs =
     let R = now (c .before .before .before .before .before .before .before .before .before .before .before .before .before .before .before .before .before .before .before .before .before .before .before .args .report) in
-    let D1 = c .before .before .before .before .before .before .before .before .before .before .before .before .before .before .before .before .before .before .before .fresh-evar .ensures .1 1024 _ _ R (c .before .before .before .before .before .before .before .before .before .before .before .before .before .before .before .before .before .before .before .before .before .before .before .pre .0) in
-    let D2 = c .before .before .before .before .before .before .before .before .before .before .before .before .before .before .before .before .before .before .fresh-evar2 .ensures .1 1024 _ _ R (D1 .kept) in
-    let D3 = c .before .before .before .before .before .before .before .before .before .before .before .before .before .before .before .before .push-tvar .ensures .2 1024 _ R (D2 .kept) in
-    let D4 = c .before .before .before .before .before .before .before .before .before .before .push-sub .ensures .2 1024 _ R (D3 .kept) in
-    let D5 = c .before .before .before .before .before .solve-evar .ensures .2 1024 _ R (D4 .kept) in
+    let ls : List Triple = [] in
+    let D1 = c .before .before .before .before .before .before .before .before .before .before .before .before .before .before .before .before .before .before .before .fresh-evar .ensures .1 1024 ls _ _ R (c .before .before .before .before .before .before .before .before .before .before .before .before .before .before .before .before .before .before .before .before .before .before .before .pre .0) in
+    let D2 = c .before .before .before .before .before .before .before .before .before .before .before .before .before .before .before .before .before .before .fresh-evar2 .ensures .1 1024 ls _ _ R (D1 .kept) in
+    let D3 = c .before .before .before .before .before .before .before .before .before .before .before .before .before .before .before .before .push-tvar .ensures .2 1024 ls _ R (D2 .kept) in
+    let D4 = c .before .before .before .before .before .before .before .before .before .before .push-sub .ensures .2 1024 ls _ R (D3 .kept) in
+    let D5 = c .before .before .before .before .before .solve-evar .ensures .2 1024 ls _ R (D4 .kept) in
     record { book = D5 .kept .book; within = search needs; room = let r = c .before .before .before .before .before .before .before .before .before .before .before .before .before .before .before .before .before .before .before .before .before .before .before .pre .1 in omega arith }
 
 push-var-requires : tie.Need-push-var-requires
 push-var-requires c κs =
     let R = now (c .before .before .before .before .before .before .before .before .before .before .before .before .before .before .before .before .before .before .before .before .before .before .before .before .before .before .before .before .before .args .report) in
-    let D1 = c .before .before .before .before .before .before .before .before .before .before .before .before .before .before .before .before .before .before .before .before .before .before .before .before .before .fresh-evar .ensures .1 1024 _ _ R (c .before .before .before .before .before .before .before .before .before .before .before .before .before .before .before .before .before .before .before .before .before .before .before .before .before .before .before .before .before .pre .0) in
-    let D2 = c .before .before .before .before .before .before .before .before .before .before .before .before .before .before .before .before .before .before .before .before .before .before .before .before .fresh-evar2 .ensures .1 1024 _ _ R (D1 .kept) in
-    let D3 = c .before .before .before .before .before .before .before .before .before .before .before .before .before .before .before .before .before .before .before .before .before .before .push-tvar .ensures .2 1024 _ R (D2 .kept) in
-    let D4 = c .before .before .before .before .before .before .before .before .before .before .before .before .before .before .before .before .push-sub .ensures .2 1024 _ R (D3 .kept) in
-    let D5 = c .before .before .before .before .before .before .before .before .before .before .before .solve-evar .ensures .2 1024 _ R (D4 .kept) in
+    let ls : List Triple = [] in
+    let D1 = c .before .before .before .before .before .before .before .before .before .before .before .before .before .before .before .before .before .before .before .before .before .before .before .before .before .fresh-evar .ensures .1 1024 ls _ _ R (c .before .before .before .before .before .before .before .before .before .before .before .before .before .before .before .before .before .before .before .before .before .before .before .before .before .before .before .before .before .pre .0) in
+    let D2 = c .before .before .before .before .before .before .before .before .before .before .before .before .before .before .before .before .before .before .before .before .before .before .before .before .fresh-evar2 .ensures .1 1024 ls _ _ R (D1 .kept) in
+    let D3 = c .before .before .before .before .before .before .before .before .before .before .before .before .before .before .before .before .before .before .before .before .before .before .push-tvar .ensures .2 1024 ls _ R (D2 .kept) in
+    let D4 = c .before .before .before .before .before .before .before .before .before .before .before .before .before .before .before .before .push-sub .ensures .2 1024 ls _ R (D3 .kept) in
+    let D5 = c .before .before .before .before .before .before .before .before .before .before .before .solve-evar .ensures .2 1024 ls _ R (D4 .kept) in
     let Z = c .before .before .before .before .before .zonk .ensures .2 in
-    let D6 = Z .does _ (D5 .kept) in
+    let D6 = Z .does ls _ (D5 .kept) in
     (D6 .kept .board, let z = Z .within in omega arith)
 
 same-length : tie.Need-same-length
@@ -99,15 +105,16 @@ same-length-3 c = c .before .before .before .before .before .before .before .bef
 returns : tie.Need-returns
 unfolding nodesAt
 returns c =
+    λ (ls : List Triple).
     let R = now (c .before .before .before .before .before .before .before .before .before .before .before .before .before .before .before .before .before .before .before .before .before .before .before .before .before .before .before .before .before .before .before .before .args .report) in
-    let D1 = c .before .before .before .before .before .before .before .before .before .before .before .before .before .before .before .before .before .before .before .before .before .before .before .before .before .before .before .before .fresh-evar .ensures .1 1024 _ _ R (c .before .before .before .before .before .before .before .before .before .before .before .before .before .before .before .before .before .before .before .before .before .before .before .before .before .before .before .before .before .before .before .before .pre .0) in
-    let D2 = c .before .before .before .before .before .before .before .before .before .before .before .before .before .before .before .before .before .before .before .before .before .before .before .before .before .before .before .fresh-evar2 .ensures .1 1024 _ _ R (D1 .kept) in
-    let D3 = c .before .before .before .before .before .before .before .before .before .before .before .before .before .before .before .before .before .before .before .before .before .before .before .before .before .push-tvar .ensures .2 1024 _ R (D2 .kept) in
-    let D4 = c .before .before .before .before .before .before .before .before .before .before .before .before .before .before .before .before .before .before .before .push-sub .ensures .2 1024 _ R (D3 .kept) in
-    let D5 = c .before .before .before .before .before .before .before .before .before .before .before .before .before .before .solve-evar .ensures .2 1024 _ R (D4 .kept) in
+    let D1 = c .before .before .before .before .before .before .before .before .before .before .before .before .before .before .before .before .before .before .before .before .before .before .before .before .before .before .before .before .fresh-evar .ensures .1 1024 ls _ _ R (c .before .before .before .before .before .before .before .before .before .before .before .before .before .before .before .before .before .before .before .before .before .before .before .before .before .before .before .before .before .before .before .before .pre .0) in
+    let D2 = c .before .before .before .before .before .before .before .before .before .before .before .before .before .before .before .before .before .before .before .before .before .before .before .before .before .before .before .fresh-evar2 .ensures .1 1024 ls _ _ R (D1 .kept) in
+    let D3 = c .before .before .before .before .before .before .before .before .before .before .before .before .before .before .before .before .before .before .before .before .before .before .before .before .before .push-tvar .ensures .2 1024 ls _ R (D2 .kept) in
+    let D4 = c .before .before .before .before .before .before .before .before .before .before .before .before .before .before .before .before .before .before .before .push-sub .ensures .2 1024 ls _ R (D3 .kept) in
+    let D5 = c .before .before .before .before .before .before .before .before .before .before .before .before .before .before .solve-evar .ensures .2 1024 ls _ R (D4 .kept) in
     let Z = c .before .before .before .before .before .before .before .before .zonk .ensures .2 in
-    let D6 = Z .does _ (D5 .kept) in
-    let D7 = c .before .before .push-var .ensures .2 1024 _ _ (D6 .kept) in
+    let D6 = Z .does ls _ (D5 .kept) in
+    let D7 = c .before .before .push-var .ensures .2 1024 ls _ _ (D6 .kept) in
     fresh-then D1 (fresh-then D2 (push-then D3 (push-then D4 (solve-then D5 (zonk-then (D5 .kept) Z D7)))))
 
 pub script-spec : {M : Type 1} → statement M
