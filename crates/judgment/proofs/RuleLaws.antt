@@ -26,7 +26,7 @@ use Rattle.judgment.specs.Rules.{Env, Side, left, right, onSide, offSide
 use Rattle.judgment.proofs.Invariant.{Mono, NotClash, OK, EntryOK, ok-later, all-later, lines-later, SolutionOK, Inv, SolveOK, Good}
 
 ---------------------------------------------------------------- small facts
-occurs-false : (k : ℕ) (t : Ty) → occurs k t ≡ false → All (Avoids k) t
+pub occurs-false : (k : ℕ) (t : Ty) → occurs k t ≡ false → All (Avoids k) t
 unfolding occurs
 occurs-false k [] e = tt
 occurs-false k (n ∷ ns) e = go (isNode 17 k n) refl e (λ q. occurs-false k ns q)

@@ -177,3 +177,17 @@ fresh-made c r e g = by (going (c .halt)) refl (ltb (c .fresh) 1000) refl
     by true p true q = let z : r ≡ made c = e ∙ rw (p, q) in ap (λ (d : Run). d .fresh) z
     by true p false q = let z : r ≡ stopped c NoFreshNumber = e ∙ rw (p, q) in absurd (true≢false (sym g ∙ ap (λ (d : Run). going (d .halt)) z))
     by false p y q = let z : r ≡ c = e ∙ rw p in absurd (true≢false (sym g ∙ ap (λ (d : Run). going (d .halt)) z ∙ p))
+
+-- ---- the report
+-- while a run goes on, nothing hangs on what the report holds
+pub report-free : {w : ℕ} {ls : List Triple} {b k rep rep₁ : List ℕ} {c : Run} {p : Rule} {b' k' rep' : List ℕ} {r : Run} → going (c .halt) ≡ true
+    → Does w ls b k rep₁ c p b' k' rep' r → Does w ls b k rep c p b' k' rep' r
+report-free {w} {ls} {b} {k} {rep} {rep₁} {c} {p} g d = record {
+  kept = d .kept;
+  taken = d .taken;
+  outcome = d .outcome ∙ ap (performO (limitsWith w) p) (same (c .halt) g);
+}
+  where
+    same : (h : Halt) → going h ≡ true → outcomeBy h rep₁ (stateOf ls b k c) ≡ outcomeBy h rep (stateOf ls b k c)
+    same Going e = refl
+    same (Refused x) e = absurd (true≢false (sym e))

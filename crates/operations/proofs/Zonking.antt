@@ -7,9 +7,9 @@ use native.Mathlib.Omega.{arith}
 use lib.ListN.{length, take}
 use lib.Seq.{sets, length-sets, take-all}
 use lib.Dec.{leb}
-use borrow.Author.Tests.{le-leb, lt-leb}
+use borrow.Author.Tests.{le-leb, lt-leb, leb-true}
 use Rattle.nodes.specs.Nodes.{Ty, words, nodesAt}
-use Rattle.nodes.proofs.Laws.{nodesAt-same}
+use Rattle.nodes.proofs.Laws.{nodesAt-same, nodesAt-below}
 use Rattle.spelling.specs.declared.Triple.{Triple}
 use Rattle.judgment.specs.declared.TypeError.the-variants.{TypeTooLong}
 use Rattle.judgment.specs.Solutions.{writeOut}
@@ -110,3 +110,26 @@ module _ {k : List ℕ} {c : Run} {s : List ℕ} {at n : ℕ} {rep : List ℕ} {
             within = let r = a .room in omega (arith, same-length);
           },
         )
+
+-- ---- what a caller asks of the words that a write-out leaves
+module _ (c : Run) (t : Ty) (to w : ℕ) where
+  -- no more nodes than the limit
+  pub zonk-few : {z : Zonked} → z ≡ zonkRun c t to w → z .nodes ≤ w
+  zonk-few {z} e = by (going (c .halt)) refl (leb (to + length t) (to + w)) refl
+    where
+      by : (x : Bool) → going (c .halt) ≡ x → (y : Bool) → leb (to + length t) (to + w) ≡ y → z .nodes ≤ w
+      by true p true q =
+          let l = leb-true (to + length t) (to + w) q in
+          let u : z ≡ record { run = c; nodes = to + length t - to } = e ∙ rw (p, q) in
+          let v = ap (λ (d : Zonked). d .nodes) u in
+          omega arith
+      by true p false q = let u : z ≡ record { run = stopped c TypeTooLong; nodes = 0 } = e ∙ rw (p, q) in let v = ap (λ (d : Zonked). d .nodes) u in omega arith
+      by false p y q = let u : z ≡ record { run = c; nodes = 0 } = e ∙ rw p in let v = ap (λ (d : Zonked). d .nodes) u in omega arith
+
+  -- what stands before it stays
+  pub zonk-below : (rep rep' : List ℕ) → rep' ≡ zonkWords rep c t to w → (p m : ℕ) → p + 2 * m ≤ 2 * to → nodesAt rep' p m ≡ nodesAt rep p m
+  zonk-below rep rep' e p m h = ap (λ (x : List ℕ). nodesAt x p m) e ∙ by (going (c .halt))
+    where
+      by : (x : Bool) → nodesAt (cond x (writtenTo t to (to + w) rep) rep) p m ≡ nodesAt rep p m
+      by true = nodesAt-below rep (2 * to) (words (take (to + w - to) t)) p m h
+      by false = refl

@@ -5,10 +5,11 @@ use mathlib.Core.Bool.{Bool, true, false, cond}
 use mathlib.Core.List.{List, [], _∷_, _++_}
 use Prim.Native.Nat.{ℕ, zero, suc, _+_, _*_, _-_, _≤_, _<_}
 use lib.ListN.{length}
-use Rattle.nodes.specs.Nodes.{Node, node, Ty, kind, number, nodesAt}
+use Rattle.nodes.specs.Nodes.{Node, node, Ty, kind, number, nodeParts, nodesAt}
+use Rattle.nodes.specs.Parts.{Whole}
 use Rattle.nodes.specs.Lists.{All}
 use Rattle.judgment.specs.Types.{unknown, first, rest, View, isArrow, isApp, isForall, isUnknown, isOther, view, eqTy}
-use Rattle.judgment.specs.Solutions.{Free, keys}
+use Rattle.judgment.specs.Solutions.{value, Free, keys}
 use Rattle.judgment.specs.Board.{tvar, sub, Rule, done, fresh, push, solve, _>>=_, _>>_}
 use Rattle.judgment.specs.Rules.{Side, left, right, onSide, mismatch, unknownRight, subtypeBy}
 use Rattle.book.specs.Book.{sols, Booked}
@@ -62,10 +63,6 @@ partsBy false l r = do
   push (sub (rest l) (rest r))
   done
 
--- two written-out types
-abbrev pub writtenBy : Ty → Ty → Rule
-writtenBy l r = cond (eqTy l r) done (subtypeBy l r (view l) (view r))
-
 -- A pair of kind 13 or 15 for the unsolved x, and a type whose parts are compared.
 pub record SplitAsk (b k : List ℕ) (c : Run) (kind x : ℕ) (t : List ℕ) (at n : ℕ) : Type 0 where
   pub formed : WellFormed b k c
@@ -110,3 +107,34 @@ pub record SubAsk (b k rep : List ℕ) (c : Run) (l r : ℕ) : Type 0 where
   pub within : 2 * (l + r) ≤ length rep
   pub left : Written k c (nodesAt rep 0 l)
   pub right : Written k c (nodesAt rep (2 * l) r)
+
+-- The parts of two types in one slice.
+pub record PartsAsk (b : List ℕ) (c : Run) (t : List ℕ) (la ln ra rn : ℕ) : Type 0 where
+  pub formed : (k : List ℕ) × WellFormed b k c
+  pub left : la + 2 * ln ≤ length t
+  pub right : ra + 2 * rn ≤ length t
+  pub fewLeft : ln ≤ 4096
+  pub fewRight : rn ≤ 4096
+
+-- Two types one after the other in the report, of which one is opened.
+pub record OpenAsk (b rep : List ℕ) (c : Run) (l r : ℕ) : Type 0 where
+  pub formed : (k : List ℕ) × WellFormed b k c
+  pub goes : going (c .halt) ≡ true
+  pub within : 2 * (l + r) ≤ length rep
+  pub fewLeft : l ≤ 4096
+  pub fewRight : r ≤ 4096
+
+-- A type that stands on the board, and a solution: one whole type, whose unknowns were made.
+pub record Sound (n : ℕ) (t : Ty) : Type 0 where
+  pub whole : Whole nodeParts t 1
+  pub made : All (Made n) t
+
+-- Sub of the types from word `at` of the board on, with at most w nodes written out.
+pub record SubtypeAsk (b k rep : List ℕ) (c : Run) (at ln rn w : ℕ) : Type 0 where
+  pub formed : WellFormed b k c
+  pub within : at + 2 * (ln + rn) ≤ length b
+  pub limit : w ≤ 4096
+  pub report : 4 * w ≤ length rep
+  pub left : Sound (c .fresh) (nodesAt b at ln)
+  pub right : Sound (c .fresh) (nodesAt b (at + 2 * ln) rn)
+  pub solutions : All (λ x. Sound (c .fresh) (value x)) (sols k)

@@ -4,14 +4,15 @@ ghost use mathlib.Core.Logic.{_≢_};
 ghost use mathlib.Core.Bool.{true};
 ghost use mathlib.Core.List.{List};
 ghost use Prim.Native.Nat.{ℕ, _+_, _*_, _-_, _≤_, _<_};
-ghost use lib.ListN.{length};
+ghost use lib.ListN.{length, getD};
 ghost use Rattle.nodes.specs.Nodes.{nodesAt};
+ghost use Rattle.spelling.specs.declared.Triple.{Triple};
 ghost use Rattle.judgment.specs.Types.{view};
 ghost use Rattle.judgment.specs.Board.{push as pushRule, done};
-ghost use Rattle.judgment.specs.Rules.{left as leftSide, right as rightSide, onSide, solveMonotype, instantiate as instantiateRule};
+ghost use Rattle.judgment.specs.Rules.{left as leftSide, right as rightSide, onSide, solveMonotype, instantiate as instantiateRule, forallRight, forallLeft, unknownLeft, subtypeBy, subtype as subtypeRule};
 ghost use Rattle.board.specs.Board.{Stacked};
 ghost use Rattle.operations.specs.State.{WellFormed, Does, PerformsOnBoard, going};
-ghost use Rattle.subtyping.specs.Subtyping.{shapeOf, sideOf, splitBy, rightBy, partsBy, writtenBy, SplitAsk, MonoAsk, InstAsk, SubAsk};
+ghost use Rattle.subtyping.specs.Subtyping.{shapeOf, sideOf, splitBy, rightBy, partsBy, SplitAsk, MonoAsk, InstAsk, PartsAsk, OpenAsk, SubAsk, SubtypeAsk};
 use board::before;
 use core_types::first_part;
 use core_types::is_monotype;
@@ -97,7 +98,7 @@ fn split(
     n: usize,
 ) -> Run
     requires { ⌜ SplitAsk (now board) (now book) c kind x (now t) at n ⌝ }
-    ensures { λ r. ⌜ ((w : ℕ) (rep : List ℕ) → Does w (now (board .entry)) (now (book .entry)) rep c (λ ls. splitBy kind x (sideOf first) (sideOf second) (nodesAt (now (t .entry)) at n)) (now (board .exit)) (now (book .exit)) rep r) ⌝ }
+    ensures { λ r. ⌜ ((w : ℕ) (ls : List Triple) (rep : List ℕ) → Does w ls (now (board .entry)) (now (book .entry)) rep c (splitBy kind x (sideOf first) (sideOf second) (nodesAt (now (t .entry)) at n)) (now (board .exit)) (now (book .exit)) rep r) ⌝ }
 {
     let m = first_part(t, at, n);
     let next = at + 2 * m;
@@ -119,7 +120,7 @@ fn split(
 // Solves x with the n nodes at word `at` of the report, or refuses if there is a quantifier in them.
 fn solve_monotype(book: &mut [u32], report: &mut [u32], c: Run, x: u32, at: usize, n: usize) -> Run
     requires { ⌜ MonoAsk (now book) (now report) c x at n ⌝ }
-    ensures { λ r. ⌜ ((w : ℕ) (b : List ℕ) → WellFormed b (now (book .entry)) c → Does w b (now (book .entry)) (now (report .entry)) c (λ ls. solveMonotype x (nodesAt (now (report .entry)) at n)) b (now (book .exit)) (now (report .exit)) r) ⌝ }
+    ensures { λ r. ⌜ ((w : ℕ) (ls : List Triple) (b : List ℕ) → WellFormed b (now (book .entry)) c → Does w ls b (now (book .entry)) (now (report .entry)) c (solveMonotype x (nodesAt (now (report .entry)) at n)) b (now (book .exit)) (now (report .exit)) r) ⌝ }
 {
     if is_monotype(report, at, n) {
         return solve_evar(book, c, x, report, at, n);
@@ -140,7 +141,7 @@ fn instantiate(
     n: usize,
 ) -> Run
     requires { ⌜ InstAsk (now board) (now book) (now report) c x at n ⌝ }
-    ensures { λ r. ⌜ ((w : ℕ) → Does w (now (board .entry)) (now (book .entry)) (now (report .entry)) c (λ ls. instantiateRule (sideOf left) x (nodesAt (now (report .entry)) at n)) (now (board .exit)) (now (book .exit)) (now (report .exit)) r) ⌝ }
+    ensures { λ r. ⌜ ((w : ℕ) (ls : List Triple) → Does w ls (now (board .entry)) (now (book .entry)) (now (report .entry)) c (instantiateRule (sideOf left) x (nodesAt (now (report .entry)) at n)) (now (board .exit)) (now (book .exit)) (now (report .exit)) r) ⌝ }
 {
     let s = shape(report, at, n);
     let body = at + 2;
@@ -157,6 +158,211 @@ fn instantiate(
             let key = [17u32, x];
             return solve_evar(book, c, y, &key, 0, 1);
         }
+        return solve_monotype(book, report, c, x, at, n);
     }
     solve_monotype(book, report, c, x, at, n)
+}
+
+pub fn instantiate_left(
+    board: &mut [u32],
+    book: &mut [u32],
+    report: &mut [u32],
+    c: Run,
+    x: u32,
+    at: usize,
+    n: usize,
+) -> Run
+    requires { ⌜ InstAsk (now board) (now book) (now report) c x at n ⌝ }
+    ensures { λ r. ⌜ ((w : ℕ) (ls : List Triple) → Does w ls (now (board .entry)) (now (book .entry)) (now (report .entry)) c (instantiateRule leftSide x (nodesAt (now (report .entry)) at n)) (now (board .exit)) (now (book .exit)) (now (report .exit)) r) ⌝ }
+{
+    instantiate(board, book, report, c, true, x, at, n)
+}
+
+pub fn instantiate_right(
+    board: &mut [u32],
+    book: &mut [u32],
+    report: &mut [u32],
+    c: Run,
+    x: u32,
+    at: usize,
+    n: usize,
+) -> Run
+    requires { ⌜ InstAsk (now board) (now book) (now report) c x at n ⌝ }
+    ensures { λ r. ⌜ ((w : ℕ) (ls : List Triple) → Does w ls (now (board .entry)) (now (book .entry)) (now (report .entry)) c (instantiateRule rightSide x (nodesAt (now (report .entry)) at n)) (now (board .exit)) (now (book .exit)) (now (report .exit)) r) ⌝ }
+{
+    instantiate(board, book, report, c, false, x, at, n)
+}
+
+// Compares the parts of two Arrows, crossed, or of two Apps: the ln nodes at word la of t and the rn nodes at word ra.
+fn push_parts(
+    board: &mut [u32],
+    c: Run,
+    cross: bool,
+    t: &[u32],
+    la: usize,
+    ln: usize,
+    ra: usize,
+    rn: usize,
+) -> Run
+    requires { ⌜ PartsAsk (now board) c (now t) la ln ra rn ⌝ }
+    ensures { λ o. ⌜ PerformsOnBoard (now (board .entry)) c (λ ls. partsBy cross (nodesAt (now (t .entry)) la ln) (nodesAt (now (t .entry)) ra rn)) (now (board .exit)) o ⌝ }
+{
+    let a = first_part(t, la, ln);
+    let b = first_part(t, ra, rn);
+    let lm = la + 2 * a;
+    let rm = ra + 2 * b;
+    let lk = ln - a;
+    let rk = rn - b;
+    if cross {
+        let c1 = push_sub(board, c, t, ra, b, t, la, a);
+        return push_sub(board, c1, t, lm, lk, t, rm, rk);
+    }
+    let c2 = push_sub(board, c, t, la, a, t, ra, b);
+    push_sub(board, c2, t, lm, lk, t, rm, rk)
+}
+
+// A quantifier on the right: its name is replaced by a fresh universal.
+fn open_right(board: &mut [u32], report: &mut [u32], c: Run, l: usize, r: usize) -> Run
+    requires { ⌜ OpenAsk (now board) (now report) c l r × (0 < r) ⌝ }
+    ensures { λ o. ⌜ ((w : ℕ) (ls : List Triple) (k : List ℕ) → WellFormed (now (board .entry)) k c → Does w ls (now (board .entry)) k (now (report .entry)) c (forallRight (nodesAt (now (report .entry)) 0 l) (nodesAt (now (report .entry)) (2 * l) r) (getD (now (report .entry)) (2 * l + 1) 0) (nodesAt (now (report .entry)) (2 * l + 2) (r - 1))) (now (board .exit)) k (now (report .exit)) o) ⌝ }
+{
+    let head = 2 * l;
+    let at = head + 2;
+    let name = report[head + 1];
+    let m = r - 1;
+    let u = c.fresh;
+    substitute_type(report, at, m, name, 18, u);
+    let c1 = fresh_evar(c);
+    let c2 = push_tvar(board, c1, 18, u);
+    push_sub(board, c2, report, 0, l, report, at, m)
+}
+
+// A quantifier on the left: its name is replaced by a fresh unknown, after its marker.
+fn open_left(board: &mut [u32], report: &mut [u32], c: Run, l: usize, r: usize) -> Run
+    requires { ⌜ OpenAsk (now board) (now report) c l r × (0 < l) ⌝ }
+    ensures { λ o. ⌜ ((w : ℕ) (ls : List Triple) (k : List ℕ) → WellFormed (now (board .entry)) k c → Does w ls (now (board .entry)) k (now (report .entry)) c (forallLeft (nodesAt (now (report .entry)) 0 l) (nodesAt (now (report .entry)) (2 * l) r) (getD (now (report .entry)) 1 0) (nodesAt (now (report .entry)) 2 (l - 1))) (now (board .exit)) k (now (report .exit)) o) ⌝ }
+{
+    let name = report[1];
+    let m = l - 1;
+    let right = 2 * l;
+    let u = c.fresh;
+    substitute_type(report, 2, m, name, 17, u);
+    let c1 = fresh_evar(c);
+    let c2 = push_tvar(board, c1, 17, u);
+    let c3 = push_tvar(board, c2, 17, u);
+    push_sub(board, c3, report, 2, m, report, right, r)
+}
+
+// The right side alone: an unknown that does not occur on the left is instantiated, and anything else is a mismatch.
+fn unknown_right(
+    board: &mut [u32],
+    book: &mut [u32],
+    report: &mut [u32],
+    c: Run,
+    l: usize,
+    r: usize,
+) -> Run
+    requires { ⌜ SubAsk (now board) (now book) (now report) c l r × (shapeOf (view (nodesAt (now report) 0 l)) ≢ 3) ⌝ }
+    ensures { λ o. ⌜ ((w : ℕ) (ls : List Triple) → Does w ls (now (board .entry)) (now (book .entry)) (now (report .entry)) c (rightBy (nodesAt (now (report .entry)) 0 l) (nodesAt (now (report .entry)) (2 * l) r) (view (nodesAt (now (report .entry)) (2 * l) r))) (now (board .exit)) (now (book .exit)) (now (report .exit)) o) ⌝ }
+{
+    let right = 2 * l;
+    if shape(report, right, r) == UNKNOWN {
+        let x = report[right + 1];
+        if occurs_check(report, 0, l, x) {
+            return refuse(c, TypeError::SubtypingError(l as u32, r as u32));
+        }
+        return instantiate_right(board, book, report, c, x, 0, l);
+    }
+    refuse(c, TypeError::SubtypingError(l as u32, r as u32))
+}
+
+// An unknown on the left that does not occur on the right is instantiated.
+fn unknown_left(
+    board: &mut [u32],
+    book: &mut [u32],
+    report: &mut [u32],
+    c: Run,
+    l: usize,
+    r: usize,
+) -> Run
+    requires { ⌜ SubAsk (now board) (now book) (now report) c l r × (shapeOf (view (nodesAt (now report) 0 l)) ≡ 4) × (shapeOf (view (nodesAt (now report) (2 * l) r)) ≢ 3) ⌝ }
+    ensures { λ o. ⌜ ((w : ℕ) (ls : List Triple) → Does w ls (now (board .entry)) (now (book .entry)) (now (report .entry)) c (unknownLeft (nodesAt (now (report .entry)) 0 l) (nodesAt (now (report .entry)) (2 * l) r) (getD (now (report .entry)) 1 0) (rightBy (nodesAt (now (report .entry)) 0 l) (nodesAt (now (report .entry)) (2 * l) r) (view (nodesAt (now (report .entry)) (2 * l) r)))) (now (board .exit)) (now (book .exit)) (now (report .exit)) o) ⌝ }
+{
+    let right = 2 * l;
+    let x = report[1];
+    if occurs_check(report, right, r, x) {
+        return unknown_right(board, book, report, c, l, r);
+    }
+    instantiate_left(board, book, report, c, x, right, r)
+}
+
+// Two written-out types that are not the same.
+fn subtype_shapes(
+    board: &mut [u32],
+    book: &mut [u32],
+    report: &mut [u32],
+    c: Run,
+    l: usize,
+    r: usize,
+) -> Run
+    requires { ⌜ SubAsk (now board) (now book) (now report) c l r ⌝ }
+    ensures { λ o. ⌜ ((w : ℕ) (ls : List Triple) → Does w ls (now (board .entry)) (now (book .entry)) (now (report .entry)) c (subtypeBy (nodesAt (now (report .entry)) 0 l) (nodesAt (now (report .entry)) (2 * l) r) (view (nodesAt (now (report .entry)) 0 l)) (view (nodesAt (now (report .entry)) (2 * l) r))) (now (board .exit)) (now (book .exit)) (now (report .exit)) o) ⌝ }
+{
+    let right = 2 * l;
+    let body = right + 2;
+    let sl = shape(report, 0, l);
+    let sr = shape(report, right, r);
+    if sr == FORALL {
+        return open_right(board, report, c, l, r);
+    }
+    if sl == FORALL {
+        return open_left(board, report, c, l, r);
+    }
+    if sl == UNKNOWN {
+        return unknown_left(board, book, report, c, l, r);
+    }
+    if sl == ARROW {
+        if sr == ARROW {
+            return push_parts(board, c, true, report, 2, l - 1, body, r - 1);
+        }
+        return unknown_right(board, book, report, c, l, r);
+    }
+    if sl == APP {
+        if sr == APP {
+            return push_parts(board, c, false, report, 2, l - 1, body, r - 1);
+        }
+        return unknown_right(board, book, report, c, l, r);
+    }
+    unknown_right(board, book, report, c, l, r)
+}
+
+// Sub: writes out its two types, which stand one after the other from word `at` of the board on, left and then right; equal sides finish.
+pub fn solve_subtype(
+    board: &mut [u32],
+    book: &mut [u32],
+    report: &mut [u32],
+    c: Run,
+    at: usize,
+    ln: usize,
+    rn: usize,
+    w: usize,
+) -> Run
+    requires { ⌜ SubtypeAsk (now board) (now book) (now report) c at ln rn w ⌝ }
+    ensures { λ o. ⌜ ((ls : List Triple) → Does w ls (now (board .entry)) (now (book .entry)) (now (report .entry)) c (subtypeRule (nodesAt (now (board .entry)) at ln) (nodesAt (now (board .entry)) (at + 2 * ln) rn)) (now (board .exit)) (now (book .exit)) (now (report .exit)) o) ⌝ }
+{
+    let z = zonk(book, c, board, at, ln, report, 0, w);
+    let c1 = z.run;
+    let l = z.nodes;
+    let next = at + 2 * ln;
+    let y = zonk(book, c1, board, next, rn, report, l, w);
+    let c2 = y.run;
+    let r = y.nodes;
+    let halt = c2.halt;
+    if is_going(halt) {
+        if same_type(report, 0, l, report, 2 * l, r) {
+            return c2;
+        }
+        return subtype_shapes(board, book, report, c2, l, r);
+    }
+    c2
 }

@@ -1,0 +1,76 @@
+-- Instantiation by the view of its type. Assumes nothing.
+use mathlib.Core.Path.{_≡_, refl, sym, ap, _∙_, subst}
+use mathlib.Core.Bool.{Bool, true, false, cond, not}
+use mathlib.Core.List.{List, [], _∷_, _++_}
+use Prim.Native.Nat.{ℕ, zero, suc, _+_, _*_, _-_, _≤_, _<_}
+use native.Mathlib.Omega.{arith}
+use lib.Dec.{eqb}
+use lib.ListN.{length, getD}
+use borrow.Author.Tests.{ne-eqb, eqb-false}
+use Rattle.nodes.specs.Nodes.{Node, node, Ty, nodesAt}
+use Rattle.nodes.specs.Lists.{All}
+use Rattle.spelling.specs.declared.Triple.{Triple}
+use Rattle.judgment.specs.Types.{unknown, first, rest, View, isArrow, isApp, isForall, isUnknown, isOther, view}
+use Rattle.judgment.specs.Solutions.{Free, keys}
+use Rattle.judgment.specs.Board.{Rule, done, solve, look, before}
+use Rattle.judgment.specs.Board.{Board as Entries}
+use Rattle.judgment.specs.Rules.{Side, left, right, onSide, offSide, solveMonotype, instantiateBy, instantiateFrom, instantiate}
+use Rattle.book.specs.Book.{sols}
+use Rattle.operations.specs.declared.Run.{Run}
+use Rattle.operations.specs.State.{Solves}
+use Rattle.subtyping.specs.Subtyping.{shapeOf, sideOf, Made, splitBy, SplitAsk, MonoAsk, InstAsk}
+use Rattle.subtyping.proofs.Shapes.{unknown-is}
+
+-- ---- the rule by its view
+module _ (d : Bool) (x : ℕ) (t : Ty) where
+  abbrev again : Ty → Rule
+  again t′ = instantiateFrom (length t) (sideOf d) x t′
+
+  by-view : {v : View} → view t ≡ v → instantiateBy (sideOf d) x t again v ≡ instantiate (sideOf d) x t
+  unfolding instantiateFrom
+  by-view e = ap (instantiateBy (sideOf d) x t again) (sym e)
+
+  pub inst-arrow : (u : Ty) → view t ≡ isArrow (first u) (rest u) → splitBy 13 x (sideOf (not d)) (sideOf d) u ≡ instantiate (sideOf d) x t
+  inst-arrow u e = turned d ∙ by-view e
+    where
+      turned : (d : Bool) → splitBy 13 x (sideOf (not d)) (sideOf d) u ≡ instantiateBy (sideOf d) x t (λ t′. instantiateFrom (length t) (sideOf d) x t′) (isArrow (first u) (rest u))
+      turned true = refl
+      turned false = refl
+
+  pub inst-app : (u : Ty) → view t ≡ isApp (first u) (rest u) → splitBy 15 x (sideOf d) (sideOf d) u ≡ instantiate (sideOf d) x t
+  inst-app u e = by-view e
+
+  pub inst-other : view t ≡ isOther → solveMonotype x t ≡ instantiate (sideOf d) x t
+  inst-other e = by-view e
+
+  -- the choice between two unknowns
+  abbrev pub reach : ℕ → Entries → Rule
+  reach y Γ = cond (before x y Γ) (solve y (unknown x) done) (solveMonotype x t)
+
+  pub inst-unknown : (y : ℕ) → view t ≡ isUnknown y → look (reach y) ≡ instantiate (sideOf d) x t
+  inst-unknown y e = by-view e
+
+-- ---- what the calls ask
+module _ {b k rep : List ℕ} {c : Run} {x at n : ℕ} (a : InstAsk b k rep c x at n) where
+  pub mono-asks : MonoAsk k rep c x at n
+  mono-asks = record { book = a .formed .book; numbers = a .formed .numbers; goes = a .goes; within = a .within; some = a .some; few = a .few; solves = a .solves }
+
+  pub split-asks : (kind : ℕ) → (kind ≡ 17 → ⊥) → SplitAsk b k c kind x rep (at + 2) (n - 1)
+  split-asks kind p = record {
+    formed = a .formed;
+    pair = p;
+    within = let w = a .within in let s = a .some in omega arith;
+    few = let f = a .few in omega arith;
+    known = a .solves .made;
+    unsolved = a .solves .unsolved;
+  }
+
+  -- two unknowns: the one that stands in the type may be solved by x
+  pub reach-solves : shapeOf (view (nodesAt rep at n)) ≡ 4 → Solves k c (getD rep (at + 1) 0) (unknown x)
+  reach-solves e =
+      let y : ℕ = getD rep (at + 1) 0 in
+      let q = unknown-is rep at n (a .some) e in
+      let m = subst (All (Made (c .fresh))) q (a .made) in
+      let f = subst (All (Free (x ∷ keys (sols k)))) q (a .solves .free) in
+      let z : eqb y x ≡ false = ne-eqb y x (λ i. eqb-false x y (f .0 .0) (sym i)) in
+      record { made = m .0 refl; unsolved = f .0 .1; free = ((z, a .solves .unsolved), tt) }

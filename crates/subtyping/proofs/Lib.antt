@@ -1,0 +1,6 @@
+pub mod Shapes
+pub mod Parts
+pub mod Fronts
+pub mod Insts
+pub mod Subs
+pub mod Outs

@@ -1,0 +1,165 @@
+use mathlib.Core.Path.{_≡_, refl, sym, ap, ap₂, _∙_}
+use mathlib.Core.Bool.{true, false}
+use mathlib.Core.List.{List, []}
+use Prim.Native.Nat.{ℕ, _+_, _*_, _-_, _≤_}
+use native.Mathlib.Omega.{arith}
+use denote.Ref.{now}
+use lib.ListN.{length}
+use Rattle.nodes.specs.Nodes.{Ty, nodesAt}
+use Rattle.spelling.specs.declared.Triple.{Triple}
+use Rattle.judgment.specs.Board.{Rule, sub, push, done}
+use Rattle.operations.specs.State.{WellFormed}
+use Rattle.core_types.proofs.Walks.{first-within, first-nodes, rest-nodes}
+use Rattle.operations.proofs.Then.{push-then, does-as}
+use borrow.Author.Needs.{needs}
+use Rattle.subtyping.proofs.push_parts.Statement.{statement}
+use Rattle.subtyping.proofs.push_parts.Tie as tie
+
+first-part-requires : tie.Need-first-part-requires
+first-part-requires c κs = (c .before .before .pre .left, c .before .before .pre .fewLeft)
+
+first-part-requires-2 : tie.Need-first-part-requires-2
+first-part-requires-2 c κs = (c .before .before .before .pre .right, c .before .before .before .pre .fewRight)
+
+mul-lm : tie.Need-mul-lm
+mul-lm c =
+    let a = c .before .before .before .before .args in
+    let p = c .before .before .before .before .pre in
+    let x : c .before .first-part .result ≤ a .ln = first-within (now (a .t)) (a .la) (a .ln) (c .before .first-part .result) (c .before .first-part .ensures) in
+    let pl = p .left in
+    let pr = p .right in
+    omega arith
+
+add-lm : tie.Need-add-lm
+add-lm c =
+    let a = c .before .before .before .before .args in
+    let p = c .before .before .before .before .pre in
+    let x : c .before .first-part .result ≤ a .ln = first-within (now (a .t)) (a .la) (a .ln) (c .before .first-part .result) (c .before .first-part .ensures) in
+    let pl = p .left in
+    let pr = p .right in
+    omega arith
+
+mul-rm : tie.Need-mul-rm
+mul-rm c =
+    let a = c .before .before .before .before .args in
+    let p = c .before .before .before .before .pre in
+    let x : c .before .first-part .result ≤ a .ln = first-within (now (a .t)) (a .la) (a .ln) (c .before .first-part .result) (c .before .first-part .ensures) in
+    let pl = p .left in
+    let pr = p .right in
+    let y : c .first-part2 .result ≤ a .rn = first-within (now (a .t)) (a .ra) (a .rn) (c .first-part2 .result) (c .first-part2 .ensures) in
+    omega arith
+
+add-rm : tie.Need-add-rm
+add-rm c =
+    let a = c .before .before .before .before .args in
+    let p = c .before .before .before .before .pre in
+    let x : c .before .first-part .result ≤ a .ln = first-within (now (a .t)) (a .la) (a .ln) (c .before .first-part .result) (c .before .first-part .ensures) in
+    let pl = p .left in
+    let pr = p .right in
+    let y : c .first-part2 .result ≤ a .rn = first-within (now (a .t)) (a .ra) (a .rn) (c .first-part2 .result) (c .first-part2 .ensures) in
+    omega arith
+
+sub-lk : tie.Need-sub-lk
+sub-lk c =
+    let a = c .before .before .before .before .args in
+    let p = c .before .before .before .before .pre in
+    let x : c .before .first-part .result ≤ a .ln = first-within (now (a .t)) (a .la) (a .ln) (c .before .first-part .result) (c .before .first-part .ensures) in
+    let pl = p .left in
+    let pr = p .right in
+    x
+
+sub-rk : tie.Need-sub-rk
+sub-rk c =
+    let a = c .before .before .before .before .args in
+    let p = c .before .before .before .before .pre in
+    let x : c .before .first-part .result ≤ a .ln = first-within (now (a .t)) (a .la) (a .ln) (c .before .first-part .result) (c .before .first-part .ensures) in
+    let pl = p .left in
+    let pr = p .right in
+    let y : c .first-part2 .result ≤ a .rn = first-within (now (a .t)) (a .ra) (a .rn) (c .first-part2 .result) (c .first-part2 .ensures) in
+    y
+
+push-sub-requires : tie.Need-push-sub-requires
+push-sub-requires c κs =
+    let a = c .before .before .before .before .before .before .args in
+    let p = c .before .before .before .before .before .before .pre in
+    let x : c .before .before .before .first-part .result ≤ a .ln = first-within (now (a .t)) (a .la) (a .ln) (c .before .before .before .first-part .result) (c .before .before .before .first-part .ensures) in
+    let pl = p .left in
+    let pr = p .right in
+    let y : c .before .before .first-part2 .result ≤ a .rn = first-within (now (a .t)) (a .ra) (a .rn) (c .before .before .first-part2 .result) (c .before .before .first-part2 .ensures) in
+    (p .formed .1 .board, omega arith, omega arith)
+
+push-sub-requires-2 : tie.Need-push-sub-requires-2
+push-sub-requires-2 c κs =
+    let a = c .before .before .before .before .before .before .before .before .before .before .args in
+    let p = c .before .before .before .before .before .before .before .before .before .before .pre in
+    let x : c .before .before .before .before .before .before .before .first-part .result ≤ a .ln = first-within (now (a .t)) (a .la) (a .ln) (c .before .before .before .before .before .before .before .first-part .result) (c .before .before .before .before .before .before .before .first-part .ensures) in
+    let pl = p .left in
+    let pr = p .right in
+    let y : c .before .before .before .before .before .before .first-part2 .result ≤ a .rn = first-within (now (a .t)) (a .ra) (a .rn) (c .before .before .before .before .before .before .first-part2 .result) (c .before .before .before .before .before .before .first-part2 .ensures) in
+    (c .before .before .before .push-sub .ensures .2 0 [] _ [] (p .formed .1) .kept .board, omega arith, omega arith)
+
+same-length : tie.Need-same-length
+same-length c = c .before .before .push-sub2 .kept .0 ∙ c .before .before .before .before .before .before .push-sub .kept .0
+
+returns : tie.Need-returns
+returns c =
+    λ (w : ℕ) (ls : List Triple) (k rep : List ℕ) (f : WellFormed (now (c .before .before .before .before .before .before .before .before .before .before .before .before .before .args .board)) k (c .before .before .before .before .before .before .before .before .before .before .before .before .before .args .c)).
+    let a = c .before .before .before .before .before .before .before .before .before .before .before .before .before .args in
+    let p = c .before .before .before .before .before .before .before .before .before .before .before .before .before .pre in
+    let x : c .before .before .before .before .before .before .before .before .before .before .first-part .result ≤ a .ln = first-within (now (a .t)) (a .la) (a .ln) (c .before .before .before .before .before .before .before .before .before .before .first-part .result) (c .before .before .before .before .before .before .before .before .before .before .first-part .ensures) in
+    let pl = p .left in
+    let pr = p .right in
+    let y : c .before .before .before .before .before .before .before .before .before .first-part2 .result ≤ a .rn = first-within (now (a .t)) (a .ra) (a .rn) (c .before .before .before .before .before .before .before .before .before .first-part2 .result) (c .before .before .before .before .before .before .before .before .before .first-part2 .ensures) in
+    let T = now (a .t) in
+    let e1 = first-nodes T (a .la) (a .ln) (c .before .before .before .before .before .before .before .before .before .before .first-part .result) (c .before .before .before .before .before .before .before .before .before .before .first-part .ensures) in
+    let e2 = rest-nodes T (a .la) (a .ln) (c .before .before .before .before .before .before .before .before .before .before .first-part .result) (c .before .before .before .before .before .before .before .before .before .before .first-part .ensures) in
+    let e3 = first-nodes T (a .ra) (a .rn) (c .before .before .before .before .before .before .before .before .before .first-part2 .result) (c .before .before .before .before .before .before .before .before .before .first-part2 .ensures) in
+    let e4 = rest-nodes T (a .ra) (a .rn) (c .before .before .before .before .before .before .before .before .before .first-part2 .result) (c .before .before .before .before .before .before .before .before .before .first-part2 .ensures) in
+    let D1 = c .before .before .before .before .before .before .push-sub .ensures .2 w ls k rep f in
+    let D2 = c .before .before .push-sub2 .ensures .2 w ls k rep (D1 .kept) in
+    rw (c .before .before .before .before .before .before .before .before .if1 .taken) (push-then (does-as (λ _. ap₂ (λ (x y : Ty). push (sub x y) done) e3 e1) D1) (does-as (λ _. ap₂ (λ (x y : Ty). push (sub x y) done) e2 e4) D2))
+
+push-sub-requires-3 : tie.Need-push-sub-requires-3
+push-sub-requires-3 c κs =
+    let a = c .before .before .before .before .before .before .args in
+    let p = c .before .before .before .before .before .before .pre in
+    let x : c .before .before .before .first-part .result ≤ a .ln = first-within (now (a .t)) (a .la) (a .ln) (c .before .before .before .first-part .result) (c .before .before .before .first-part .ensures) in
+    let pl = p .left in
+    let pr = p .right in
+    let y : c .before .before .first-part2 .result ≤ a .rn = first-within (now (a .t)) (a .ra) (a .rn) (c .before .before .first-part2 .result) (c .before .before .first-part2 .ensures) in
+    (p .formed .1 .board, omega arith, omega arith)
+
+push-sub-requires-4 : tie.Need-push-sub-requires-4
+push-sub-requires-4 c κs =
+    let a = c .before .before .before .before .before .before .before .before .before .before .args in
+    let p = c .before .before .before .before .before .before .before .before .before .before .pre in
+    let x : c .before .before .before .before .before .before .before .first-part .result ≤ a .ln = first-within (now (a .t)) (a .la) (a .ln) (c .before .before .before .before .before .before .before .first-part .result) (c .before .before .before .before .before .before .before .first-part .ensures) in
+    let pl = p .left in
+    let pr = p .right in
+    let y : c .before .before .before .before .before .before .first-part2 .result ≤ a .rn = first-within (now (a .t)) (a .ra) (a .rn) (c .before .before .before .before .before .before .first-part2 .result) (c .before .before .before .before .before .before .first-part2 .ensures) in
+    (c .before .before .before .push-sub3 .ensures .2 0 [] _ [] (p .formed .1) .kept .board, omega arith, omega arith)
+
+same-length-2 : tie.Need-same-length-2
+same-length-2 c = c .before .before .push-sub4 .kept .0 ∙ c .before .before .before .before .before .before .push-sub3 .kept .0
+
+returns-2 : tie.Need-returns-2
+returns-2 c =
+    λ (w : ℕ) (ls : List Triple) (k rep : List ℕ) (f : WellFormed (now (c .before .before .before .before .before .before .before .before .before .before .before .before .before .args .board)) k (c .before .before .before .before .before .before .before .before .before .before .before .before .before .args .c)).
+    let a = c .before .before .before .before .before .before .before .before .before .before .before .before .before .args in
+    let p = c .before .before .before .before .before .before .before .before .before .before .before .before .before .pre in
+    let x : c .before .before .before .before .before .before .before .before .before .before .first-part .result ≤ a .ln = first-within (now (a .t)) (a .la) (a .ln) (c .before .before .before .before .before .before .before .before .before .before .first-part .result) (c .before .before .before .before .before .before .before .before .before .before .first-part .ensures) in
+    let pl = p .left in
+    let pr = p .right in
+    let y : c .before .before .before .before .before .before .before .before .before .first-part2 .result ≤ a .rn = first-within (now (a .t)) (a .ra) (a .rn) (c .before .before .before .before .before .before .before .before .before .first-part2 .result) (c .before .before .before .before .before .before .before .before .before .first-part2 .ensures) in
+    let T = now (a .t) in
+    let e1 = first-nodes T (a .la) (a .ln) (c .before .before .before .before .before .before .before .before .before .before .first-part .result) (c .before .before .before .before .before .before .before .before .before .before .first-part .ensures) in
+    let e2 = rest-nodes T (a .la) (a .ln) (c .before .before .before .before .before .before .before .before .before .before .first-part .result) (c .before .before .before .before .before .before .before .before .before .before .first-part .ensures) in
+    let e3 = first-nodes T (a .ra) (a .rn) (c .before .before .before .before .before .before .before .before .before .first-part2 .result) (c .before .before .before .before .before .before .before .before .before .first-part2 .ensures) in
+    let e4 = rest-nodes T (a .ra) (a .rn) (c .before .before .before .before .before .before .before .before .before .first-part2 .result) (c .before .before .before .before .before .before .before .before .before .first-part2 .ensures) in
+    let D1 = c .before .before .before .before .before .before .push-sub3 .ensures .2 w ls k rep f in
+    let D2 = c .before .before .push-sub4 .ensures .2 w ls k rep (D1 .kept) in
+    rw (c .before .before .before .before .before .before .before .before .if1 .left) (push-then (does-as (λ _. ap₂ (λ (x y : Ty). push (sub x y) done) e1 e3) D1) (does-as (λ _. ap₂ (λ (x y : Ty). push (sub x y) done) e2 e4) D2))
+
+pub push-parts-spec : {M : Type 1} → statement M
+push-parts-spec =
+    tie.close (tie.spec first-part-requires first-part-requires-2 mul-lm add-lm mul-rm add-rm sub-lk sub-rk push-sub-requires push-sub-requires-2 same-length returns push-sub-requires-3 push-sub-requires-4 same-length-2 returns-2)

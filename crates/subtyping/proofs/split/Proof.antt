@@ -1,0 +1,142 @@
+use mathlib.Core.Path.{_≡_, refl, sym, ap, _∙_}
+use mathlib.Core.List.{List, [], _∷_}
+use mathlib.Core.Bool.{false}
+use Prim.Native.Nat.{ℕ, _+_, _*_, _-_, _≤_, _<_}
+use native.Mathlib.Nat.{le-refl, le-of-lt}
+use native.Mathlib.Omega.{arith}
+use denote.Ref.{now}
+use lib.Dec.{eqb}
+use lib.ListN.{length}
+use borrow.Author.Tests.{ne-eqb}
+use Rattle.nodes.specs.Nodes.{nodesAt}
+use Rattle.nodes.proofs.Laws.{length-nodesAt}
+use Rattle.spelling.specs.declared.Triple.{Triple}
+use Rattle.judgment.specs.Types.{first, rest}
+use Rattle.judgment.specs.Solutions.{keys}
+use Rattle.book.specs.Book.{sols}
+use Rattle.operations.specs.State.{going}
+use Rattle.operations.proofs.Then.{push-then, solve-then, fresh-then, alive, grows, unmade-free, fresh-made}
+use Rattle.core_types.proofs.Walks.{first-within, first-nodes, rest-nodes}
+use Rattle.judgment.specs.Types.{unknown}
+use Rattle.judgment.specs.Rules.{onSide}
+use Rattle.judgment.specs.Board.{Rule, push, done}
+use Rattle.subtyping.specs.Subtyping.{sideOf}
+use Rattle.subtyping.proofs.Parts.{pair-solves}
+use Rattle.nodes.specs.Nodes.{Ty}
+use Rattle.operations.proofs.Then.{does-as}
+use borrow.Author.Needs.{needs}
+use Rattle.subtyping.proofs.split.Statement.{statement}
+use Rattle.subtyping.proofs.split.Tie as tie
+
+first-part-requires : tie.Need-first-part-requires
+first-part-requires c κs = (c .before .before .before .pre .within, c .before .before .before .pre .few)
+
+mul-next : tie.Need-mul-next
+mul-next c =
+    let m = first-within (now (c .before .before .before .before .args .t)) (c .before .before .before .before .args .at) (c .before .before .before .before .args .n) (c .first-part .result) (c .first-part .ensures) in
+    let p = c .before .before .before .before .pre .within in
+    omega arith
+
+add-next : tie.Need-add-next
+add-next c =
+    let m = first-within (now (c .before .before .before .before .args .t)) (c .before .before .before .before .args .at) (c .before .before .before .before .args .n) (c .first-part .result) (c .first-part .ensures) in
+    let p = c .before .before .before .before .pre .within in
+    omega arith
+
+sub-more : tie.Need-sub-more
+sub-more c = first-within (now (c .before .before .before .before .args .t)) (c .before .before .before .before .args .at) (c .before .before .before .before .args .n) (c .first-part .result) (c .first-part .ensures)
+
+solve-evar-requires : tie.Need-solve-evar-requires
+unfolding nodesAt
+solve-evar-requires c κs =
+    let ls : List Triple = [] in
+    let rep : List ℕ = [] in
+    let f = c .before .before .before .before .before .before .before .before .pre .formed in
+    let D1 = c .before .before .before .fresh-evar .ensures .1 0 ls _ _ rep f in
+    let D2 = c .before .before .fresh-evar2 .ensures .1 0 ls _ _ rep (D1 .kept) in
+    record {
+      book = D2 .kept .book;
+      numbers = D2 .kept .numbers;
+      some = omega arith;
+      within = search needs;
+      solves = λ h. pair-solves f D1 D2 (c .before .before .before .fresh-evar .ensures .0) (ap going h) (c .before .before .before .before .before .before .before .before .args .kind) (c .before .before .before .before .before .before .before .before .args .x) (c .before .before .before .before .before .before .before .before .pre .pair) (c .before .before .before .before .before .before .before .before .pre .known) (c .before .before .before .before .before .before .before .before .pre .unsolved);
+    }
+
+push-tvar-requires : tie.Need-push-tvar-requires
+push-tvar-requires c κs =
+    let ls : List Triple = [] in
+    let rep : List ℕ = [] in
+    let f = c .before .before .before .before .before .before .before .before .before .before .before .before .pre .formed in
+    let D1 = c .before .before .before .before .before .before .before .fresh-evar .ensures .1 0 ls _ _ rep f in
+    let D2 = c .before .before .before .before .before .before .fresh-evar2 .ensures .1 0 ls _ _ rep (D1 .kept) in
+    let D3 = c .before .before .before .solve-evar .ensures .2 0 ls _ rep (D2 .kept) in
+    (D3 .kept .board, omega arith)
+
+push-tvar-requires-2 : tie.Need-push-tvar-requires-2
+push-tvar-requires-2 c κs =
+    let ls : List Triple = [] in
+    let rep : List ℕ = [] in
+    let f = c .before .before .before .before .before .before .before .before .before .before .before .before .before .before .before .before .pre .formed in
+    let D1 = c .before .before .before .before .before .before .before .before .before .before .before .fresh-evar .ensures .1 0 ls _ _ rep f in
+    let D2 = c .before .before .before .before .before .before .before .before .before .before .fresh-evar2 .ensures .1 0 ls _ _ rep (D1 .kept) in
+    let D3 = c .before .before .before .before .before .before .before .solve-evar .ensures .2 0 ls _ rep (D2 .kept) in
+    let D4 = c .before .before .before .push-tvar .ensures .2 0 ls _ rep (D3 .kept) in
+    (D4 .kept .board, omega arith)
+
+push-on-requires : tie.Need-push-on-requires
+push-on-requires c κs =
+    let ls : List Triple = [] in
+    let rep : List ℕ = [] in
+    let f = c .before .before .before .before .before .before .before .before .before .before .before .before .before .before .before .before .before .before .before .before .before .pre .formed in
+    let D1 = c .before .before .before .before .before .before .before .before .before .before .before .before .before .before .before .before .fresh-evar .ensures .1 0 ls _ _ rep f in
+    let D2 = c .before .before .before .before .before .before .before .before .before .before .before .before .before .before .before .fresh-evar2 .ensures .1 0 ls _ _ rep (D1 .kept) in
+    let D3 = c .before .before .before .before .before .before .before .before .before .before .before .before .solve-evar .ensures .2 0 ls _ rep (D2 .kept) in
+    let D4 = c .before .before .before .before .before .before .before .before .push-tvar .ensures .2 0 ls _ rep (D3 .kept) in
+    let D5 = c .before .before .before .before .push-tvar2 .ensures .2 0 ls _ rep (D4 .kept) in
+    let m = first-within (now (c .before .before .before .before .before .before .before .before .before .before .before .before .before .before .before .before .before .before .before .before .before .args .t)) (c .before .before .before .before .before .before .before .before .before .before .before .before .before .before .before .before .before .before .before .before .before .args .at) (c .before .before .before .before .before .before .before .before .before .before .before .before .before .before .before .before .before .before .before .before .before .args .n) (c .before .before .before .before .before .before .before .before .before .before .before .before .before .before .before .before .before .first-part .result) (c .before .before .before .before .before .before .before .before .before .before .before .before .before .before .before .before .before .first-part .ensures) in
+    let p = c .before .before .before .before .before .before .before .before .before .before .before .before .before .before .before .before .before .before .before .before .before .pre .within in
+    (D5 .kept .board, search needs, omega arith)
+
+push-on-requires-2 : tie.Need-push-on-requires-2
+push-on-requires-2 c κs =
+    let ls : List Triple = [] in
+    let rep : List ℕ = [] in
+    let f = c .before .before .before .before .before .before .before .before .before .before .before .before .before .before .before .before .before .before .before .before .before .before .before .before .before .before .pre .formed in
+    let D1 = c .before .before .before .before .before .before .before .before .before .before .before .before .before .before .before .before .before .before .before .before .before .fresh-evar .ensures .1 0 ls _ _ rep f in
+    let D2 = c .before .before .before .before .before .before .before .before .before .before .before .before .before .before .before .before .before .before .before .before .fresh-evar2 .ensures .1 0 ls _ _ rep (D1 .kept) in
+    let D3 = c .before .before .before .before .before .before .before .before .before .before .before .before .before .before .before .before .before .solve-evar .ensures .2 0 ls _ rep (D2 .kept) in
+    let D4 = c .before .before .before .before .before .before .before .before .before .before .before .before .before .push-tvar .ensures .2 0 ls _ rep (D3 .kept) in
+    let D5 = c .before .before .before .before .before .before .before .before .before .push-tvar2 .ensures .2 0 ls _ rep (D4 .kept) in
+    let m = first-within (now (c .before .before .before .before .before .before .before .before .before .before .before .before .before .before .before .before .before .before .before .before .before .before .before .before .before .before .args .t)) (c .before .before .before .before .before .before .before .before .before .before .before .before .before .before .before .before .before .before .before .before .before .before .before .before .before .before .args .at) (c .before .before .before .before .before .before .before .before .before .before .before .before .before .before .before .before .before .before .before .before .before .before .before .before .before .before .args .n) (c .before .before .before .before .before .before .before .before .before .before .before .before .before .before .before .before .before .before .before .before .before .before .first-part .result) (c .before .before .before .before .before .before .before .before .before .before .before .before .before .before .before .before .before .before .before .before .before .before .first-part .ensures) in
+    let p = c .before .before .before .before .before .before .before .before .before .before .before .before .before .before .before .before .before .before .before .before .before .before .before .before .before .before .pre .within in
+    let D6 = c .before .before .before .before .push-on .ensures 0 ls _ rep (D5 .kept) in
+    (D6 .kept .board, search needs, omega arith)
+
+same-length : tie.Need-same-length
+same-length c = c .before .before .push-on2 .kept .0 ∙ c .before .before .before .before .before .before .before .push-on .kept .0 ∙ c .before .before .before .before .before .before .before .before .before .before .before .before .push-tvar2 .kept .0 ∙ c .before .before .before .before .before .before .before .before .before .before .before .before .before .before .before .before .push-tvar .kept .0
+
+same-length-2 : tie.Need-same-length-2
+same-length-2 c = c .before .before .before .before .before .before .before .before .before .before .before .before .before .before .before .before .before .before .before .before .solve-evar .kept .0
+
+returns : tie.Need-returns
+unfolding nodesAt
+returns c =
+    λ (w : ℕ) (ls : List Triple) (rep : List ℕ).
+    let a = c .before .before .before .before .before .before .before .before .before .before .before .before .before .before .before .before .before .before .before .before .before .before .before .before .before .before .before .before .before .args in
+    let f = c .before .before .before .before .before .before .before .before .before .before .before .before .before .before .before .before .before .before .before .before .before .before .before .before .before .before .before .before .before .pre .formed in
+    let D1 = c .before .before .before .before .before .before .before .before .before .before .before .before .before .before .before .before .before .before .before .before .before .before .before .before .fresh-evar .ensures .1 w ls _ _ rep f in
+    let D2 = c .before .before .before .before .before .before .before .before .before .before .before .before .before .before .before .before .before .before .before .before .before .before .before .fresh-evar2 .ensures .1 w ls _ _ rep (D1 .kept) in
+    let D3 = c .before .before .before .before .before .before .before .before .before .before .before .before .before .before .before .before .before .before .before .before .solve-evar .ensures .2 w ls _ rep (D2 .kept) in
+    let D4 = c .before .before .before .before .before .before .before .before .before .before .before .before .before .before .before .before .push-tvar .ensures .2 w ls _ rep (D3 .kept) in
+    let D5 = c .before .before .before .before .before .before .before .before .before .before .before .before .push-tvar2 .ensures .2 w ls _ rep (D4 .kept) in
+    let D6 = c .before .before .before .before .before .before .before .push-on .ensures w ls _ rep (D5 .kept) in
+    let D7 = c .before .before .push-on2 .ensures w ls _ rep (D6 .kept) in
+    let e1 = first-nodes (now (a .t)) (a .at) (a .n) (c .before .before .before .before .before .before .before .before .before .before .before .before .before .before .before .before .before .before .before .before .before .before .before .before .before .first-part .result) (c .before .before .before .before .before .before .before .before .before .before .before .before .before .before .before .before .before .before .before .before .before .before .before .before .before .first-part .ensures) in
+    let e2 = rest-nodes (now (a .t)) (a .at) (a .n) (c .before .before .before .before .before .before .before .before .before .before .before .before .before .before .before .before .before .before .before .before .before .before .before .before .before .first-part .result) (c .before .before .before .before .before .before .before .before .before .before .before .before .before .before .before .before .before .before .before .before .before .before .before .before .before .first-part .ensures) in
+    fresh-then D1 (fresh-then D2 (solve-then D3 (push-then D4 (push-then D5
+    (push-then (does-as (λ _. ap (λ (x : Ty). push (onSide (sideOf (a .first)) (unknown (a .c .fresh)) x) done) e1) D6)
+    (does-as (λ _. ap (λ (x : Ty). push (onSide (sideOf (a .second)) (unknown (c .before .before .before .before .before .before .before .before .before .before .before .before .before .before .before .before .before .before .before .before .before .before .before .before .fresh-evar .result .fresh)) x) done) e2) D7))))))
+
+pub split-spec : {M : Type 1} → statement M
+split-spec =
+    tie.close (tie.spec first-part-requires mul-next add-next sub-more (λ c κs. search needs) (λ c κs. search needs) (λ c. search needs) solve-evar-requires push-tvar-requires push-tvar-requires-2 (λ c. search needs) push-on-requires (λ c. search needs) push-on-requires-2 same-length same-length-2 returns)
