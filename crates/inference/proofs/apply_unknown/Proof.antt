@@ -1,0 +1,97 @@
+use mathlib.Core.Path.{_≡_, ap, _∙_}
+use mathlib.Core.Bool.{true}
+use mathlib.Core.List.{List, []}
+use Prim.Native.Nat.{ℕ, _≤_}
+use native.Mathlib.Omega.{arith}
+use Rattle.nodes.specs.Nodes.{nodesAt}
+use Rattle.spelling.specs.declared.Triple.{Triple}
+use Rattle.operations.specs.State.{going}
+use Rattle.operations.proofs.Latch.{going-is}
+use Rattle.operations.proofs.Then.{push-then, solve-then, fresh-then, alive, grows}
+use Rattle.inference.proofs.Opened.{pair-solves}
+use borrow.Author.Needs.{needs}
+use Rattle.inference.proofs.apply_unknown.Statement.{statement}
+use Rattle.inference.proofs.apply_unknown.Tie as tie
+
+push-tvar-requires : tie.Need-push-tvar-requires
+push-tvar-requires c κs =
+    let ls : List Triple = [] in
+    let R : List ℕ = [] in
+    let D1 = c .before .before .fresh-evar .ensures .1 0 ls _ _ R (c .before .before .before .before .before .before .pre .0) in
+    let D2 = c .before .fresh-evar2 .ensures .1 0 ls _ _ R (D1 .kept) in
+    (D2 .kept .board, omega arith)
+
+push-tvar-requires-2 : tie.Need-push-tvar-requires-2
+push-tvar-requires-2 c κs =
+    let ls : List Triple = [] in
+    let R : List ℕ = [] in
+    let D1 = c .before .before .before .before .before .before .fresh-evar .ensures .1 0 ls _ _ R (c .before .before .before .before .before .before .before .before .before .before .pre .0) in
+    let D2 = c .before .before .before .before .before .fresh-evar2 .ensures .1 0 ls _ _ R (D1 .kept) in
+    let D3 = c .before .before .before .push-tvar .ensures .2 0 ls _ R (D2 .kept) in
+    (D3 .kept .board, omega arith)
+
+solve-evar-requires : tie.Need-solve-evar-requires
+unfolding nodesAt
+solve-evar-requires c κs =
+    let ls : List Triple = [] in
+    let R : List ℕ = [] in
+    let D1 = c .before .before .before .before .before .before .before .before .before .before .before .fresh-evar .ensures .1 0 ls _ _ R (c .before .before .before .before .before .before .before .before .before .before .before .before .before .before .before .pre .0) in
+    let D2 = c .before .before .before .before .before .before .before .before .before .before .fresh-evar2 .ensures .1 0 ls _ _ R (D1 .kept) in
+    let D3 = c .before .before .before .before .before .before .before .before .push-tvar .ensures .2 0 ls _ R (D2 .kept) in
+    let D4 = c .before .before .before .before .push-tvar2 .ensures .2 0 ls _ R (D3 .kept) in
+    record {
+      book = D4 .kept .book;
+      numbers = D4 .kept .numbers;
+      some = omega arith;
+      within = search needs;
+      solves = λ h.
+          let g : going (c .before .before .before .before .before .before .before .before .before .before .before .before .before .before .before .args .c .halt) ≡ true = alive D1 (alive D2 (alive D3 (alive D4 (ap going h)))) in
+          let l1 : c .before .before .before .before .before .before .before .before .before .before .before .before .before .before .before .args .c .fresh ≤ c .before .before .before .before .before .before .before .before .before .before .before .fresh-evar .result .fresh = grows D1 in
+          let l2 : c .before .before .before .before .before .before .before .before .before .before .before .fresh-evar .result .fresh ≤ c .before .before .before .before .before .before .before .before .before .before .fresh-evar2 .result .fresh = grows D2 in
+          let l3 : c .before .before .before .before .before .before .before .before .before .before .fresh-evar2 .result .fresh ≤ c .before .before .before .before .before .before .before .before .push-tvar .result .fresh = grows D3 in
+          let l4 : c .before .before .before .before .before .before .before .before .push-tvar .result .fresh ≤ c .before .before .before .before .push-tvar2 .result .fresh = grows D4 in
+          pair-solves (c .before .before .before .before .push-tvar2 .result) (c .before .before .before .before .before .before .before .before .before .before .before .before .before .before .before .args .x) (c .before .before .before .before .before .before .before .before .before .before .before .fresh-evar .result .fresh) (c .before .before .before .before .before .before .before .before .before .before .before .before .before .before .before .pre .0) (c .before .before .before .before .before .before .before .before .before .before .before .before .before .before .before .pre .1 (going-is _ g)) l1 (omega arith);
+    }
+
+push-sub-requires : tie.Need-push-sub-requires
+push-sub-requires c κs =
+    let ls : List Triple = [] in
+    let R : List ℕ = [] in
+    let D1 = c .before .before .before .before .before .before .before .before .before .before .before .before .before .before .before .before .fresh-evar .ensures .1 0 ls _ _ R (c .before .before .before .before .before .before .before .before .before .before .before .before .before .before .before .before .before .before .before .before .pre .0) in
+    let D2 = c .before .before .before .before .before .before .before .before .before .before .before .before .before .before .before .fresh-evar2 .ensures .1 0 ls _ _ R (D1 .kept) in
+    let D3 = c .before .before .before .before .before .before .before .before .before .before .before .before .before .push-tvar .ensures .2 0 ls _ R (D2 .kept) in
+    let D4 = c .before .before .before .before .before .before .before .before .before .push-tvar2 .ensures .2 0 ls _ R (D3 .kept) in
+    let D5 = c .before .before .before .before .solve-evar .ensures .2 0 ls _ R (D4 .kept) in
+    (D5 .kept .board, search needs, c .before .before .before .before .before .before .before .before .before .before .before .before .before .before .before .before .before .before .before .before .pre .2)
+
+push-chk-requires : tie.Need-push-chk-requires
+push-chk-requires c κs =
+    let ls : List Triple = [] in
+    let R : List ℕ = [] in
+    let D1 = c .before .before .before .before .before .before .before .before .before .before .before .before .before .before .before .before .before .before .before .before .before .fresh-evar .ensures .1 0 ls _ _ R (c .before .before .before .before .before .before .before .before .before .before .before .before .before .before .before .before .before .before .before .before .before .before .before .before .before .pre .0) in
+    let D2 = c .before .before .before .before .before .before .before .before .before .before .before .before .before .before .before .before .before .before .before .before .fresh-evar2 .ensures .1 0 ls _ _ R (D1 .kept) in
+    let D3 = c .before .before .before .before .before .before .before .before .before .before .before .before .before .before .before .before .before .before .push-tvar .ensures .2 0 ls _ R (D2 .kept) in
+    let D4 = c .before .before .before .before .before .before .before .before .before .before .before .before .before .before .push-tvar2 .ensures .2 0 ls _ R (D3 .kept) in
+    let D5 = c .before .before .before .before .before .before .before .before .before .solve-evar .ensures .2 0 ls _ R (D4 .kept) in
+    let D6 = c .before .before .before .before .push-sub .ensures .2 0 ls _ R (D5 .kept) in
+    (D6 .kept .board, search needs)
+
+same-length : tie.Need-same-length
+same-length c = c .before .before .push-chk .kept .0 ∙ c .before .before .before .before .before .before .before .push-sub .kept .0 ∙ c .before .before .before .before .before .before .before .before .before .before .before .before .before .before .before .before .before .push-tvar2 .kept .0 ∙ c .before .before .before .before .before .before .before .before .before .before .before .before .before .before .before .before .before .before .before .before .before .push-tvar .kept .0
+
+returns : tie.Need-returns
+unfolding nodesAt
+returns c =
+    λ w ls E F R.
+    let D1 = c .before .before .before .before .before .before .before .before .before .before .before .before .before .before .before .before .before .before .before .before .before .before .before .before .fresh-evar .ensures .1 w ls _ _ R (c .before .before .before .before .before .before .before .before .before .before .before .before .before .before .before .before .before .before .before .before .before .before .before .before .before .before .before .before .pre .0) in
+    let D2 = c .before .before .before .before .before .before .before .before .before .before .before .before .before .before .before .before .before .before .before .before .before .before .before .fresh-evar2 .ensures .1 w ls _ _ R (D1 .kept) in
+    let D3 = c .before .before .before .before .before .before .before .before .before .before .before .before .before .before .before .before .before .before .before .before .before .push-tvar .ensures .2 w ls _ R (D2 .kept) in
+    let D4 = c .before .before .before .before .before .before .before .before .before .before .before .before .before .before .before .before .before .push-tvar2 .ensures .2 w ls _ R (D3 .kept) in
+    let D5 = c .before .before .before .before .before .before .before .before .before .before .before .before .solve-evar .ensures .2 w ls _ R (D4 .kept) in
+    let D6 = c .before .before .before .before .before .before .before .push-sub .ensures .2 w ls _ R (D5 .kept) in
+    let D7 = c .before .before .push-chk .ensures .2 w ls _ R (D6 .kept) in
+    fresh-then D1 (fresh-then D2 (push-then D3 (push-then D4 (solve-then D5 (push-then D6 D7)))))
+
+pub apply-unknown-spec : {M : Type 1} → statement M
+apply-unknown-spec =
+    tie.close (tie.spec (λ c κs. search needs) (λ c κs. search needs) push-tvar-requires push-tvar-requires-2 (λ c. search needs) solve-evar-requires (λ c. search needs) push-sub-requires (λ c. search needs) push-chk-requires same-length (λ c. search needs) returns)
