@@ -1,3 +1,4 @@
 pub mod Walks
 pub mod Fronts
 pub mod Renames
+pub mod Substituted

@@ -1,3 +1,2 @@
 pub mod Keeps
 pub mod Written
-pub mod Opened

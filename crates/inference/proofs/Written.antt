@@ -1,17 +1,15 @@
 -- The words of a type that was copied from the sheet, and of the Arrow around it. Assumes nothing.
 use mathlib.Core.Path.{_≡_, refl, sym, ap, _∙_}
-use mathlib.Core.Logic.{_⊎_, inl, inr}
 use mathlib.Core.List.{List, [], _∷_, _++_}
 use Prim.Native.Nat.{ℕ, suc, _+_, _*_, _-_, _≤_}
 use native.Mathlib.Omega.{arith}
 use lib.ListN.{length, set, take, drop, length-set, length-append, length-take, length-drop}
 use lib.Seq.{sets, take-append-seam, drop-append-seam}
-use Rattle.nodes.specs.Nodes.{Node, Ty, words, nodesAt}
-use Rattle.nodes.proofs.Laws.{length-words, length-nodesAt, two-more, nodesAt-same, nodesAt-below, nodesAt-above, take-nodesAt, drop-nodesAt}
+use Rattle.nodes.specs.Nodes.{Ty, words, nodesAt}
+use Rattle.nodes.proofs.Laws.{length-words, length-nodesAt, two-more, nodesAt-same, take-nodesAt, drop-nodesAt}
 use Rattle.spelling.specs.declared.Triple.{Triple}
 use Rattle.sheet.specs.Plan.{triples, nodesOf}
-use Rattle.judgment.specs.Types.{unknown, arrow, substitute, substituteFrom}
-use Rattle.core_types.proofs.Walks.{length-from}
+use Rattle.judgment.specs.Types.{unknown, arrow}
 use Rattle.inference.specs.Inference.{typeOn}
 
 -- ---- a type on n lines has n nodes
@@ -62,13 +60,3 @@ module _ (l : List ℕ) {o : List ℕ} (t : Ty) (n b : ℕ) (e : length t ≡ n)
       let g : 1 ≡ n + 1 - n = omega arith in
       ap (nodesAt o (2 + 2 * n)) g
       ∙ sym (drop-nodesAt o 2 (n + 1) n (omega arith)) ∙ ap (drop n) parts ∙ ap (λ (m : ℕ). drop m (t ++ unknown b)) (sym e) ∙ drop-append-seam t (unknown b)
-
--- ---- nodes beside a type in which a substitution was made
-pub beside : (x : ℕ) (r : Node) (t t' : List ℕ) (at n p m : ℕ) → (p + 2 * m ≤ at) ⊎ (at + 2 * n ≤ p) → t' ≡ sets t at (words (substitute x r (nodesAt t at n))) → nodesAt t' p m ≡ nodesAt t p m
-unfolding substitute
-beside x r t t' at n p m (inl h) q = rw q (nodesAt-below t at (words (substituteFrom x r (nodesAt t at n) 0)) p m h)
-beside x r t t' at n p m (inr h) q =
-    let s : Ty = substituteFrom x r (nodesAt t at n) 0 in
-    let e : length s ≡ n = length-from x r (nodesAt t at n) 0 ∙ length-nodesAt t at n in
-    let k = length-words s in
-    rw q (nodesAt-above t at (words s) p m (omega arith))

@@ -3,7 +3,7 @@ use mathlib.Core.Path.{_≡_, refl, sym, ap, ap₂, _∙_, subst}
 use mathlib.Core.Bool.{Bool, true, false, cond, true≢false}
 use mathlib.Core.Option.{Option, none, some}
 use mathlib.Core.List.{List, [], _∷_, _++_}
-use Prim.Native.Nat.{ℕ, zero, suc, _+_, _*_, _≤_}
+use Prim.Native.Nat.{ℕ, zero, suc, _+_, _*_, _≤_, _<_}
 use native.Mathlib.Nat.{le-refl, le-trans}
 use native.Mathlib.Omega.{arith}
 use lib.Dec.{ltb, leb}
@@ -12,19 +12,20 @@ use Rattle.nodes.specs.Nodes.{node, Ty, nodesAt}
 use Rattle.nodes.proofs.ListLaws.{cond-ind}
 use Rattle.spelling.specs.declared.Triple.{Triple}
 use Rattle.judgment.specs.declared.TypeError.the-variants.{NoFreshNumber}
-use Rattle.judgment.specs.Types.{canUnify}
+use Rattle.judgment.specs.Types.{unknown, canUnify}
 use Rattle.judgment.specs.Solutions.{Solution, _≔_, Solutions, find, solutionNodes, writeOut, Free, keys}
 use Rattle.judgment.specs.Board.{Entry, Board as Entries, Limits, Rule, done, refuse, fresh, push, solve, zonk, look, State, state, Outcome, finished, refused, roomFor, solving}
 use Rattle.judgment.specs.Chain.{boardOf, solutionsOf, counterOf, performO, stays, refuseO, freshO, pushO, solveO, zonkO}
 use Rattle.judgment.specs.Result.{limitsWith}
 use Rattle.board.specs.Board.{entriesOf}
 use Rattle.book.specs.Book.{sols}
-use Rattle.book.proofs.Holdings.{free-of}
+use Rattle.book.proofs.Holdings.{free-of, free-kind}
+use borrow.Author.Tests.{ne-eqb}
 use Rattle.operations.specs.declared.Halt.{Halt}
 use Rattle.operations.specs.declared.Halt.the-variants.{Going, Refused}
 use Rattle.operations.specs.declared.Run.{Run}
 use Rattle.operations.specs.declared.Zonked.{Zonked}
-use Rattle.operations.specs.State.{reported, outcomeBy, stateOf, outcomeOf, WellFormed, Does, going, stopped, made, freshRun, Zonks}
+use Rattle.operations.specs.State.{reported, outcomeBy, stateOf, outcomeOf, WellFormed, Does, going, stopped, made, freshRun, Solves, Zonks}
 
 -- ---- what an outcome holds, refused or not
 counter-is : (h : Halt) (rep : List ℕ) (Γ : Entries) (σ : Solutions) (n : ℕ) → counterOf (outcomeBy h rep (state Γ σ n)) ≡ n
@@ -177,6 +178,17 @@ fresh-made c r e g = by (going (c .halt)) refl (ltb (c .fresh) 1000) refl
     by true p true q = let z : r ≡ made c = e ∙ rw (p, q) in ap (λ (d : Run). d .fresh) z
     by true p false q = let z : r ≡ stopped c NoFreshNumber = e ∙ rw (p, q) in absurd (true≢false (sym g ∙ ap (λ (d : Run). going (d .halt)) z))
     by false p y q = let z : r ≡ c = e ∙ rw p in absurd (true≢false (sym g ∙ ap (λ (d : Run). going (d .halt)) z ∙ p))
+
+-- A pair of the number that c makes and of a later one may solve an older unknown; r is the run that solves it.
+pub pair-solves : {b k : List ℕ} {c : Run} (r : Run) (kind x y : ℕ) → (kind ≡ 17 → ⊥) → WellFormed b k c → x < c .fresh → Free (keys (sols k)) (node 17 x) → c .fresh ≤ y → c .fresh ≤ r .fresh
+    → Solves k r x (node kind 0 ∷ (unknown (c .fresh) ++ unknown y))
+pair-solves {k = k} {c = c} r kind x y pair f known new l m =
+    let newer : (z : ℕ) → c .fresh ≤ z → Free (x ∷ keys (sols k)) (node 17 z) = λ z h. (ne-eqb x z (λ e. (let d : x ≡ z = e in omega arith)), unmade-free f z h) in
+    record {
+      made = omega arith;
+      unsolved = new;
+      free = (free-kind (x ∷ keys (sols k)) kind 0 pair, (newer (c .fresh) (le-refl (c .fresh)), (newer y l, tt)));
+    }
 
 -- ---- the report
 -- while a run goes on, nothing hangs on what the report holds

@@ -1,5 +1,4 @@
 pub mod Shapes
-pub mod Parts
 pub mod Fronts
 pub mod Insts
 pub mod Subs

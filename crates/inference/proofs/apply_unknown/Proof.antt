@@ -7,8 +7,7 @@ use Rattle.nodes.specs.Nodes.{nodesAt}
 use Rattle.spelling.specs.declared.Triple.{Triple}
 use Rattle.operations.specs.State.{going}
 use Rattle.operations.proofs.Latch.{going-is}
-use Rattle.operations.proofs.Then.{push-then, solve-then, fresh-then, alive, grows}
-use Rattle.inference.proofs.Opened.{pair-solves}
+use Rattle.operations.proofs.Then.{push-then, solve-then, fresh-then, alive, grows, pair-solves}
 use borrow.Author.Needs.{needs}
 use Rattle.inference.proofs.apply_unknown.Statement.{statement}
 use Rattle.inference.proofs.apply_unknown.Tie as tie
@@ -50,7 +49,8 @@ solve-evar-requires c κs =
           let l2 : c .before .before .before .before .before .before .before .before .before .before .before .fresh-evar .result .fresh ≤ c .before .before .before .before .before .before .before .before .before .before .fresh-evar2 .result .fresh = grows D2 in
           let l3 : c .before .before .before .before .before .before .before .before .before .before .fresh-evar2 .result .fresh ≤ c .before .before .before .before .before .before .before .before .push-tvar .result .fresh = grows D3 in
           let l4 : c .before .before .before .before .before .before .before .before .push-tvar .result .fresh ≤ c .before .before .before .before .push-tvar2 .result .fresh = grows D4 in
-          pair-solves (c .before .before .before .before .push-tvar2 .result) (c .before .before .before .before .before .before .before .before .before .before .before .before .before .before .before .args .x) (c .before .before .before .before .before .before .before .before .before .before .before .fresh-evar .result .fresh) (c .before .before .before .before .before .before .before .before .before .before .before .before .before .before .before .pre .0) (c .before .before .before .before .before .before .before .before .before .before .before .before .before .before .before .pre .1 (going-is _ g)) l1 (omega arith);
+          let o = c .before .before .before .before .before .before .before .before .before .before .before .before .before .before .before .pre .1 (going-is _ g) in
+          pair-solves (c .before .before .before .before .push-tvar2 .result) 13 (c .before .before .before .before .before .before .before .before .before .before .before .before .before .before .before .args .x) (c .before .before .before .before .before .before .before .before .before .before .before .fresh-evar .result .fresh) (λ e. omega arith) (c .before .before .before .before .before .before .before .before .before .before .before .before .before .before .before .pre .0) (o .0) (o .1) l1 (omega arith);
     }
 
 push-sub-requires : tie.Need-push-sub-requires

@@ -22,81 +22,28 @@ first-part-requires-2 : tie.Need-first-part-requires-2
 first-part-requires-2 c κs = (c .before .before .before .pre .right, c .before .before .before .pre .fewRight)
 
 mul-lm : tie.Need-mul-lm
-mul-lm c =
-    let a = c .before .before .before .before .args in
-    let p = c .before .before .before .before .pre in
-    let x : c .before .first-part .result ≤ a .ln = first-within (now (a .t)) (a .la) (a .ln) (c .before .first-part .result) (c .before .first-part .ensures) in
-    let pl = p .left in
-    let pr = p .right in
-    omega arith
+mul-lm c = omega (arith, first-within (now (c .before .before .before .before .args .t)) (c .before .before .before .before .args .la) (c .before .before .before .before .args .ln) (c .before .first-part .result) (c .before .first-part .ensures), c .before .before .before .before .pre .left, c .before .before .before .before .pre .right)
 
 add-lm : tie.Need-add-lm
-add-lm c =
-    let a = c .before .before .before .before .args in
-    let p = c .before .before .before .before .pre in
-    let x : c .before .first-part .result ≤ a .ln = first-within (now (a .t)) (a .la) (a .ln) (c .before .first-part .result) (c .before .first-part .ensures) in
-    let pl = p .left in
-    let pr = p .right in
-    omega arith
+add-lm c = omega (arith, first-within (now (c .before .before .before .before .args .t)) (c .before .before .before .before .args .la) (c .before .before .before .before .args .ln) (c .before .first-part .result) (c .before .first-part .ensures), c .before .before .before .before .pre .left, c .before .before .before .before .pre .right)
 
 mul-rm : tie.Need-mul-rm
-mul-rm c =
-    let a = c .before .before .before .before .args in
-    let p = c .before .before .before .before .pre in
-    let x : c .before .first-part .result ≤ a .ln = first-within (now (a .t)) (a .la) (a .ln) (c .before .first-part .result) (c .before .first-part .ensures) in
-    let pl = p .left in
-    let pr = p .right in
-    let y : c .first-part2 .result ≤ a .rn = first-within (now (a .t)) (a .ra) (a .rn) (c .first-part2 .result) (c .first-part2 .ensures) in
-    omega arith
+mul-rm c = omega (arith, first-within (now (c .before .before .before .before .args .t)) (c .before .before .before .before .args .la) (c .before .before .before .before .args .ln) (c .before .first-part .result) (c .before .first-part .ensures), first-within (now (c .before .before .before .before .args .t)) (c .before .before .before .before .args .ra) (c .before .before .before .before .args .rn) (c .first-part2 .result) (c .first-part2 .ensures), c .before .before .before .before .pre .left, c .before .before .before .before .pre .right)
 
 add-rm : tie.Need-add-rm
-add-rm c =
-    let a = c .before .before .before .before .args in
-    let p = c .before .before .before .before .pre in
-    let x : c .before .first-part .result ≤ a .ln = first-within (now (a .t)) (a .la) (a .ln) (c .before .first-part .result) (c .before .first-part .ensures) in
-    let pl = p .left in
-    let pr = p .right in
-    let y : c .first-part2 .result ≤ a .rn = first-within (now (a .t)) (a .ra) (a .rn) (c .first-part2 .result) (c .first-part2 .ensures) in
-    omega arith
+add-rm c = omega (arith, first-within (now (c .before .before .before .before .args .t)) (c .before .before .before .before .args .la) (c .before .before .before .before .args .ln) (c .before .first-part .result) (c .before .first-part .ensures), first-within (now (c .before .before .before .before .args .t)) (c .before .before .before .before .args .ra) (c .before .before .before .before .args .rn) (c .first-part2 .result) (c .first-part2 .ensures), c .before .before .before .before .pre .left, c .before .before .before .before .pre .right)
 
 sub-lk : tie.Need-sub-lk
-sub-lk c =
-    let a = c .before .before .before .before .args in
-    let p = c .before .before .before .before .pre in
-    let x : c .before .first-part .result ≤ a .ln = first-within (now (a .t)) (a .la) (a .ln) (c .before .first-part .result) (c .before .first-part .ensures) in
-    let pl = p .left in
-    let pr = p .right in
-    x
+sub-lk c = first-within (now (c .before .before .before .before .args .t)) (c .before .before .before .before .args .la) (c .before .before .before .before .args .ln) (c .before .first-part .result) (c .before .first-part .ensures)
 
 sub-rk : tie.Need-sub-rk
-sub-rk c =
-    let a = c .before .before .before .before .args in
-    let p = c .before .before .before .before .pre in
-    let x : c .before .first-part .result ≤ a .ln = first-within (now (a .t)) (a .la) (a .ln) (c .before .first-part .result) (c .before .first-part .ensures) in
-    let pl = p .left in
-    let pr = p .right in
-    let y : c .first-part2 .result ≤ a .rn = first-within (now (a .t)) (a .ra) (a .rn) (c .first-part2 .result) (c .first-part2 .ensures) in
-    y
+sub-rk c = first-within (now (c .before .before .before .before .args .t)) (c .before .before .before .before .args .ra) (c .before .before .before .before .args .rn) (c .first-part2 .result) (c .first-part2 .ensures)
 
 push-sub-requires : tie.Need-push-sub-requires
-push-sub-requires c κs =
-    let a = c .before .before .before .before .before .before .args in
-    let p = c .before .before .before .before .before .before .pre in
-    let x : c .before .before .before .first-part .result ≤ a .ln = first-within (now (a .t)) (a .la) (a .ln) (c .before .before .before .first-part .result) (c .before .before .before .first-part .ensures) in
-    let pl = p .left in
-    let pr = p .right in
-    let y : c .before .before .first-part2 .result ≤ a .rn = first-within (now (a .t)) (a .ra) (a .rn) (c .before .before .first-part2 .result) (c .before .before .first-part2 .ensures) in
-    (p .formed .1 .board, omega arith, omega arith)
+push-sub-requires c κs = (c .before .before .before .before .before .before .pre .formed .1 .board, omega (arith, first-within (now (c .before .before .before .before .before .before .args .t)) (c .before .before .before .before .before .before .args .la) (c .before .before .before .before .before .before .args .ln) (c .before .before .before .first-part .result) (c .before .before .before .first-part .ensures), first-within (now (c .before .before .before .before .before .before .args .t)) (c .before .before .before .before .before .before .args .ra) (c .before .before .before .before .before .before .args .rn) (c .before .before .first-part2 .result) (c .before .before .first-part2 .ensures), c .before .before .before .before .before .before .pre .left, c .before .before .before .before .before .before .pre .right), omega (arith, first-within (now (c .before .before .before .before .before .before .args .t)) (c .before .before .before .before .before .before .args .la) (c .before .before .before .before .before .before .args .ln) (c .before .before .before .first-part .result) (c .before .before .before .first-part .ensures), first-within (now (c .before .before .before .before .before .before .args .t)) (c .before .before .before .before .before .before .args .ra) (c .before .before .before .before .before .before .args .rn) (c .before .before .first-part2 .result) (c .before .before .first-part2 .ensures), c .before .before .before .before .before .before .pre .left, c .before .before .before .before .before .before .pre .right))
 
 push-sub-requires-2 : tie.Need-push-sub-requires-2
-push-sub-requires-2 c κs =
-    let a = c .before .before .before .before .before .before .before .before .before .before .args in
-    let p = c .before .before .before .before .before .before .before .before .before .before .pre in
-    let x : c .before .before .before .before .before .before .before .first-part .result ≤ a .ln = first-within (now (a .t)) (a .la) (a .ln) (c .before .before .before .before .before .before .before .first-part .result) (c .before .before .before .before .before .before .before .first-part .ensures) in
-    let pl = p .left in
-    let pr = p .right in
-    let y : c .before .before .before .before .before .before .first-part2 .result ≤ a .rn = first-within (now (a .t)) (a .ra) (a .rn) (c .before .before .before .before .before .before .first-part2 .result) (c .before .before .before .before .before .before .first-part2 .ensures) in
-    (c .before .before .before .push-sub .ensures .2 0 [] _ [] (p .formed .1) .kept .board, omega arith, omega arith)
+push-sub-requires-2 c κs = (c .before .before .before .push-sub .ensures .2 0 [] _ [] (c .before .before .before .before .before .before .before .before .before .before .pre .formed .1) .kept .board, omega (arith, first-within (now (c .before .before .before .before .before .before .before .before .before .before .args .t)) (c .before .before .before .before .before .before .before .before .before .before .args .la) (c .before .before .before .before .before .before .before .before .before .before .args .ln) (c .before .before .before .before .before .before .before .first-part .result) (c .before .before .before .before .before .before .before .first-part .ensures), first-within (now (c .before .before .before .before .before .before .before .before .before .before .args .t)) (c .before .before .before .before .before .before .before .before .before .before .args .ra) (c .before .before .before .before .before .before .before .before .before .before .args .rn) (c .before .before .before .before .before .before .first-part2 .result) (c .before .before .before .before .before .before .first-part2 .ensures), c .before .before .before .before .before .before .before .before .before .before .pre .left, c .before .before .before .before .before .before .before .before .before .before .pre .right), omega (arith, first-within (now (c .before .before .before .before .before .before .before .before .before .before .args .t)) (c .before .before .before .before .before .before .before .before .before .before .args .la) (c .before .before .before .before .before .before .before .before .before .before .args .ln) (c .before .before .before .before .before .before .before .first-part .result) (c .before .before .before .before .before .before .before .first-part .ensures), first-within (now (c .before .before .before .before .before .before .before .before .before .before .args .t)) (c .before .before .before .before .before .before .before .before .before .before .args .ra) (c .before .before .before .before .before .before .before .before .before .before .args .rn) (c .before .before .before .before .before .before .first-part2 .result) (c .before .before .before .before .before .before .first-part2 .ensures), c .before .before .before .before .before .before .before .before .before .before .pre .left, c .before .before .before .before .before .before .before .before .before .before .pre .right))
 
 same-length : tie.Need-same-length
 same-length c = c .before .before .push-sub2 .kept .0 ∙ c .before .before .before .before .before .before .push-sub .kept .0
@@ -105,11 +52,6 @@ returns : tie.Need-returns
 returns c =
     λ (w : ℕ) (ls : List Triple) (k rep : List ℕ) (f : WellFormed (now (c .before .before .before .before .before .before .before .before .before .before .before .before .before .args .board)) k (c .before .before .before .before .before .before .before .before .before .before .before .before .before .args .c)).
     let a = c .before .before .before .before .before .before .before .before .before .before .before .before .before .args in
-    let p = c .before .before .before .before .before .before .before .before .before .before .before .before .before .pre in
-    let x : c .before .before .before .before .before .before .before .before .before .before .first-part .result ≤ a .ln = first-within (now (a .t)) (a .la) (a .ln) (c .before .before .before .before .before .before .before .before .before .before .first-part .result) (c .before .before .before .before .before .before .before .before .before .before .first-part .ensures) in
-    let pl = p .left in
-    let pr = p .right in
-    let y : c .before .before .before .before .before .before .before .before .before .first-part2 .result ≤ a .rn = first-within (now (a .t)) (a .ra) (a .rn) (c .before .before .before .before .before .before .before .before .before .first-part2 .result) (c .before .before .before .before .before .before .before .before .before .first-part2 .ensures) in
     let T = now (a .t) in
     let e1 = first-nodes T (a .la) (a .ln) (c .before .before .before .before .before .before .before .before .before .before .first-part .result) (c .before .before .before .before .before .before .before .before .before .before .first-part .ensures) in
     let e2 = rest-nodes T (a .la) (a .ln) (c .before .before .before .before .before .before .before .before .before .before .first-part .result) (c .before .before .before .before .before .before .before .before .before .before .first-part .ensures) in
@@ -120,24 +62,10 @@ returns c =
     rw (c .before .before .before .before .before .before .before .before .if1 .taken) (push-then (does-as (λ _. ap₂ (λ (x y : Ty). push (sub x y) done) e3 e1) D1) (does-as (λ _. ap₂ (λ (x y : Ty). push (sub x y) done) e2 e4) D2))
 
 push-sub-requires-3 : tie.Need-push-sub-requires-3
-push-sub-requires-3 c κs =
-    let a = c .before .before .before .before .before .before .args in
-    let p = c .before .before .before .before .before .before .pre in
-    let x : c .before .before .before .first-part .result ≤ a .ln = first-within (now (a .t)) (a .la) (a .ln) (c .before .before .before .first-part .result) (c .before .before .before .first-part .ensures) in
-    let pl = p .left in
-    let pr = p .right in
-    let y : c .before .before .first-part2 .result ≤ a .rn = first-within (now (a .t)) (a .ra) (a .rn) (c .before .before .first-part2 .result) (c .before .before .first-part2 .ensures) in
-    (p .formed .1 .board, omega arith, omega arith)
+push-sub-requires-3 c κs = (c .before .before .before .before .before .before .pre .formed .1 .board, omega (arith, first-within (now (c .before .before .before .before .before .before .args .t)) (c .before .before .before .before .before .before .args .la) (c .before .before .before .before .before .before .args .ln) (c .before .before .before .first-part .result) (c .before .before .before .first-part .ensures), first-within (now (c .before .before .before .before .before .before .args .t)) (c .before .before .before .before .before .before .args .ra) (c .before .before .before .before .before .before .args .rn) (c .before .before .first-part2 .result) (c .before .before .first-part2 .ensures), c .before .before .before .before .before .before .pre .left, c .before .before .before .before .before .before .pre .right), omega (arith, first-within (now (c .before .before .before .before .before .before .args .t)) (c .before .before .before .before .before .before .args .la) (c .before .before .before .before .before .before .args .ln) (c .before .before .before .first-part .result) (c .before .before .before .first-part .ensures), first-within (now (c .before .before .before .before .before .before .args .t)) (c .before .before .before .before .before .before .args .ra) (c .before .before .before .before .before .before .args .rn) (c .before .before .first-part2 .result) (c .before .before .first-part2 .ensures), c .before .before .before .before .before .before .pre .left, c .before .before .before .before .before .before .pre .right))
 
 push-sub-requires-4 : tie.Need-push-sub-requires-4
-push-sub-requires-4 c κs =
-    let a = c .before .before .before .before .before .before .before .before .before .before .args in
-    let p = c .before .before .before .before .before .before .before .before .before .before .pre in
-    let x : c .before .before .before .before .before .before .before .first-part .result ≤ a .ln = first-within (now (a .t)) (a .la) (a .ln) (c .before .before .before .before .before .before .before .first-part .result) (c .before .before .before .before .before .before .before .first-part .ensures) in
-    let pl = p .left in
-    let pr = p .right in
-    let y : c .before .before .before .before .before .before .first-part2 .result ≤ a .rn = first-within (now (a .t)) (a .ra) (a .rn) (c .before .before .before .before .before .before .first-part2 .result) (c .before .before .before .before .before .before .first-part2 .ensures) in
-    (c .before .before .before .push-sub3 .ensures .2 0 [] _ [] (p .formed .1) .kept .board, omega arith, omega arith)
+push-sub-requires-4 c κs = (c .before .before .before .push-sub3 .ensures .2 0 [] _ [] (c .before .before .before .before .before .before .before .before .before .before .pre .formed .1) .kept .board, omega (arith, first-within (now (c .before .before .before .before .before .before .before .before .before .before .args .t)) (c .before .before .before .before .before .before .before .before .before .before .args .la) (c .before .before .before .before .before .before .before .before .before .before .args .ln) (c .before .before .before .before .before .before .before .first-part .result) (c .before .before .before .before .before .before .before .first-part .ensures), first-within (now (c .before .before .before .before .before .before .before .before .before .before .args .t)) (c .before .before .before .before .before .before .before .before .before .before .args .ra) (c .before .before .before .before .before .before .before .before .before .before .args .rn) (c .before .before .before .before .before .before .first-part2 .result) (c .before .before .before .before .before .before .first-part2 .ensures), c .before .before .before .before .before .before .before .before .before .before .pre .left, c .before .before .before .before .before .before .before .before .before .before .pre .right), omega (arith, first-within (now (c .before .before .before .before .before .before .before .before .before .before .args .t)) (c .before .before .before .before .before .before .before .before .before .before .args .la) (c .before .before .before .before .before .before .before .before .before .before .args .ln) (c .before .before .before .before .before .before .before .first-part .result) (c .before .before .before .before .before .before .before .first-part .ensures), first-within (now (c .before .before .before .before .before .before .before .before .before .before .args .t)) (c .before .before .before .before .before .before .before .before .before .before .args .ra) (c .before .before .before .before .before .before .before .before .before .before .args .rn) (c .before .before .before .before .before .before .first-part2 .result) (c .before .before .before .before .before .before .first-part2 .ensures), c .before .before .before .before .before .before .before .before .before .before .pre .left, c .before .before .before .before .before .before .before .before .before .before .pre .right))
 
 same-length-2 : tie.Need-same-length-2
 same-length-2 c = c .before .before .push-sub4 .kept .0 ∙ c .before .before .before .before .before .before .push-sub3 .kept .0
@@ -146,11 +74,6 @@ returns-2 : tie.Need-returns-2
 returns-2 c =
     λ (w : ℕ) (ls : List Triple) (k rep : List ℕ) (f : WellFormed (now (c .before .before .before .before .before .before .before .before .before .before .before .before .before .args .board)) k (c .before .before .before .before .before .before .before .before .before .before .before .before .before .args .c)).
     let a = c .before .before .before .before .before .before .before .before .before .before .before .before .before .args in
-    let p = c .before .before .before .before .before .before .before .before .before .before .before .before .before .pre in
-    let x : c .before .before .before .before .before .before .before .before .before .before .first-part .result ≤ a .ln = first-within (now (a .t)) (a .la) (a .ln) (c .before .before .before .before .before .before .before .before .before .before .first-part .result) (c .before .before .before .before .before .before .before .before .before .before .first-part .ensures) in
-    let pl = p .left in
-    let pr = p .right in
-    let y : c .before .before .before .before .before .before .before .before .before .first-part2 .result ≤ a .rn = first-within (now (a .t)) (a .ra) (a .rn) (c .before .before .before .before .before .before .before .before .before .first-part2 .result) (c .before .before .before .before .before .before .before .before .before .first-part2 .ensures) in
     let T = now (a .t) in
     let e1 = first-nodes T (a .la) (a .ln) (c .before .before .before .before .before .before .before .before .before .before .first-part .result) (c .before .before .before .before .before .before .before .before .before .before .first-part .ensures) in
     let e2 = rest-nodes T (a .la) (a .ln) (c .before .before .before .before .before .before .before .before .before .before .first-part .result) (c .before .before .before .before .before .before .before .before .before .before .first-part .ensures) in

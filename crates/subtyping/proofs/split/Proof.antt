@@ -2,7 +2,7 @@ use mathlib.Core.Path.{_≡_, refl, sym, ap, _∙_}
 use mathlib.Core.List.{List, [], _∷_}
 use mathlib.Core.Bool.{false}
 use Prim.Native.Nat.{ℕ, _+_, _*_, _-_, _≤_, _<_}
-use native.Mathlib.Nat.{le-refl, le-of-lt}
+use native.Mathlib.Nat.{le-trans}
 use native.Mathlib.Omega.{arith}
 use denote.Ref.{now}
 use lib.Dec.{eqb}
@@ -15,13 +15,12 @@ use Rattle.judgment.specs.Types.{first, rest}
 use Rattle.judgment.specs.Solutions.{keys}
 use Rattle.book.specs.Book.{sols}
 use Rattle.operations.specs.State.{going}
-use Rattle.operations.proofs.Then.{push-then, solve-then, fresh-then, alive, grows, unmade-free, fresh-made}
+use Rattle.operations.proofs.Then.{push-then, solve-then, fresh-then, alive, grows, pair-solves}
 use Rattle.core_types.proofs.Walks.{first-within, first-nodes, rest-nodes}
 use Rattle.judgment.specs.Types.{unknown}
 use Rattle.judgment.specs.Rules.{onSide}
 use Rattle.judgment.specs.Board.{Rule, push, done}
 use Rattle.subtyping.specs.Subtyping.{sideOf}
-use Rattle.subtyping.proofs.Parts.{pair-solves}
 use Rattle.nodes.specs.Nodes.{Ty}
 use Rattle.operations.proofs.Then.{does-as}
 use borrow.Author.Needs.{needs}
@@ -32,16 +31,10 @@ first-part-requires : tie.Need-first-part-requires
 first-part-requires c κs = (c .before .before .before .pre .within, c .before .before .before .pre .few)
 
 mul-next : tie.Need-mul-next
-mul-next c =
-    let m = first-within (now (c .before .before .before .before .args .t)) (c .before .before .before .before .args .at) (c .before .before .before .before .args .n) (c .first-part .result) (c .first-part .ensures) in
-    let p = c .before .before .before .before .pre .within in
-    omega arith
+mul-next c = omega (arith, first-within (now (c .before .before .before .before .args .t)) (c .before .before .before .before .args .at) (c .before .before .before .before .args .n) (c .first-part .result) (c .first-part .ensures), c .before .before .before .before .pre .within)
 
 add-next : tie.Need-add-next
-add-next c =
-    let m = first-within (now (c .before .before .before .before .args .t)) (c .before .before .before .before .args .at) (c .before .before .before .before .args .n) (c .first-part .result) (c .first-part .ensures) in
-    let p = c .before .before .before .before .pre .within in
-    omega arith
+add-next c = omega (arith, first-within (now (c .before .before .before .before .args .t)) (c .before .before .before .before .args .at) (c .before .before .before .before .args .n) (c .first-part .result) (c .first-part .ensures), c .before .before .before .before .pre .within)
 
 sub-more : tie.Need-sub-more
 sub-more c = first-within (now (c .before .before .before .before .args .t)) (c .before .before .before .before .args .at) (c .before .before .before .before .args .n) (c .first-part .result) (c .first-part .ensures)
@@ -59,7 +52,7 @@ solve-evar-requires c κs =
       numbers = D2 .kept .numbers;
       some = omega arith;
       within = search needs;
-      solves = λ h. pair-solves f D1 D2 (c .before .before .before .fresh-evar .ensures .0) (ap going h) (c .before .before .before .before .before .before .before .before .args .kind) (c .before .before .before .before .before .before .before .before .args .x) (c .before .before .before .before .before .before .before .before .pre .pair) (c .before .before .before .before .before .before .before .before .pre .known) (c .before .before .before .before .before .before .before .before .pre .unsolved);
+      solves = λ _. pair-solves (c .before .before .fresh-evar2 .result) (c .before .before .before .before .before .before .before .before .args .kind) (c .before .before .before .before .before .before .before .before .args .x) (c .before .before .before .fresh-evar .result .fresh) (c .before .before .before .before .before .before .before .before .pre .pair) f (c .before .before .before .before .before .before .before .before .pre .known) (c .before .before .before .before .before .before .before .before .pre .unsolved) (grows D1) (le-trans (grows D1) (grows D2));
     }
 
 push-tvar-requires : tie.Need-push-tvar-requires
@@ -93,9 +86,7 @@ push-on-requires c κs =
     let D3 = c .before .before .before .before .before .before .before .before .before .before .before .before .solve-evar .ensures .2 0 ls _ rep (D2 .kept) in
     let D4 = c .before .before .before .before .before .before .before .before .push-tvar .ensures .2 0 ls _ rep (D3 .kept) in
     let D5 = c .before .before .before .before .push-tvar2 .ensures .2 0 ls _ rep (D4 .kept) in
-    let m = first-within (now (c .before .before .before .before .before .before .before .before .before .before .before .before .before .before .before .before .before .before .before .before .before .args .t)) (c .before .before .before .before .before .before .before .before .before .before .before .before .before .before .before .before .before .before .before .before .before .args .at) (c .before .before .before .before .before .before .before .before .before .before .before .before .before .before .before .before .before .before .before .before .before .args .n) (c .before .before .before .before .before .before .before .before .before .before .before .before .before .before .before .before .before .first-part .result) (c .before .before .before .before .before .before .before .before .before .before .before .before .before .before .before .before .before .first-part .ensures) in
-    let p = c .before .before .before .before .before .before .before .before .before .before .before .before .before .before .before .before .before .before .before .before .before .pre .within in
-    (D5 .kept .board, search needs, omega arith)
+    (D5 .kept .board, search needs, omega (arith, first-within (now (c .before .before .before .before .before .before .before .before .before .before .before .before .before .before .before .before .before .before .before .before .before .args .t)) (c .before .before .before .before .before .before .before .before .before .before .before .before .before .before .before .before .before .before .before .before .before .args .at) (c .before .before .before .before .before .before .before .before .before .before .before .before .before .before .before .before .before .before .before .before .before .args .n) (c .before .before .before .before .before .before .before .before .before .before .before .before .before .before .before .before .before .first-part .result) (c .before .before .before .before .before .before .before .before .before .before .before .before .before .before .before .before .before .first-part .ensures), c .before .before .before .before .before .before .before .before .before .before .before .before .before .before .before .before .before .before .before .before .before .pre .within))
 
 push-on-requires-2 : tie.Need-push-on-requires-2
 push-on-requires-2 c κs =
@@ -107,10 +98,8 @@ push-on-requires-2 c κs =
     let D3 = c .before .before .before .before .before .before .before .before .before .before .before .before .before .before .before .before .before .solve-evar .ensures .2 0 ls _ rep (D2 .kept) in
     let D4 = c .before .before .before .before .before .before .before .before .before .before .before .before .before .push-tvar .ensures .2 0 ls _ rep (D3 .kept) in
     let D5 = c .before .before .before .before .before .before .before .before .before .push-tvar2 .ensures .2 0 ls _ rep (D4 .kept) in
-    let m = first-within (now (c .before .before .before .before .before .before .before .before .before .before .before .before .before .before .before .before .before .before .before .before .before .before .before .before .before .before .args .t)) (c .before .before .before .before .before .before .before .before .before .before .before .before .before .before .before .before .before .before .before .before .before .before .before .before .before .before .args .at) (c .before .before .before .before .before .before .before .before .before .before .before .before .before .before .before .before .before .before .before .before .before .before .before .before .before .before .args .n) (c .before .before .before .before .before .before .before .before .before .before .before .before .before .before .before .before .before .before .before .before .before .before .first-part .result) (c .before .before .before .before .before .before .before .before .before .before .before .before .before .before .before .before .before .before .before .before .before .before .first-part .ensures) in
-    let p = c .before .before .before .before .before .before .before .before .before .before .before .before .before .before .before .before .before .before .before .before .before .before .before .before .before .before .pre .within in
     let D6 = c .before .before .before .before .push-on .ensures 0 ls _ rep (D5 .kept) in
-    (D6 .kept .board, search needs, omega arith)
+    (D6 .kept .board, search needs, omega (arith, first-within (now (c .before .before .before .before .before .before .before .before .before .before .before .before .before .before .before .before .before .before .before .before .before .before .before .before .before .before .args .t)) (c .before .before .before .before .before .before .before .before .before .before .before .before .before .before .before .before .before .before .before .before .before .before .before .before .before .before .args .at) (c .before .before .before .before .before .before .before .before .before .before .before .before .before .before .before .before .before .before .before .before .before .before .before .before .before .before .args .n) (c .before .before .before .before .before .before .before .before .before .before .before .before .before .before .before .before .before .before .before .before .before .before .first-part .result) (c .before .before .before .before .before .before .before .before .before .before .before .before .before .before .before .before .before .before .before .before .before .before .first-part .ensures), c .before .before .before .before .before .before .before .before .before .before .before .before .before .before .before .before .before .before .before .before .before .before .before .before .before .before .pre .within))
 
 same-length : tie.Need-same-length
 same-length c = c .before .before .push-on2 .kept .0 ∙ c .before .before .before .before .before .before .before .push-on .kept .0 ∙ c .before .before .before .before .before .before .before .before .before .before .before .before .push-tvar2 .kept .0 ∙ c .before .before .before .before .before .before .before .before .before .before .before .before .before .before .before .before .push-tvar .kept .0

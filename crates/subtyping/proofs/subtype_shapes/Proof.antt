@@ -20,48 +20,16 @@ use Rattle.subtyping.proofs.subtype_shapes.Statement.{statement}
 use Rattle.subtyping.proofs.subtype_shapes.Tie as tie
 
 mul-right : tie.Need-mul-right
-mul-right c =
-    let p = c .before .before .before .pre in
-    let w2 = p .within in
-    let s = sizes p in
-    let s0 = s .0 in
-    let s1 = s .1 in
-    let s2 = s .2 in
-    let s3 = s .3 in
-    omega arith
+mul-right c = omega (arith, c .before .before .before .pre .within, sizes (c .before .before .before .pre) .0, sizes (c .before .before .before .pre) .1, sizes (c .before .before .before .pre) .2, sizes (c .before .before .before .pre) .3)
 
 add-body : tie.Need-add-body
-add-body c =
-    let p = c .before .before .before .pre in
-    let w2 = p .within in
-    let s = sizes p in
-    let s0 = s .0 in
-    let s1 = s .1 in
-    let s2 = s .2 in
-    let s3 = s .3 in
-    omega arith
+add-body c = omega (arith, c .before .before .before .pre .within, sizes (c .before .before .before .pre) .0, sizes (c .before .before .before .pre) .1, sizes (c .before .before .before .pre) .2, sizes (c .before .before .before .pre) .3)
 
 shape-requires : tie.Need-shape-requires
-shape-requires c κs =
-    let p = c .before .before .before .before .pre in
-    let w2 = p .within in
-    let s = sizes p in
-    let s0 = s .0 in
-    let s1 = s .1 in
-    let s2 = s .2 in
-    let s3 = s .3 in
-    omega arith
+shape-requires c κs = omega (arith, c .before .before .before .before .pre .within, sizes (c .before .before .before .before .pre) .0, sizes (c .before .before .before .before .pre) .1, sizes (c .before .before .before .before .pre) .2, sizes (c .before .before .before .before .pre) .3)
 
 shape-requires-2 : tie.Need-shape-requires-2
-shape-requires-2 c κs =
-    let p = c .before .before .before .before .before .before .pre in
-    let w2 = p .within in
-    let s = sizes p in
-    let s0 = s .0 in
-    let s1 = s .1 in
-    let s2 = s .2 in
-    let s3 = s .3 in
-    omega arith
+shape-requires-2 c κs = omega (arith, c .before .before .before .before .before .before .pre .within, sizes (c .before .before .before .before .before .before .pre) .0, sizes (c .before .before .before .before .before .before .pre) .1, sizes (c .before .before .before .before .before .before .pre) .2, sizes (c .before .before .before .before .before .before .pre) .3)
 
 open-right-requires : tie.Need-open-right-requires
 open-right-requires c κs = (open-asks (c .before .before .before .before .before .before .before .before .before .before .pre), sizes (c .before .before .before .before .before .before .before .before .before .before .pre) .1)

@@ -19,37 +19,13 @@ use Rattle.subtyping.proofs.unknown_left.Statement.{statement}
 use Rattle.subtyping.proofs.unknown_left.Tie as tie
 
 mul-right : tie.Need-mul-right
-mul-right c =
-    let p = c .before .before .before .pre .0 in
-    let w2 = p .within in
-    let s = sizes p in
-    let s0 = s .0 in
-    let s1 = s .1 in
-    let s2 = s .2 in
-    let s3 = s .3 in
-    omega arith
+mul-right c = omega (arith, c .before .before .before .pre .0 .within, sizes (c .before .before .before .pre .0) .0, sizes (c .before .before .before .pre .0) .1, sizes (c .before .before .before .pre .0) .2, sizes (c .before .before .before .pre .0) .3)
 
 slice-read-x : tie.Need-slice-read-x
-slice-read-x c =
-    let p = c .before .before .before .before .pre .0 in
-    let w2 = p .within in
-    let s = sizes p in
-    let s0 = s .0 in
-    let s1 = s .1 in
-    let s2 = s .2 in
-    let s3 = s .3 in
-    omega arith
+slice-read-x c = omega (arith, c .before .before .before .before .pre .0 .within, sizes (c .before .before .before .before .pre .0) .0, sizes (c .before .before .before .before .pre .0) .1, sizes (c .before .before .before .before .pre .0) .2, sizes (c .before .before .before .before .pre .0) .3)
 
 occurs-check-requires : tie.Need-occurs-check-requires
-occurs-check-requires c κs =
-    let p = c .before .before .before .before .before .pre .0 in
-    let w2 = p .within in
-    let s = sizes p in
-    let s0 = s .0 in
-    let s1 = s .1 in
-    let s2 = s .2 in
-    let s3 = s .3 in
-    omega arith
+occurs-check-requires c κs = omega (arith, c .before .before .before .before .before .pre .0 .within, sizes (c .before .before .before .before .before .pre .0) .0, sizes (c .before .before .before .before .before .pre .0) .1, sizes (c .before .before .before .before .before .pre .0) .2, sizes (c .before .before .before .before .before .pre .0) .3)
 
 unknown-right-requires : tie.Need-unknown-right-requires
 unknown-right-requires c κs = (c .before .before .before .before .before .before .before .before .before .before .pre .0, λ z. (let e = c .before .before .before .before .before .before .before .before .before .before .pre .1 in omega arith))

@@ -19,81 +19,25 @@ use Rattle.subtyping.proofs.unknown_right.Statement.{statement}
 use Rattle.subtyping.proofs.unknown_right.Tie as tie
 
 mul-right : tie.Need-mul-right
-mul-right c =
-    let p = c .before .before .before .pre .0 in
-    let w2 = p .within in
-    let s = sizes p in
-    let s0 = s .0 in
-    let s1 = s .1 in
-    let s2 = s .2 in
-    let s3 = s .3 in
-    omega arith
+mul-right c = omega (arith, c .before .before .before .pre .0 .within, sizes (c .before .before .before .pre .0) .0, sizes (c .before .before .before .pre .0) .1, sizes (c .before .before .before .pre .0) .2, sizes (c .before .before .before .pre .0) .3)
 
 shape-requires : tie.Need-shape-requires
-shape-requires c κs =
-    let p = c .before .before .before .before .pre .0 in
-    let w2 = p .within in
-    let s = sizes p in
-    let s0 = s .0 in
-    let s1 = s .1 in
-    let s2 = s .2 in
-    let s3 = s .3 in
-    omega arith
+shape-requires c κs = omega (arith, c .before .before .before .before .pre .0 .within, sizes (c .before .before .before .before .pre .0) .0, sizes (c .before .before .before .before .pre .0) .1, sizes (c .before .before .before .before .pre .0) .2, sizes (c .before .before .before .before .pre .0) .3)
 
 add-x : tie.Need-add-x
-add-x c =
-    let p = c .before .before .before .before .before .before .pre .0 in
-    let w2 = p .within in
-    let s = sizes p in
-    let s0 = s .0 in
-    let s1 = s .1 in
-    let s2 = s .2 in
-    let s3 = s .3 in
-    omega arith
+add-x c = omega (arith, c .before .before .before .before .before .before .pre .0 .within, sizes (c .before .before .before .before .before .before .pre .0) .0, sizes (c .before .before .before .before .before .before .pre .0) .1, sizes (c .before .before .before .before .before .before .pre .0) .2, sizes (c .before .before .before .before .before .before .pre .0) .3)
 
 slice-read-x : tie.Need-slice-read-x
-slice-read-x c =
-    let p = c .before .before .before .before .before .before .before .pre .0 in
-    let w2 = p .within in
-    let s = sizes p in
-    let s0 = s .0 in
-    let s1 = s .1 in
-    let s2 = s .2 in
-    let s3 = s .3 in
-    omega arith
+slice-read-x c = omega (arith, c .before .before .before .before .before .before .before .pre .0 .within, sizes (c .before .before .before .before .before .before .before .pre .0) .0, sizes (c .before .before .before .before .before .before .before .pre .0) .1, sizes (c .before .before .before .before .before .before .before .pre .0) .2, sizes (c .before .before .before .before .before .before .before .pre .0) .3)
 
 occurs-check-requires : tie.Need-occurs-check-requires
-occurs-check-requires c κs =
-    let p = c .before .before .before .before .before .before .before .before .pre .0 in
-    let w2 = p .within in
-    let s = sizes p in
-    let s0 = s .0 in
-    let s1 = s .1 in
-    let s2 = s .2 in
-    let s3 = s .3 in
-    omega arith
+occurs-check-requires c κs = omega (arith, c .before .before .before .before .before .before .before .before .pre .0 .within, sizes (c .before .before .before .before .before .before .before .before .pre .0) .0, sizes (c .before .before .before .before .before .before .before .before .pre .0) .1, sizes (c .before .before .before .before .before .before .before .before .pre .0) .2, sizes (c .before .before .before .before .before .before .before .before .pre .0) .3)
 
 cast-t20 : tie.Need-cast-t20
-cast-t20 c =
-    let p = c .before .before .before .before .before .before .before .before .before .before .pre .0 in
-    let w2 = p .within in
-    let s = sizes p in
-    let s0 = s .0 in
-    let s1 = s .1 in
-    let s2 = s .2 in
-    let s3 = s .3 in
-    omega arith
+cast-t20 c = omega (arith, c .before .before .before .before .before .before .before .before .before .before .pre .0 .within, sizes (c .before .before .before .before .before .before .before .before .before .before .pre .0) .0, sizes (c .before .before .before .before .before .before .before .before .before .before .pre .0) .1, sizes (c .before .before .before .before .before .before .before .before .before .before .pre .0) .2, sizes (c .before .before .before .before .before .before .before .before .before .before .pre .0) .3)
 
 cast-t21 : tie.Need-cast-t21
-cast-t21 c =
-    let p = c .before .before .before .before .before .before .before .before .before .before .pre .0 in
-    let w2 = p .within in
-    let s = sizes p in
-    let s0 = s .0 in
-    let s1 = s .1 in
-    let s2 = s .2 in
-    let s3 = s .3 in
-    omega arith
+cast-t21 c = omega (arith, c .before .before .before .before .before .before .before .before .before .before .pre .0 .within, sizes (c .before .before .before .before .before .before .before .before .before .before .pre .0) .0, sizes (c .before .before .before .before .before .before .before .before .before .before .pre .0) .1, sizes (c .before .before .before .before .before .before .before .before .before .before .pre .0) .2, sizes (c .before .before .before .before .before .before .before .before .before .before .pre .0) .3)
 
 returns : tie.Need-returns
 returns c =
@@ -127,26 +71,10 @@ returns-2 c =
     does-as (λ _. q) (c .before .before .before .before .before .before .instantiate-right .ensures w ls)
 
 cast-t9 : tie.Need-cast-t9
-cast-t9 c =
-    let p = c .before .before .before .before .before .before .pre .0 in
-    let w2 = p .within in
-    let s = sizes p in
-    let s0 = s .0 in
-    let s1 = s .1 in
-    let s2 = s .2 in
-    let s3 = s .3 in
-    omega arith
+cast-t9 c = omega (arith, c .before .before .before .before .before .before .pre .0 .within, sizes (c .before .before .before .before .before .before .pre .0) .0, sizes (c .before .before .before .before .before .before .pre .0) .1, sizes (c .before .before .before .before .before .before .pre .0) .2, sizes (c .before .before .before .before .before .before .pre .0) .3)
 
 cast-t29 : tie.Need-cast-t29
-cast-t29 c =
-    let p = c .before .before .before .before .before .before .pre .0 in
-    let w2 = p .within in
-    let s = sizes p in
-    let s0 = s .0 in
-    let s1 = s .1 in
-    let s2 = s .2 in
-    let s3 = s .3 in
-    omega arith
+cast-t29 c = omega (arith, c .before .before .before .before .before .before .pre .0 .within, sizes (c .before .before .before .before .before .before .pre .0) .0, sizes (c .before .before .before .before .before .before .pre .0) .1, sizes (c .before .before .before .before .before .before .pre .0) .2, sizes (c .before .before .before .before .before .before .pre .0) .3)
 
 returns-3 : tie.Need-returns-3
 returns-3 c =
