@@ -30,30 +30,4 @@ returns c = (laid-by _ _ _ _ _ _ _ _ _ _ _ _ (c .before .before .before .before 
 
 pub push-spec : {M : Type 1} → statement M
 push-spec =
-    tie.close
-    (tie.spec
-    (λ c. search needs)
-    (λ c. search needs)
-    (λ c. search needs)
-    (λ c. search needs)
-    (λ c. search needs)
-    (λ c. search needs)
-    (λ c. search needs)
-    (λ c. search needs)
-    (λ c. search needs)
-    slice-write-board-2
-    (λ c. search needs)
-    (λ c. search needs)
-    (λ c. search needs)
-    slice-write-board-3
-    (λ c. search needs)
-    (λ c. search needs)
-    (λ c. search needs)
-    slice-write-board-4
-    copy-nodes-requires
-    copy-nodes-requires-2
-    (λ c. search needs)
-    (λ c. search needs)
-    (λ c. search needs)
-    same-length
-    returns)
+    tie.close (tie.spec (λ c. search needs) (λ c. search needs) (λ c. search needs) (λ c. search needs) (λ c. search needs) (λ c. search needs) (λ c. search needs) (λ c. search needs) (λ c. search needs) slice-write-board-2 (λ c. search needs) (λ c. search needs) (λ c. search needs) slice-write-board-3 (λ c. search needs) (λ c. search needs) (λ c. search needs) slice-write-board-4 copy-nodes-requires copy-nodes-requires-2 (λ c. search needs) (λ c. search needs) (λ c. search needs) same-length returns)

@@ -10,14 +10,14 @@ use Rattle.nodes.proofs.Laws.{length-nodesAt}
 use Rattle.spelling.specs.declared.Triple.{Triple}
 use Rattle.judgment.specs.Types.{view, eqTy}
 use Rattle.judgment.specs.Solutions.{writeOut}
-use Rattle.judgment.specs.Board.{Rule, done, zonk}
-use Rattle.judgment.specs.Rules.{subtypeBy, subtype}
+use Rattle.judgment.specs.Board.{done}
+use Rattle.judgment.specs.Rules.{subtypeBy}
 use Rattle.book.specs.Book.{sols}
 use Rattle.operations.proofs.Latch.{going-is}
 use Rattle.operations.proofs.Zonking.{zonk-few, zonk-below}
-use Rattle.operations.proofs.Then.{does-as, done-does, zonk-then, alive, grows}
+use Rattle.operations.proofs.Then.{does-as, done-does, alive, grows}
 use Rattle.operations.proofs.Latch.{stays-does}
-use Rattle.subtyping.proofs.Outs.{written-out}
+use Rattle.subtyping.proofs.Outs.{written-out, compared, subtype-then}
 use borrow.Author.Needs.{needs}
 use Rattle.subtyping.proofs.solve_subtype.Statement.{statement}
 use Rattle.subtyping.proofs.solve_subtype.Tie as tie
@@ -99,7 +99,6 @@ same-type-requires c κs =
     (omega arith, omega arith)
 
 returns : tie.Need-returns
-unfolding subtype
 returns c =
     λ (ls : List Triple).
     let p = c .before .before .before .before .before .before .before .before .before .before .before .before .before .before .before .before .before .before .before .before .before .before .pre in
@@ -120,13 +119,10 @@ returns c =
     let R2 = c .before .before .before .before .before .before .before .before .zonk2 .last .1 .1 .1 .1 .1 .0 in
     let e1 : nodesAt R2 0 (c .before .before .before .before .before .before .before .before .before .before .before .before .before .before .before .zonk .result .nodes) ≡ nodesAt R1 0 (c .before .before .before .before .before .before .before .before .before .before .before .before .before .before .before .zonk .result .nodes) = zonk-below (c .before .before .before .before .before .before .before .before .before .before .before .before .before .before .before .zonk .result .run) (writeOut (sols K) t) (c .before .before .before .before .before .before .before .before .before .before .before .before .before .before .before .zonk .result .nodes) (a .w) R1 R2 (c .before .before .before .before .before .before .before .before .zonk2 .ensures .1) 0 (c .before .before .before .before .before .before .before .before .before .before .before .before .before .before .before .zonk .result .nodes) (omega arith) in
     let wi : 2 * (c .before .before .before .before .before .before .before .before .before .before .before .before .before .before .before .zonk .result .nodes + c .before .before .before .before .before .before .before .before .zonk2 .result .nodes) ≤ length R2 = Z2 .within in
-    let F : Ty → Ty → Rule = λ (x y : Ty). cond (eqTy x y) done (subtypeBy x y (view x) (view y)) in
     let L : Ty = nodesAt R2 0 (c .before .before .before .before .before .before .before .before .before .before .before .before .before .before .before .zonk .result .nodes) in
-    let L1 : Ty = nodesAt R1 0 (c .before .before .before .before .before .before .before .before .before .before .before .before .before .before .before .zonk .result .nodes) in
     let R : Ty = nodesAt R2 (2 * c .before .before .before .before .before .before .before .before .before .before .before .before .before .before .before .zonk .result .nodes) (c .before .before .before .before .before .before .before .before .zonk2 .result .nodes) in
     let q = sym (c .before .same-type .ensures) ∙ c .if2 .taken in
-    zonk-then {f = λ (x : Ty). zonk t (F x)} (p .formed) Z1 (zonk-then {f = F L1} (D1 .kept) Z2
-    (does-as (λ _. ap (λ (b : Bool). cond b done (subtypeBy L R (view L) (view R))) (sym q) ∙ ap (λ (x : Ty). F x R) e1) (done-does (D2 .kept))))
+    subtype-then (p .formed) Z1 Z2 e1 (does-as (λ _. ap (λ (b : Bool). cond b done (subtypeBy L R (view L) (view R))) (sym q)) (done-does (D2 .kept)))
 
 subtype-shapes-requires : tie.Need-subtype-shapes-requires
 subtype-shapes-requires c κs =
@@ -170,7 +166,6 @@ same-length-6 : tie.Need-same-length-6
 same-length-6 c = c .before .before .before .before .before .before .subtype-shapes .kept .1 .1 .0 ∙ c .before .before .before .before .before .before .before .before .before .before .before .before .before .before .before .before .before .before .zonk2 .kept .1 .1 .1 .1 .1 .0 ∙ c .before .before .before .before .before .before .before .before .before .before .before .before .before .before .before .before .before .before .before .before .before .before .before .before .before .zonk .kept .1 .1 .1 .1 .1 .0
 
 returns-2 : tie.Need-returns-2
-unfolding subtype
 returns-2 c =
     λ (ls : List Triple).
     let p = c .before .before .before .before .before .before .before .before .before .before .before .before .before .before .before .before .before .before .before .before .before .before .before .before .before .before .before .before .before .before .before .before .pre in
@@ -191,16 +186,12 @@ returns-2 c =
     let R2 = c .before .before .before .before .before .before .before .before .before .before .before .before .before .before .before .before .before .before .zonk2 .last .1 .1 .1 .1 .1 .0 in
     let e1 : nodesAt R2 0 (c .before .before .before .before .before .before .before .before .before .before .before .before .before .before .before .before .before .before .before .before .before .before .before .before .before .zonk .result .nodes) ≡ nodesAt R1 0 (c .before .before .before .before .before .before .before .before .before .before .before .before .before .before .before .before .before .before .before .before .before .before .before .before .before .zonk .result .nodes) = zonk-below (c .before .before .before .before .before .before .before .before .before .before .before .before .before .before .before .before .before .before .before .before .before .before .before .before .before .zonk .result .run) (writeOut (sols K) t) (c .before .before .before .before .before .before .before .before .before .before .before .before .before .before .before .before .before .before .before .before .before .before .before .before .before .zonk .result .nodes) (a .w) R1 R2 (c .before .before .before .before .before .before .before .before .before .before .before .before .before .before .before .before .before .before .zonk2 .ensures .1) 0 (c .before .before .before .before .before .before .before .before .before .before .before .before .before .before .before .before .before .before .before .before .before .before .before .before .before .zonk .result .nodes) (omega arith) in
     let wi : 2 * (c .before .before .before .before .before .before .before .before .before .before .before .before .before .before .before .before .before .before .before .before .before .before .before .before .before .zonk .result .nodes + c .before .before .before .before .before .before .before .before .before .before .before .before .before .before .before .before .before .before .zonk2 .result .nodes) ≤ length R2 = Z2 .within in
-    let F : Ty → Ty → Rule = λ (x y : Ty). cond (eqTy x y) done (subtypeBy x y (view x) (view y)) in
     let L : Ty = nodesAt R2 0 (c .before .before .before .before .before .before .before .before .before .before .before .before .before .before .before .before .before .before .before .before .before .before .before .before .before .zonk .result .nodes) in
-    let L1 : Ty = nodesAt R1 0 (c .before .before .before .before .before .before .before .before .before .before .before .before .before .before .before .before .before .before .before .before .before .before .before .before .before .zonk .result .nodes) in
     let R : Ty = nodesAt R2 (2 * c .before .before .before .before .before .before .before .before .before .before .before .before .before .before .before .before .before .before .before .before .before .before .before .before .before .zonk .result .nodes) (c .before .before .before .before .before .before .before .before .before .before .before .before .before .before .before .before .before .before .zonk2 .result .nodes) in
     let q = sym (c .before .before .before .before .before .before .before .before .before .before .before .same-type .ensures) ∙ c .before .before .before .before .before .before .before .before .before .before .if2 .left in
-    zonk-then {f = λ (x : Ty). zonk t (F x)} (p .formed) Z1 (zonk-then {f = F L1} (D1 .kept) Z2
-    (does-as (λ _. ap (λ (b : Bool). cond b done (subtypeBy L R (view L) (view R))) (sym q) ∙ ap (λ (x : Ty). F x R) e1) (c .before .before .before .before .before .before .subtype-shapes .ensures (a .w) ls)))
+    subtype-then (p .formed) Z1 Z2 e1 (does-as (λ _. ap (λ (b : Bool). cond b done (subtypeBy L R (view L) (view R))) (sym q)) (c .before .before .before .before .before .before .subtype-shapes .ensures (a .w) ls))
 
 returns-3 : tie.Need-returns-3
-unfolding subtype
 returns-3 c =
     λ (ls : List Triple).
     let p = c .before .before .before .before .before .before .before .before .before .before .before .before .before .before .before .before .before .before .before .pre in
@@ -221,12 +212,9 @@ returns-3 c =
     let R2 = c .before .before .before .before .before .zonk2 .last .1 .1 .1 .1 .1 .0 in
     let e1 : nodesAt R2 0 (c .before .before .before .before .before .before .before .before .before .before .before .before .zonk .result .nodes) ≡ nodesAt R1 0 (c .before .before .before .before .before .before .before .before .before .before .before .before .zonk .result .nodes) = zonk-below (c .before .before .before .before .before .before .before .before .before .before .before .before .zonk .result .run) (writeOut (sols K) t) (c .before .before .before .before .before .before .before .before .before .before .before .before .zonk .result .nodes) (a .w) R1 R2 (c .before .before .before .before .before .zonk2 .ensures .1) 0 (c .before .before .before .before .before .before .before .before .before .before .before .before .zonk .result .nodes) (omega arith) in
     let wi : 2 * (c .before .before .before .before .before .before .before .before .before .before .before .before .zonk .result .nodes + c .before .before .before .before .before .zonk2 .result .nodes) ≤ length R2 = Z2 .within in
-    let F : Ty → Ty → Rule = λ (x y : Ty). cond (eqTy x y) done (subtypeBy x y (view x) (view y)) in
     let L : Ty = nodesAt R2 0 (c .before .before .before .before .before .before .before .before .before .before .before .before .zonk .result .nodes) in
-    let L1 : Ty = nodesAt R1 0 (c .before .before .before .before .before .before .before .before .before .before .before .before .zonk .result .nodes) in
     let R : Ty = nodesAt R2 (2 * c .before .before .before .before .before .before .before .before .before .before .before .before .zonk .result .nodes) (c .before .before .before .before .before .zonk2 .result .nodes) in
-    zonk-then {f = λ (x : Ty). zonk t (F x)} (p .formed) Z1 (zonk-then {f = F L1} (D1 .kept) Z2
-    (stays-does (D2 .kept) (a .w) ls R2 (sym (c .before .is-going .ensures) ∙ c .if1 .left) (F L1 R)))
+    subtype-then (p .formed) Z1 Z2 e1 (stays-does (D2 .kept) (a .w) ls R2 (sym (c .before .is-going .ensures) ∙ c .if1 .left) (compared L R))
 
 pub solve-subtype-spec : {M : Type 1} → statement M
 solve-subtype-spec =
