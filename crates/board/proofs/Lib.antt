@@ -1,2 +1,3 @@
 pub mod Stacks
 pub mod Finds
+pub mod Terms
