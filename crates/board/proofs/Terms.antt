@@ -3,11 +3,12 @@ use mathlib.Core.Path.{_≡_, refl, sym, ap, ap₂, _∙_}
 use mathlib.Core.List.{List, [], _∷_, _++_}
 use Prim.Native.Nat.{ℕ, zero, suc, _+_, _-_, _≤_, _<_}
 use native.Mathlib.Nat.{add-zero, not-suc-le-zero}
+use native.Mathlib.Numerals.{add-one}
 use native.Mathlib.Omega.{arith}
 use lib.ListN.{length, getD, take, drop}
 use lib.Seq.{drop-cons, drop-drop}
 use Rattle.nodes.specs.Parts.{takeParts, dropParts}
-use Rattle.nodes.proofs.PartLaws.{take-take, drop-take, drop-none, is-drop}
+use Rattle.nodes.proofs.PartLaws.{take-take, drop-take, drop-none, is-take, is-drop}
 use Rattle.nodes.proofs.PartLaws.{drop-drop as drop-parts}
 use Rattle.spelling.specs.declared.Triple.{Triple}
 use Rattle.kinds.specs.Kinds.{partsOf}
@@ -16,7 +17,7 @@ use Rattle.judgment.specs.Terms.{Term, part, afterParts}
 use Rattle.board.specs.Board.{termAt}
 
 -- the line of number p
-abbrev lineOf : List Triple → ℕ → Triple
+abbrev pub lineOf : List Triple → ℕ → Triple
 lineOf ls p = getD ls p noTriple
 
 -- the lines of its parts
@@ -49,7 +50,16 @@ part-is (suc i) xs (suc m) h =
     ∙ part-is i (dropParts partsOf xs 1) m (omega arith)
     ∙ ap (λ (ys : List Triple). takeParts partsOf ys 1) (sym (drop-parts partsOf xs 1 i) ∙ ap (dropParts partsOf xs) f)
 
-pub part-at : (ls : List Triple) (p i : ℕ) → i < partsOf (lineOf ls p) → part i (bodyAt ls p) ≡ termAt ls (partLine ls (suc p) i)
+pub part-at : (ls : List Triple) (p i : ℕ) → i < partsOf (lineOf ls p) → part i (bodyAt ls p) ≡ termAt ls (partLine ls (p + 1) i)
 unfolding termAt
 part-at ls p i h =
-    part-is i (drop (suc p) ls) (partsOf (lineOf ls p)) h ∙ ap (λ (xs : List Triple). takeParts partsOf xs 1) (after-lines ls (suc p) i)
+    part-is i (drop (suc p) ls) (partsOf (lineOf ls p)) h
+    ∙ ap (λ (xs : List Triple). takeParts partsOf xs 1) (after-lines ls (suc p) i)
+    ∙ ap (λ (q : ℕ). takeParts partsOf (drop (partLine ls q i) ls) 1) (sym (add-one p))
+
+-- a term, or a type, as a run of lines
+pub part-lines : (ls : List Triple) (p : ℕ) → termAt ls p ≡ take (partLine ls p 1 - p) (drop p ls)
+unfolding termAt partLine
+part-lines ls p =
+    let e : length (takeParts partsOf (drop p ls) 1) ≡ p + length (takeParts partsOf (drop p ls) 1) - p = omega arith in
+    is-take partsOf (drop p ls) 1 ∙ ap (λ (n : ℕ). take n (drop p ls)) e

@@ -1,4 +1,4 @@
--- The lines of a whole type are, as nodes, one whole type: `type-whole`. Their values are words: `type-narrow`. Assumes nothing.
+-- The lines of a whole type are, as nodes, one whole type: `type-whole`. Words hold their values: `type-narrow`; and those of a term, but for a literal: `term-narrow`. Assumes nothing.
 use mathlib.Core.Path.{_≡_, refl, sym, ap, _∙_, subst, subst⁻¹}
 use mathlib.Core.Logic.{_⊎_, inl, inr, ⊎-elim}
 use mathlib.Core.Bool.{Bool, true, false, not, cond, _&&_, _||_, and-eq-true-iff}
@@ -14,7 +14,7 @@ use Rattle.nodes.specs.Lists.{All}
 use Rattle.spelling.specs.declared.Triple.{Triple}
 use Rattle.spelling.specs.declared.Line.the-variants.{Spelt}
 use Rattle.kinds.specs.declared.Row.{Row}
-use Rattle.kinds.specs.Kinds.{aType, nothing, number, table, rowOf, unlisted, valueOk, begins}
+use Rattle.kinds.specs.Kinds.{aType, aTerm, nothing, number, table, rowOf, unlisted, valueOk, begins}
 use Rattle.nodes.proofs.ListLaws.{cond-ind}
 use Rattle.kinds.proofs.Rows.{everyListed, listed-passes}
 use Rattle.grammar.specs.Grammar.{Item, part, entries, goal, ok, due, repeated, following}
@@ -78,28 +78,29 @@ row-fits k c v r e s = go (eqb k 16) refl (rest .0) (rest .1)
           rw (te, ea) (ap length (append-nil (replicate (r .types) (part aType))) ∙ length-replicate (r .types) (part aType) ∙ ty ∙ other-kind k (cond (eqb k 16) c v) q),
         )
 
--- ---- a line that begins a type
-sort-is : (t : Triple) → begins aType t ≡ true → rowOf (t .kind) .sort ≡ aType
-unfolding begins
-sort-is t h = eqb-true (rowOf (t .kind) .sort) aType (and-eq-true-iff (eqb (rowOf (t .kind) .sort) aType) _ .0 h .0)
+-- ---- a line that begins a part of sort x
+module _ (x : ℕ) (t : Triple) (h : begins x t ≡ true) where
+  sort-is : rowOf (t .kind) .sort ≡ x
+  unfolding begins
+  sort-is = eqb-true (rowOf (t .kind) .sort) x (and-eq-true-iff (eqb (rowOf (t .kind) .sort) x) _ .0 h .0)
 
-value-ok : (t : Triple) → begins aType t ≡ true → valueOk (rowOf (t .kind) .value) (t .value) ≡ true
-unfolding begins
-value-ok t h = and-eq-true-iff (valueOk (rowOf (t .kind) .value) (t .value)) _ .0 (and-eq-true-iff (eqb (rowOf (t .kind) .sort) aType) _ .0 h .1) .0
+  value-ok : valueOk (rowOf (t .kind) .value) (t .value) ≡ true
+  unfolding begins
+  value-ok = and-eq-true-iff (valueOk (rowOf (t .kind) .value) (t .value)) _ .0 (and-eq-true-iff (eqb (rowOf (t .kind) .sort) x) _ .0 h .1) .0
 
--- its kind is listed
-type-row : (p : ℕ → Row → Bool) → everyListed p table ≡ true → (t : Triple) → begins aType t ≡ true → p (t .kind) (rowOf (t .kind)) ≡ true
-type-row p e t h = go (listed-passes p (t .kind) e)
-  where
-    go : (rowOf (t .kind) ≡ unlisted) ⊎ (p (t .kind) (rowOf (t .kind)) ≡ true) → p (t .kind) (rowOf (t .kind)) ≡ true
-    go (inl u) = absurd (let z : _≡_ {A = ℕ} nothing aType = sym (ap (λ (r : Row). r .sort) u) ∙ sort-is t h in omega arith)
-    go (inr h) = h
+  -- its kind is listed
+  begun-row : 0 < x → (p : ℕ → Row → Bool) → everyListed p table ≡ true → p (t .kind) (rowOf (t .kind)) ≡ true
+  begun-row l p e = go (listed-passes p (t .kind) e)
+    where
+      go : (rowOf (t .kind) ≡ unlisted) ⊎ (p (t .kind) (rowOf (t .kind)) ≡ true) → p (t .kind) (rowOf (t .kind)) ≡ true
+      go (inl u) = absurd (let z : _≡_ {A = ℕ} nothing x = sym (ap (λ (r : Row). r .sort) u) ∙ sort-is in omega arith)
+      go (inr h) = h
 
 type-line : (t : Triple) → ok (part aType) (Spelt t) ≡ true → Types (due (part aType) (Spelt t)) × (length (due (part aType) (Spelt t)) ≡ nodeParts (lineNode t))
 unfolding table
 type-line t e =
     let d = due-following aType t e in
-    let f : Fits (t .kind) (rowOf (t .kind)) (t .count) (t .value) = row-fits (t .kind) (t .count) (t .value) (rowOf (t .kind)) (type-row typeRow refl t (d .0)) (sort-is t (d .0)) in
+    let f : Fits (t .kind) (rowOf (t .kind)) (t .count) (t .value) = row-fits (t .kind) (t .count) (t .value) (rowOf (t .kind)) (begun-row aType t (d .0) (omega arith) typeRow refl) (sort-is aType t (d .0)) in
     (subst⁻¹ Types (d .1) (f .0), ap length (d .1) ∙ f .1)
 
 -- ---- the values of a type's lines are names
@@ -121,8 +122,8 @@ line-narrow : (t : Triple) → ok (part aType) (Spelt t) ≡ true → Narrow t
 unfolding table
 line-narrow t e =
     let h = due-following aType t e .0 in
-    let n : (not (eqb (rowOf (t .kind) .sort) aType) || not (eqb (rowOf (t .kind) .value) number)) ≡ true = type-row namesOnly refl t h in
-    name-narrow (rowOf (t .kind) .value) (t .value) (rw (sort-is t h) at n) (value-ok t h)
+    let n : (not (eqb (rowOf (t .kind) .sort) aType) || not (eqb (rowOf (t .kind) .value) number)) ≡ true = begun-row aType t h (omega arith) namesOnly refl in
+    name-narrow (rowOf (t .kind) .value) (t .value) (rw (sort-is aType t h) at n) (value-ok aType t h)
 
 -- ---- lines of types
 types-all : (ts : List Triple) (ahead : List Item) → Forms ts ahead → Types ahead → Whole nodeParts (nodesOf ts) (length ahead) × All Narrow ts
@@ -142,3 +143,14 @@ type-whole ts f = types-all ts (part aType ∷ []) f (refl, tt) .0
 
 pub type-narrow : (ts : List Triple) → IsPart aType ts → All Narrow ts
 type-narrow ts f = types-all ts (part aType ∷ []) f (refl, tt) .1
+
+-- ---- a term's line has a name, an operator or nothing, but for a literal
+abbrev notNumber : ℕ → Row → Bool
+notNumber k r = not (eqb (r .sort) aTerm) || (eqb k 22 || not (eqb (r .value) number))
+
+pub term-narrow : (t : Triple) → ok (part aTerm) (Spelt t) ≡ true → (t .kind ≡ 22 → ⊥) → Narrow t
+unfolding table
+term-narrow t e f =
+    let h = due-following aTerm t e .0 in
+    let n : (not (eqb (rowOf (t .kind) .sort) aTerm) || (eqb (t .kind) 22 || not (eqb (rowOf (t .kind) .value) number))) ≡ true = begun-row aTerm t h (omega arith) notNumber refl in
+    name-narrow (rowOf (t .kind) .value) (t .value) (rw (sort-is aTerm t h, ne-eqb (t .kind) 22 f) at n) (value-ok aTerm t h)

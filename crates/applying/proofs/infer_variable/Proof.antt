@@ -1,0 +1,42 @@
+use mathlib.Core.Path.{ap}
+use mathlib.Core.Option.{Option}
+use denote.Ref.{now}
+use Rattle.nodes.specs.Nodes.{Ty, nodesAt}
+use Rattle.sheet.specs.Plan.{triples}
+use Rattle.judgment.specs.Board.{findVar}
+use Rattle.judgment.specs.Rules.{variable}
+use Rattle.board.specs.Board.{entriesOf}
+use Rattle.operations.proofs.Then.{does-as}
+use Rattle.applying.specs.Applying.{envOn, entryIn}
+use Rattle.applying.proofs.Entries.{entry-asks, entry-is, looked}
+use borrow.Author.Needs.{needs}
+use Rattle.applying.proofs.infer_variable.Statement.{statement}
+use Rattle.applying.proofs.infer_variable.Tie as tie
+
+push-entry-requires : tie.Need-push-entry-requires
+push-entry-requires c κs = entry-asks 2 (c .before .before .before .before .before .before .before .before .before .before .args .name) (now (c .before .before .before .before .before .before .before .before .before .before .args .s)) (c .before .before .before .before .before .find-entry .ensures) (c .before .before .before .before .before .before .before .before .before .before .pre) (c .before .before .before .line .given .1)
+
+infer-on-board-requires : tie.Need-infer-on-board-requires
+infer-on-board-requires c κs = c .before .before .before .before .before .before .before .before .before .pre
+
+returns : tie.Need-returns
+returns c =
+    λ w k rep f.
+    let a = c .before .before .before .before .before .before .before .before .before .before .before .before .before .before .before .args in
+    let T : Ty = nodesAt (now (a .t)) 0 (a .tn) in
+    let B : Option Ty = findVar (a .name) (entriesOf (triples (now (a .s))) (now (a .board)) (a .c .board .entries)) in
+    let e = entry-is 2 (a .name) (now (a .s)) (c .before .before .before .before .before .before .before .before .before .before .find-entry .ensures) (c .before .before .before .before .before .before .before .before .line .given .1) in
+    looked (now (a .s)) (a .name) T (does-as (λ _. ap (λ (o : Option Ty). variable (envOn (now (a .s))) (a .name) T o B (entryIn 1 (a .name) (now (a .s)))) e) (c .before .before .before .before .push-entry .ensures w k rep f))
+
+returns-2 : tie.Need-returns-2
+returns-2 c =
+    λ w k rep f.
+    let a = c .before .before .before .before .before .before .before .before .before .before .before .before .before .before .args in
+    let T : Ty = nodesAt (now (a .t)) 0 (a .tn) in
+    let B : Option Ty = findVar (a .name) (entriesOf (triples (now (a .s))) (now (a .board)) (a .c .board .entries)) in
+    let e = entry-is 2 (a .name) (now (a .s)) (c .before .before .before .before .before .before .before .before .before .find-entry .ensures) (c .before .before .before .before .before .before .before .enum-told .given .1) in
+    looked (now (a .s)) (a .name) T (does-as (λ _. ap (λ (o : Option Ty). variable (envOn (now (a .s))) (a .name) T o B (entryIn 1 (a .name) (now (a .s)))) e) (c .before .before .before .before .infer-on-board .ensures w k rep f))
+
+pub infer-variable-spec : {M : Type 1} → statement M
+infer-variable-spec =
+    tie.close (tie.spec (λ c κs. search needs) (λ c. search needs) push-entry-requires (λ c. search needs) infer-on-board-requires (λ c. search needs) (λ c. search needs) returns (λ c. search needs) (λ c. search needs) returns-2)

@@ -1,0 +1,45 @@
+use mathlib.Core.Path.{sym, _∙_}
+use mathlib.Core.List.{List}
+use native.Mathlib.Omega.{arith}
+use Rattle.spelling.specs.declared.Triple.{Triple}
+use Rattle.judgment.specs.Rules.{Env}
+use Rattle.board.specs.Board.{termAt}
+use Rattle.applying.proofs.Outs.{first-asks, second-asks, both-asks, apply-then, apply-stays}
+use borrow.Author.Needs.{needs}
+use Rattle.applying.proofs.solve_inf_app.Statement.{statement}
+use Rattle.applying.proofs.solve_inf_app.Tie as tie
+
+zonk-requires : tie.Need-zonk-requires
+zonk-requires c κs = first-asks (c .before .before .before .before .before .before .pre)
+
+mul-next : tie.Need-mul-next
+mul-next c =
+    let x = c .before .before .before .before .before .before .before .before .before .before .pre .within in
+    omega arith
+
+add-next : tie.Need-add-next
+add-next c =
+    let x = c .before .before .before .before .before .before .before .before .before .before .pre .within in
+    omega arith
+
+zonk-requires-2 : tie.Need-zonk-requires-2
+zonk-requires-2 c κs = second-asks (c .before .before .before .before .before .before .before .before .before .before .before .before .before .pre) (c .before .before .before .before .before .before .zonk .ensures .0) (c .before .before .before .before .before .before .zonk .ensures .2) (c .before .before .before .before .before .before .zonk .kept .1 .1 .1 .1 .1 .0)
+
+apply-shapes-requires : tie.Need-apply-shapes-requires
+apply-shapes-requires c κs = both-asks (c .before .before .before .before .before .before .before .before .before .before .before .before .before .before .before .before .before .before .before .before .before .before .pre) (c .before .before .before .before .before .before .before .before .before .before .before .before .before .before .before .zonk .ensures .0) (c .before .before .before .before .before .before .before .before .before .before .before .before .before .before .before .zonk .ensures .2) (c .before .before .before .before .before .before .before .before .zonk2 .ensures .0) (c .before .before .before .before .before .before .before .before .zonk2 .ensures .1) (c .before .before .before .before .before .before .before .before .zonk2 .ensures .2) (sym (c .before .before .before .before .is-going .ensures) ∙ c .before .before .before .if1 .taken)
+
+returns : tie.Need-returns
+returns c =
+    λ (ls : List Triple) (E : Env).
+    apply-then (c .before .before .before .before .before .before .before .before .before .before .before .before .before .before .before .before .before .before .before .before .before .before .before .before .before .before .before .before .before .pre) (c .before .before .before .before .before .before .before .before .before .before .before .before .before .before .before .before .before .before .before .before .before .before .zonk .ensures .0) (c .before .before .before .before .before .before .before .before .before .before .before .before .before .before .before .before .before .before .before .before .before .before .zonk .ensures .2) (c .before .before .before .before .before .before .before .before .before .before .before .before .before .before .before .zonk2 .ensures .0) (c .before .before .before .before .before .before .before .before .before .before .before .before .before .before .before .zonk2 .ensures .1) (c .before .before .before .before .before .before .before .before .before .before .before .before .before .before .before .zonk2 .ensures .2) ls E (termAt ls (c .before .before .before .before .before .before .before .before .before .before .before .before .before .before .before .before .before .before .before .before .before .before .before .before .before .before .before .before .before .args .line))
+    (c .before .before .before .before .before .before .apply-shapes .ensures (c .before .before .before .before .before .before .before .before .before .before .before .before .before .before .before .before .before .before .before .before .before .before .before .before .before .before .before .before .before .args .w) ls E)
+
+returns-2 : tie.Need-returns-2
+returns-2 c =
+    λ (ls : List Triple) (E : Env).
+    apply-stays (c .before .before .before .before .before .before .before .before .before .before .before .before .before .before .before .before .before .before .before .pre) (c .before .before .before .before .before .before .before .before .before .before .before .before .zonk .ensures .0) (c .before .before .before .before .before .before .before .before .before .before .before .before .zonk .ensures .2) (c .before .before .before .before .before .zonk2 .ensures .0) (c .before .before .before .before .before .zonk2 .ensures .1) (c .before .before .before .before .before .zonk2 .ensures .2) ls E (termAt ls (c .before .before .before .before .before .before .before .before .before .before .before .before .before .before .before .before .before .before .before .args .line))
+    (sym (c .before .is-going .ensures) ∙ c .if1 .left)
+
+pub solve-inf-app-spec : {M : Type 1} → statement M
+solve-inf-app-spec =
+    tie.close (tie.spec zonk-requires mul-next add-next zonk-requires-2 (λ c κs. search needs) apply-shapes-requires (λ c. search needs) (λ c. search needs) (λ c. search needs) returns (λ c. search needs) (λ c. search needs) (λ c. search needs) returns-2)

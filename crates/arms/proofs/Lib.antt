@@ -1,0 +1,4 @@
+pub mod Vars
+pub mod Bodies
+pub mod Cut
+pub mod Narrow

@@ -1,0 +1,105 @@
+use mathlib.Core.Path.{_≡_, sym, _∙_, subst⁻¹}
+use mathlib.Core.List.{List}
+use Prim.Native.Nat.{ℕ, _+_, _*_, _-_, _≤_, _<_}
+use native.Mathlib.Omega.{arith}
+use denote.Ref.{now}
+use lib.ListN.{length, take, drop}
+use Rattle.nodes.specs.Nodes.{nodesAt}
+use Rattle.nodes.specs.Lists.{All}
+use Rattle.spelling.specs.declared.Triple.{Triple}
+use Rattle.sheet.specs.Plan.{triples, Narrow}
+use Rattle.arms.proofs.Bodies.{body-within, pattern-lines, armed}
+use borrow.Author.Needs.{needs}
+use Rattle.arms.proofs.check_arm.Statement.{statement}
+use Rattle.arms.proofs.check_arm.Tie as tie
+
+sub-lines : tie.Need-sub-lines
+sub-lines c =
+    let a = c .before .before .before .before .before .before .before .before .args in
+    let p = c .before .before .before .before .before .before .before .before .pre in
+    let ls = triples (now (a .s)) in
+    let body : ℕ = c .part-line .result in
+    let B : (a .first ≤ body) × (body ≤ length ls) = body-within ls (a .first) (p .within) body (c .part-line .ensures) in
+    let few : length ls ≤ 4096 = p .lent .sheet .few in
+    omega arith
+
+check-pattern-requires : tie.Need-check-pattern-requires
+check-pattern-requires c κs =
+    let a = c .before .before .before .before .before .before .before .before .before .before .before .before .before .args in
+    let p = c .before .before .before .before .before .before .before .before .before .before .before .before .before .pre in
+    let ls = triples (now (a .s)) in
+    let body : ℕ = c .before .before .before .before .before .part-line .result in
+    let B : (a .first ≤ body) × (body ≤ length ls) = body-within ls (a .first) (p .within) body (c .before .before .before .before .before .part-line .ensures) in
+    let few : length ls ≤ 4096 = p .lent .sheet .few in
+    let f = p .lent .frames in
+    let g = p .lent .rows in
+    record {
+      ready = p .ready;
+      sheet = p .lent .sheet;
+      stands = omega arith;
+      narrow = subst⁻¹ (All Narrow) (pattern-lines ls (a .first) (p .within) body (c .before .before .before .before .before .part-line .ensures)) (p .narrow);
+      low = p .lent .low;
+      frames = omega arith;
+      rows = omega arith;
+      left = p .lent .left;
+      right = p .lent .right;
+    }
+
+push-vars-requires : tie.Need-push-vars-requires
+push-vars-requires c κs =
+    let a = c .before .before .before .before .before .before .before .before .before .before .before .before .before .before .before .before .before .before .before .before .before .before .before .before .before .before .before .before .args in
+    let p = c .before .before .before .before .before .before .before .before .before .before .before .before .before .before .before .before .before .before .before .before .before .before .before .before .before .before .before .before .pre in
+    let ls = triples (now (a .s)) in
+    let body : ℕ = c .before .before .before .before .before .before .before .before .before .before .before .before .before .before .before .before .before .before .before .before .part-line .result in
+    let B : (a .first ≤ body) × (body ≤ length ls) = body-within ls (a .first) (p .within) body (c .before .before .before .before .before .before .before .before .before .before .before .before .before .before .before .before .before .before .before .before .part-line .ensures) in
+    let few : length ls ≤ 4096 = p .lent .sheet .few in
+    let C = c .before .before .before .before .before .before .before .before .before .before .before .before .before .before .check-pattern .ensures in
+    let m = C .few in
+    let g = p .lent .rows in
+    let h = p .lent .left in
+    let v = c .before .before .before .before .before .before .before .before .before .before .before .before .before .before .check-pattern .kept .1 .1 .1 .1 .1 .1 .1 .0 in
+    let l = c .before .before .before .before .before .before .before .before .before .before .before .before .before .before .check-pattern .kept .1 .1 .1 .1 .1 .1 .1 .1 .0 in
+    record { ready = C .turn .ready; sound = C .sound; few = omega arith; rows = omega arith; left = omega arith }
+
+cast-push-chk : tie.Need-cast-push-chk
+cast-push-chk c =
+    let a = c .before .before .before .before .before .before .before .before .before .before .before .before .before .before .before .before .before .before .before .before .before .before .before .before .before .before .before .before .before .before .before .before .before .before .args in
+    let p = c .before .before .before .before .before .before .before .before .before .before .before .before .before .before .before .before .before .before .before .before .before .before .before .before .before .before .before .before .before .before .before .before .before .before .pre in
+    let ls = triples (now (a .s)) in
+    let body : ℕ = c .before .before .before .before .before .before .before .before .before .before .before .before .before .before .before .before .before .before .before .before .before .before .before .before .before .before .part-line .result in
+    let B : (a .first ≤ body) × (body ≤ length ls) = body-within ls (a .first) (p .within) body (c .before .before .before .before .before .before .before .before .before .before .before .before .before .before .before .before .before .before .before .before .before .before .before .before .before .before .part-line .ensures) in
+    let few : length ls ≤ 4096 = p .lent .sheet .few in
+    omega arith
+
+push-chk-requires : tie.Need-push-chk-requires
+push-chk-requires c κs = (c .before .before .before .before .before .push-vars .ensures .ready .board, c .before .before .before .before .before .before .before .before .before .before .before .before .before .before .before .before .before .before .before .before .before .before .before .before .before .before .before .before .before .before .before .before .before .before .pre .lent .type)
+
+same-length : tie.Need-same-length
+same-length c = c .before .before .before .push-chk .kept .0 ∙ c .before .before .before .before .before .before .before .before .before .push-vars .kept .0 ∙ c .before .before .before .before .before .before .before .before .before .before .before .before .before .before .before .before .before .before .before .before .before .before .before .before .check-pattern .kept .0
+
+same-length-2 : tie.Need-same-length-2
+same-length-2 c = c .before .before .before .before .before .before .before .before .before .before .before .before .before .before .before .before .before .before .before .before .before .before .before .before .check-pattern .kept .1 .1 .1 .1 .1 .1 .0
+
+same-length-3 : tie.Need-same-length-3
+same-length-3 c = c .before .before .before .before .before .before .before .before .before .before .before .before .before .before .before .before .before .before .before .before .before .before .before .before .check-pattern .kept .1 .1 .1 .1 .1 .1 .1 .0
+
+same-length-4 : tie.Need-same-length-4
+same-length-4 c = c .before .before .before .before .before .before .before .before .before .push-vars .kept .1 .1 .1 .1 .1 .0 ∙ c .before .before .before .before .before .before .before .before .before .before .before .before .before .before .before .before .before .before .before .before .before .before .before .before .check-pattern .kept .1 .1 .1 .1 .1 .1 .1 .1 .0
+
+same-length-5 : tie.Need-same-length-5
+same-length-5 c = c .before .before .before .before .before .before .before .before .before .before .before .before .before .before .before .before .before .before .before .before .before .before .before .before .check-pattern .kept .1 .1 .1 .1 .1 .1 .1 .1 .1 .0
+
+returns : tie.Need-returns
+returns c =
+    let a = c .before .before .before .before .before .before .before .before .before .before .before .before .before .before .before .before .before .before .before .before .before .before .before .before .before .before .before .before .before .before .before .before .before .before .before .before .before .before .args in
+    let p = c .before .before .before .before .before .before .before .before .before .before .before .before .before .before .before .before .before .before .before .before .before .before .before .before .before .before .before .before .before .before .before .before .before .before .before .before .before .before .pre in
+    let ls = triples (now (a .s)) in
+    let body : ℕ = c .before .before .before .before .before .before .before .before .before .before .before .before .before .before .before .before .before .before .before .before .before .before .before .before .before .before .before .before .before .before .part-line .result in
+    let B : (a .first ≤ body) × (body ≤ length ls) = body-within ls (a .first) (p .within) body (c .before .before .before .before .before .before .before .before .before .before .before .before .before .before .before .before .before .before .before .before .before .before .before .before .before .before .before .before .before .before .part-line .ensures) in
+    let few : length ls ≤ 4096 = p .lent .sheet .few in
+    let next : ℕ = c .part-line2 .result in
+    armed ls (a .first) (p .within) body (c .before .before .before .before .before .before .before .before .before .before .before .before .before .before .before .before .before .before .before .before .before .before .before .before .before .before .before .before .before .before .part-line .ensures) (a .u) (nodesAt (now (a .t)) (a .ta) (a .tn)) next (c .part-line2 .ensures) (body-within ls body (B .1) next (c .part-line2 .ensures) .1) (c .before .before .before .before .before .before .before .before .before .before .before .before .before .before .before .before .before .before .before .before .before .before .before .before .check-pattern .ensures) (c .before .before .before .before .before .before .before .before .before .push-vars .ensures) (c .before .before .before .push-chk .ensures)
+
+pub check-arm-spec : {M : Type 1} → statement M
+check-arm-spec =
+    tie.close (tie.spec (λ c κs. search needs) sub-lines check-pattern-requires push-vars-requires cast-push-chk push-chk-requires (λ c κs. search needs) same-length same-length-2 same-length-3 same-length-4 same-length-5 returns)

@@ -1,0 +1,58 @@
+-- The arms of a Case, read one after the other. Assumes nothing: these are definitions.
+use mathlib.Core.Path.{_≡_}
+use mathlib.Core.List.{List, [], _∷_}
+use Prim.Native.Nat.{ℕ, zero, suc, _+_, _*_, _≤_}
+use lib.ListN.{length, drop}
+use Rattle.nodes.specs.Nodes.{Ty}
+use Rattle.nodes.specs.Lists.{All}
+use Rattle.spelling.specs.declared.Triple.{Triple}
+use Rattle.sheet.specs.Plan.{Narrow}
+use Rattle.judgment.specs.Types.{unknown}
+use Rattle.judgment.specs.Terms.{Term, part, afterParts}
+use Rattle.judgment.specs.Board.{chk, push}
+use Rattle.judgment.specs.Rules.{pushVars, checkPatterns}
+use Rattle.operations.specs.declared.Run.{Run}
+use Rattle.tables.specs.Rows.{Sound}
+use Rattle.patterns.specs.Turns.{Ready, Turn}
+use Rattle.patterns.specs.Readings.{envAt, Sheet}
+use Rattle.arms.specs.declared.Arm.{Arm}
+
+pub record VarsAsk (b : List ℕ) (c : Run) (ls : List Triple) (v : List ℕ) (n : ℕ) (l : List ℕ) : Type 0 where
+  pub ready : Ready b c
+  pub sound : Sound ls v n
+  pub few : n ≤ 4096
+  pub rows : 6 * n ≤ length v
+  pub left : 8192 ≤ length l
+
+-- what all arms share: the scrutinee's unknown, the tables and scratch, the type of the bodies
+pub record Lent (ls : List Triple) (u : ℕ) (w v l r t : List ℕ) (ta tn : ℕ) : Type 0 where
+  pub sheet : Sheet ls
+  pub low : u ≤ 1000
+  pub frames : 6 * length ls + 12 ≤ length w
+  pub rows : 6 * length ls + 6 ≤ length v
+  pub left : 8192 ≤ length l
+  pub right : 8192 ≤ length r
+  pub type : ta + 2 * tn ≤ length t
+
+pub record ArmAsk (b : List ℕ) (c : Run) (ls : List Triple) (first u : ℕ) (w v l r t : List ℕ) (ta tn : ℕ) : Type 0 where
+  pub ready : Ready b c
+  pub lent : Lent ls u w v l r t ta tn
+  pub within : first ≤ length ls
+  pub narrow : All Narrow (part 0 (drop first ls))
+
+-- an arm, and then whatever follows
+pub record Armed (b : List ℕ) (c : Run) (ls : List Triple) (first u : ℕ) (t : Ty) (b' : List ℕ) (o : Arm) : Type 0 where
+  pub within : o .next ≤ length ls
+  pub after : drop (o .next) ls ≡ afterParts 2 (drop first ls)
+  pub turn : Turn {A = ℕ} ls b c (λ f. checkPatterns (envAt ls) (part 0 (drop first ls)) (unknown u ∷ []) [] (λ bs. pushVars bs (push (chk (part 1 (drop first ls)) t) (f 0)))) b' (o .run) (λ f. f 0)
+
+-- n arms whose patterns have names of one word
+unfoldable pub NarrowArms : ℕ → Term → Type 0
+NarrowArms zero ls = Unit
+NarrowArms (suc n) ls = All Narrow (part 0 ls) × NarrowArms n (afterParts 2 ls)
+
+pub record ArmsAsk (b : List ℕ) (c : Run) (ls : List Triple) (line n u : ℕ) (w v l r t : List ℕ) (ta tn : ℕ) : Type 0 where
+  pub ready : Ready b c
+  pub lent : Lent ls u w v l r t ta tn
+  pub within : line ≤ length ls
+  pub narrow : NarrowArms n (drop line ls)

@@ -1,0 +1,105 @@
+// The arms of a Case (worklist.rs: `solve_inference` for a Case): each pattern, its variables, its body.
+ghost use mathlib.Core.Path.{_≡_};
+ghost use mathlib.Core.List.{List};
+ghost use Prim.Native.Nat.{ℕ, _+_, _*_, _≤_, _<_};
+ghost use lib.ListN.{length, drop};
+ghost use Rattle.nodes.specs.Nodes.{nodesAt};
+ghost use Rattle.sheet.specs.Plan.{triples};
+ghost use Rattle.judgment.specs.Types.{unknown};
+ghost use Rattle.judgment.specs.Rules.{pushVars, checkArms};
+ghost use Rattle.operations.specs.State.{WellFormed, Does};
+ghost use Rattle.tables.specs.Rows.{bindingsAt};
+ghost use Rattle.patterns.specs.Turns.{Turn};
+ghost use Rattle.patterns.specs.Readings.{envAt};
+ghost use Rattle.arms.specs.Arms.{VarsAsk, ArmAsk, Armed, ArmsAsk};
+use operations::Run;
+use operations::push_chk;
+use operations::push_var;
+use patterns::check_pattern;
+use references::instance;
+use sheet::part_line;
+use tables::get;
+
+// Pushes the Var of each of the n bindings in v. l is scratch.
+fn push_vars(board: &mut [u32], c: Run, s: &[u8], v: &[usize], n: usize, l: &mut [u32]) -> Run
+    requires { ⌜ VarsAsk (now board) c (triples (now s)) (now v) n (now l) ⌝ }
+    ensures { λ r. ⌜ Turn {A = ℕ} (triples (now (s .entry))) (now (board .entry)) c (λ f. pushVars (bindingsAt (triples (now (s .entry))) (now (v .entry)) 0 n) (f 0)) (now (board .exit)) r (λ f. f 0) ⌝ }
+{
+    let mut run = c;
+    let mut i: usize = 0;
+    while i < n {
+        let q = get(v, i);
+        let name = v[6 * i] as u32;
+        let at = 2 * q.at;
+        let count = q.count;
+        instance(l, s, q);
+        run = push_var(board, run, name, l, at, count);
+        i += 1;
+    }
+    run
+}
+
+// The run, and the line after the arm.
+pub struct Arm {
+    pub run: Run,
+    pub next: usize,
+}
+
+// The arm that starts at line `first`, against the unknown u; its body must have the type of tn nodes at word ta of t. w, v, l and r are scratch.
+fn check_arm(
+    board: &mut [u32],
+    c: Run,
+    s: &[u8],
+    first: usize,
+    u: u32,
+    w: &mut [usize],
+    v: &mut [usize],
+    l: &mut [u32],
+    r: &mut [u32],
+    t: &[u32],
+    ta: usize,
+    tn: usize,
+) -> Arm
+    requires { ⌜ ArmAsk (now board) c (triples (now s)) first u (now w) (now v) (now l) (now r) (now t) ta tn ⌝ }
+    ensures { λ o. ⌜ Armed (now (board .entry)) c (triples (now (s .entry))) first u (nodesAt (now (t .entry)) ta tn) (now (board .exit)) o ⌝ }
+{
+    let body = part_line(s, first, 1);
+    let lines = body - first;
+    let o = check_pattern(board, c, s, first, lines, u, w, v, l, r);
+    let read = o.run;
+    let bound = push_vars(board, read, s, v, o.bound, l);
+    let run = push_chk(board, bound, body as u32, t, ta, tn);
+    let next = part_line(s, body, 1);
+    Arm { run, next }
+}
+
+// The n arms from line `line` on.
+pub fn check_arms(
+    board: &mut [u32],
+    c: Run,
+    s: &[u8],
+    line: usize,
+    n: usize,
+    u: u32,
+    w: &mut [usize],
+    v: &mut [usize],
+    l: &mut [u32],
+    r: &mut [u32],
+    t: &[u32],
+    ta: usize,
+    tn: usize,
+) -> Run
+    requires { ⌜ ArmsAsk (now board) c (triples (now s)) line n u (now w) (now v) (now l) (now r) (now t) ta tn ⌝ }
+    ensures { λ o. ⌜ ((m : ℕ) (k rep : List ℕ) → WellFormed (now (board .entry)) k c → Does m (triples (now (s .entry))) (now (board .entry)) k rep c (checkArms (envAt (triples (now (s .entry)))) n (drop line (triples (now (s .entry)))) (unknown u) (nodesAt (now (t .entry)) ta tn)) (now (board .exit)) k rep o) ⌝ }
+{
+    let mut run = c;
+    let mut at = line;
+    let mut left = n;
+    while 0 < left {
+        let o = check_arm(board, run, s, at, u, w, v, l, r, t, ta, tn);
+        run = o.run;
+        at = o.next;
+        left -= 1;
+    }
+    run
+}

@@ -1,0 +1,144 @@
+-- Unknowns made one after the other, each with its TVar. Assumes nothing.
+use mathlib.Core.Path.{_≡_, refl, sym, ap, _∙_, subst, subst⁻¹}
+use mathlib.Core.Bool.{Bool, true, false}
+use mathlib.Core.List.{List, [], _∷_}
+use Prim.Native.Nat.{ℕ, suc, _+_, _-_, _≤_, _<_}
+use native.Mathlib.Omega.{arith}
+use lib.Dec.{ltb}
+use borrow.Author.Tests.{ltb-true}
+use lib.ListN.{length}
+use Rattle.nodes.specs.Nodes.{node, nodesAt}
+use Rattle.nodes.proofs.ListLaws.{cond-ind}
+use Rattle.spelling.specs.declared.Triple.{Triple}
+use Rattle.judgment.specs.Types.{Renaming}
+use Rattle.judgment.specs.Solutions.{Solutions}
+use Rattle.judgment.specs.Board.{tvar, Limits, Rule, done, fresh, State, state, Outcome, finished}
+use Rattle.judgment.specs.Board.{Board as Entries}
+use Rattle.judgment.specs.Rules.{openNames}
+use Rattle.judgment.specs.Chain.{counterOf, performO, stays, freshO, pushO}
+use Rattle.judgment.specs.Result.{limitsWith}
+use Rattle.core_types.specs.Names.{pairs}
+use Rattle.board.specs.Board.{entryOf, entriesOf, Stacked}
+use Rattle.board.specs.Board.{fitting as fitsBoard}
+use Rattle.board.proofs.Stacks.{laid-stacked, fits-facts}
+use Rattle.book.specs.Book.{sols}
+use Rattle.operations.specs.declared.Halt.{Halt}
+use Rattle.operations.specs.declared.Halt.the-variants.{Going, Refused}
+use Rattle.operations.specs.declared.Run.{Run}
+use Rattle.operations.specs.State.{reported, outcomeBy, stateOf, outcomeOf, WellFormed, Performs, going, freshRun, pushRun, pushWords, Pushes}
+use Rattle.operations.proofs.Then.{fresh-made}
+use Rattle.constructors.specs.Opening.{namedRun, namedWords, Named}
+
+-- ---- a run after an operation
+counter-is : (h : Halt) (rep : List ℕ) (Γ : Entries) (σ : Solutions) (n : ℕ) → counterOf (outcomeBy h rep (state Γ σ n)) ≡ n
+counter-is Going rep Γ σ n = refl
+counter-is (Refused e) rep Γ σ n = refl
+
+-- rules that are the same where a run goes on
+same-going : (L : Limits) (h : Halt) (rep : List ℕ) (s : State) (p q : Rule) → (going h ≡ true → p ≡ q) → performO L p (outcomeBy h rep s) ≡ performO L q (outcomeBy h rep s)
+same-going L Going rep s p q e = ap (λ (r : Rule). performO L r (finished s)) (e refl)
+same-going L (Refused x) rep s p q e = stays L p x (nodesAt rep 0 (reported x)) s ∙ sym (stays L q x (nodesAt rep 0 (reported x)) s)
+
+abbrev Follows : Run → Run → Type 0
+Follows c r = (r .taken ≡ c .taken) × (going (r .halt) ≡ true → going (c .halt) ≡ true)
+
+fresh-follows : (c : Run) → Follows c (freshRun c) × (freshRun c .board ≡ c .board)
+fresh-follows c =
+    cond-ind (λ (r : Run). Follows c r × (r .board ≡ c .board)) (going (c .halt))
+    (λ g. cond-ind (λ (r : Run). Follows c r × (r .board ≡ c .board)) (ltb (c .fresh) 1000) (λ _. ((refl, λ _. g), refl)) (λ _. ((refl, λ _. g), refl)))
+    (λ _. ((refl, λ z. z), refl))
+
+fresh-numbers : (c : Run) → c .fresh ≤ 1000 → freshRun c .fresh ≤ 1000
+fresh-numbers c l =
+    cond-ind (λ (r : Run). r .fresh ≤ 1000) (going (c .halt))
+    (λ _. cond-ind (λ (r : Run). r .fresh ≤ 1000) (ltb (c .fresh) 1000) (λ h. omega (arith, ltb-true (c .fresh) 1000 h)) (λ _. l))
+    (λ _. l)
+
+push-follows : (c : Run) (n : ℕ) → Follows c (pushRun c n) × (pushRun c n .fresh ≡ c .fresh)
+push-follows c n =
+    cond-ind (λ (r : Run). Follows c r × (r .fresh ≡ c .fresh)) (going (c .halt))
+    (λ g. cond-ind (λ (r : Run). Follows c r × (r .fresh ≡ c .fresh)) (fitsBoard (c .board) n) (λ _. ((refl, λ _. g), refl)) (λ _. ((refl, λ _. g), refl)))
+    (λ _. ((refl, λ z. z), refl))
+
+tvar-stacked : (b : List ℕ) (c : Run) (a : ℕ) → Stacked b (c .board) → Stacked (pushWords b c 17 a [] []) (pushRun c 0 .board)
+unfolding entryOf
+tvar-stacked b c a s = by (going (c .halt)) refl (fitsBoard (c .board) 0) refl
+  where
+    by : (x : Bool) → going (c .halt) ≡ x → (y : Bool) → fitsBoard (c .board) 0 ≡ y → Stacked (pushWords b c 17 a [] []) (pushRun c 0 .board)
+    by true p true q = let f = fits-facts (c .board) 0 q in rw (p, q) (laid-stacked s 17 a [] [] (f .0) (f .1) (λ ls. refl))
+    by true p false q = rw (p, q) s
+    by false p y q = rw p s
+
+-- ---- one unknown, and then the others
+named-none : (b : List ℕ) (c : Run) → Stacked b (c .board) → Named b c 0 b c
+unfolding namedRun namedWords pairs openNames
+named-none b c s = record {
+  run = refl;
+  words = refl;
+  stacked = s;
+  numbers = λ l. l;
+  taken = refl;
+  alive = λ z. z;
+  made = λ _. omega arith;
+  kept = λ k h. h;
+  outcome = λ w k rep h f m xs l ls. none w k rep f m xs l ls;
+}
+  where
+    none : (w : ℕ) (k rep : List ℕ) (f : Renaming → Rule) (m : Renaming) (xs : List ℕ) → length xs ≡ 0 → (ls : List Triple)
+        → performO (limitsWith w) (f (pairs xs (c .fresh) m)) (outcomeOf ls b k rep c) ≡ performO (limitsWith w) (openNames xs m f) (outcomeOf ls b k rep c)
+    none w k rep f m [] l ls = refl
+    none w k rep f m (x ∷ xs) l ls = absurd (omega arith)
+
+pub named-end : {b : List ℕ} {c : Run} {n : ℕ} → Stacked b (c .board) → n ≡ 0 → Named b c n b c
+named-end {b} {c} {n} s e = rw e (named-none b c s)
+
+pub made-stacked : {b : List ℕ} (c r : Run) → r ≡ freshRun c → Stacked b (c .board) → Stacked b (r .board)
+made-stacked c r e s = rw (e, fresh-follows c .1) s
+
+module _ {b b₂ : List ℕ} {c c₁ c₂ : Run} (d : (c₁ ≡ freshRun c) × Performs c (λ rep. fresh (λ n. done)) c₁)
+    (p : Pushes b c₁ 17 (c .fresh) [] [] (λ ls. tvar (node 17 (c .fresh))) b₂ c₂) where
+  first-follows : Follows c c₁ × (c₁ .board ≡ c .board)
+  first-follows = subst⁻¹ (λ (r : Run). Follows c r × (r .board ≡ c .board)) (d .0) (fresh-follows c)
+
+  then-follows : Follows c₁ c₂ × (c₂ .fresh ≡ c₁ .fresh)
+  then-follows = subst⁻¹ (λ (r : Run). Follows c₁ r × (r .fresh ≡ c₁ .fresh)) (p .0) (push-follows c₁ 0)
+
+  -- the numbers follow each other
+  next : going (c₂ .halt) ≡ true → c₂ .fresh ≡ c .fresh + 1
+  next g = then-follows .1 ∙ fresh-made c c₁ (d .0) (then-follows .0 .1 g)
+
+  pub named-stacked : Stacked b (c .board) → Stacked b₂ (c₂ .board)
+  named-stacked s = rw (p .1, p .0) (tvar-stacked b c₁ (c .fresh) (made-stacked c c₁ (d .0) s))
+
+  module _ {b₃ : List ℕ} {c₃ : Run} {n : ℕ} (g : Named b₂ c₂ n b₃ c₃) where
+    more : (w : ℕ) (k rep : List ℕ) → WellFormed b k c → (f : Renaming → Rule) (m : Renaming) (xs : List ℕ) → length xs ≡ suc n → (ls : List Triple)
+        → performO (limitsWith w) (f (pairs xs (c .fresh) m)) (outcomeOf ls b₃ k rep c₃) ≡ performO (limitsWith w) (openNames xs m f) (outcomeOf ls b k rep c)
+    unfolding pairs openNames
+    more w k rep h f m [] l ls = absurd (omega arith)
+    more w k rep h f m (x ∷ xs) l ls =
+        let D1 = d .1 w ls b k rep h in
+        let D2 = p .2 w ls k rep (D1 .kept) in
+        let m₂ : Renaming = (x, c .fresh) ∷ m in
+        let o : Outcome = outcomeOf ls b k rep c in
+        same-going (limitsWith w) (c₃ .halt) rep (stateOf ls b₃ k c₃) (f (pairs xs (c .fresh + 1) m₂)) (f (pairs xs (c₂ .fresh) m₂)) (λ z. ap (λ (a : ℕ). f (pairs xs a m₂)) (sym (next (g .alive z))))
+        ∙ g .outcome w k rep (D2 .kept) f m₂ xs (omega arith) ls
+        ∙ ap (performO (limitsWith w) (openNames xs m₂ f)) (D2 .outcome ∙ ap (pushO (limitsWith w) (tvar (node 17 (c .fresh)))) (D1 .outcome))
+        ∙ ap (λ (a : ℕ). performO (limitsWith w) (openNames xs ((x, a) ∷ m) f) (pushO (limitsWith w) (tvar (node 17 a)) (freshO (limitsWith w) o)))
+        (sym (counter-is (c .halt) rep (entriesOf ls b (c .board .entries)) (sols k) (c .fresh)))
+
+    named-more : Named b c (suc n) b₃ c₃
+    unfolding namedRun namedWords
+    named-more = record {
+      run = g .run ∙ rw (p .0, d .0);
+      words = g .words ∙ rw (p .1, p .0, d .0);
+      stacked = g .stacked;
+      numbers = λ l. g .numbers (let z : c₁ .fresh ≤ 1000 = subst⁻¹ (λ (r : Run). r .fresh ≤ 1000) (d .0) (fresh-numbers c l) in rw (then-follows .1) z);
+      taken = g .taken ∙ then-follows .0 .0 ∙ first-follows .0 .0;
+      alive = λ z. first-follows .0 .1 (then-follows .0 .1 (g .alive z));
+      made = λ z. let i = g .made z in let j = next (g .alive z) in omega arith;
+      kept = λ k h. g .kept k (p .2 0 [] k [] (d .1 0 [] b k [] h .kept) .kept);
+      outcome = more;
+    }
+
+  pub named-turn : {b₃ : List ℕ} {c₃ : Run} {n : ℕ} → 0 < n → Named b₂ c₂ (n - 1) b₃ c₃ → Named b c n b₃ c₃
+  named-turn {b₃} {c₃} {n} l g = let e : suc (n - 1) ≡ n = omega arith in subst (λ (m : ℕ). Named b c m b₃ c₃) e (named-more g)

@@ -1,0 +1,24 @@
+-- What was done of a rule, and what is left of it. Assumes nothing: these are definitions.
+use mathlib.Core.Path.{_≡_}
+use mathlib.Core.List.{List}
+use Prim.Native.Nat.{ℕ, _≤_}
+use Rattle.spelling.specs.declared.Triple.{Triple}
+use Rattle.judgment.specs.Board.{Rule}
+use Rattle.judgment.specs.Chain.{performO}
+use Rattle.judgment.specs.Result.{limitsWith}
+use Rattle.board.specs.Board.{Stacked}
+use Rattle.operations.specs.declared.Run.{Run}
+use Rattle.operations.specs.State.{outcomeOf, WellFormed}
+
+-- what code that has no book asks of board and counters
+pub record Ready (b : List ℕ) (c : Run) : Type 0 where
+  pub board : Stacked b (c .board)
+  pub numbers : c .fresh ≤ 1000
+
+-- From p to q, whatever follows: performing q after is performing p before. It holds of a refused run whatever q is, since a refused outcome stays.
+pub record Turn {A : Type 0} (ls : List Triple) (b : List ℕ) (c : Run) (p : (A → Rule) → Rule) (b' : List ℕ) (r : Run) (q : (A → Rule) → Rule) : Type 0 where
+  pub ready : Ready b' r
+  pub taken : r .taken ≡ c .taken
+  pub kept : (k : List ℕ) → WellFormed b k c → WellFormed b' k r
+  pub outcome : (w : ℕ) (k rep : List ℕ) → WellFormed b k c → (f : A → Rule)
+      → performO (limitsWith w) (q f) (outcomeOf ls b' k rep r) ≡ performO (limitsWith w) (p f) (outcomeOf ls b k rep c)

@@ -1,0 +1,236 @@
+// Patterns, line by line (worklist.rs: `check_pattern`). Types are references; nodes are made only for a Sub.
+ghost use mathlib.Core.Path.{_≡_};
+ghost use mathlib.Core.List.{List};
+ghost use Prim.Native.Nat.{ℕ, _+_, _*_, _≤_, _<_};
+ghost use lib.ListN.{length};
+ghost use Rattle.spelling.specs.declared.Triple.{Triple};
+ghost use Rattle.sheet.specs.Plan.{triples};
+ghost use Rattle.references.specs.References.{typeOf};
+ghost use Rattle.patterns.specs.Turns.{Ready};
+ghost use Rattle.patterns.specs.Readings.{Arity, PartsAsk, Parting, Adds, NameAsk, Naming, LineAsk, Lining, CheckAsk, Checking};
+use constructors::instantiate_constructor_type;
+use judgment::TypeError;
+use nodes::wide;
+use operations::Run;
+use operations::push_sub;
+use operations::refuse;
+use references::TypeRef;
+use references::instance;
+use references::signature;
+use sheet::Found;
+use sheet::find_entry;
+use sheet::triple_at;
+use tables::insert;
+use tables::next;
+use tables::put;
+
+// Refuses, unless the counts agree.
+fn check_arity(c: Run, arity: usize, count: usize) -> Run
+    requires { ⌜ (arity ≤ 4096) × (count < 100000) ⌝ }
+    ensures { λ r. ⌜ ((ls : List Triple) (b : List ℕ) → Ready b c → Arity ls b c arity count r) ⌝ }
+{
+    if count == arity {
+        return c;
+    }
+    refuse(c, TypeError::ArityMismatch(arity as u32, count as u32))
+}
+
+// The run, how many nodes the constructor's opened type has, and how many parameters.
+pub struct Parts {
+    pub run: Run,
+    pub nodes: usize,
+    pub arity: usize,
+}
+
+// A pattern of the constructor whose type has n lines from line `first` on: its result must be below `want`, and then the counts must agree. l and r are scratch.
+fn pattern_parts(
+    board: &mut [u32],
+    c: Run,
+    s: &[u8],
+    first: usize,
+    n: usize,
+    count: usize,
+    want: TypeRef,
+    l: &mut [u32],
+    r: &mut [u32],
+) -> Parts
+    requires { ⌜ PartsAsk (now board) c (triples (now s)) first n count want (now l) (now r) ⌝ }
+    ensures { λ o. ⌜ Parting (now (board .entry)) c (triples (now (s .entry))) first n count (typeOf (triples (now (s .entry))) want) (now (board .exit)) o ⌝ }
+{
+    let ra = 2 * want.at;
+    let rn = want.count;
+    instance(r, s, want);
+    let o = instantiate_constructor_type(board, c, s, first, n, l);
+    let opened = o.run;
+    let at = o.at;
+    let nodes = o.nodes;
+    let e = signature(l, at, nodes);
+    let arity = e.arity;
+    let la = at + 2 * e.start;
+    let ln = nodes - e.start;
+    let pushed = push_sub(board, opened, l, la, ln, r, ra, rn);
+    let run = check_arity(pushed, arity, count);
+    Parts { run, nodes, arity }
+}
+
+// A frame for the parameters of r, if it has any: the answer is how many frames there are then.
+fn add_frame(w: &mut [usize], n: usize, r: TypeRef, arity: usize) -> usize
+    requires { ⌜ 6 * n + 6 ≤ length (now w) ⌝ }
+    ensures { λ d. ⌜ Adds (now (w .entry)) n r arity (now (w .exit)) d ⌝ }
+{
+    if 0 < arity {
+        put(w, n, 0, r);
+        return n + 1;
+    }
+    n
+}
+
+pub struct Named {
+    pub run: Run,
+    pub depth: usize,
+}
+
+// A constructor pattern: the name is looked up, and its parameters are to come.
+fn constructor_line(
+    board: &mut [u32],
+    c: Run,
+    s: &[u8],
+    name: u64,
+    count: u64,
+    want: TypeRef,
+    w: &mut [usize],
+    n: usize,
+    l: &mut [u32],
+    r: &mut [u32],
+) -> Named
+    requires { ⌜ NameAsk (now board) c (triples (now s)) name count want (now w) n (now l) (now r) ⌝ }
+    ensures { λ o. ⌜ Naming (now (board .entry)) c (triples (now (s .entry))) name count (typeOf (triples (now (s .entry))) want) (now (w .entry)) n (now (board .exit)) (now (w .exit)) o ⌝ }
+{
+    match find_entry(s, 1, name) {
+        Found::At { line, count: lines } => {
+            let base = wide(c.fresh);
+            let o = pattern_parts(board, c, s, line, lines, count as usize, want, l, r);
+            let run = o.run;
+            let nodes = o.nodes;
+            let arity = o.arity;
+            let body = TypeRef {
+                first: line,
+                lines,
+                at: lines - nodes,
+                count: nodes,
+                base,
+            };
+            let depth = add_frame(w, n, body, arity);
+            Named { run, depth }
+        }
+        Found::Nothing => Named {
+            run: refuse(c, TypeError::UnboundDataConstructor(name as u32)),
+            depth: n,
+        },
+    }
+}
+
+// The run, how many frames are left, and how many names are bound.
+pub struct Lined {
+    pub run: Run,
+    pub depth: usize,
+    pub bound: usize,
+}
+
+// The line p of a pattern, against the n frames in w, with the j bindings in v.
+fn pattern_line(
+    board: &mut [u32],
+    c: Run,
+    s: &[u8],
+    p: usize,
+    w: &mut [usize],
+    n: usize,
+    v: &mut [usize],
+    j: usize,
+    l: &mut [u32],
+    r: &mut [u32],
+) -> Lined
+    requires { ⌜ LineAsk (now board) c (triples (now s)) p (now w) n (now v) j (now l) (now r) ⌝ }
+    ensures { λ o. ⌜ Lining (now (board .entry)) c (triples (now (s .entry))) p (now (w .entry)) n (now (v .entry)) j (now (board .exit)) (now (w .exit)) (now (v .exit)) o ⌝ }
+{
+    let t = triple_at(s, p);
+    let name = t.value;
+    let count = t.count;
+    let u = next(s, w, n, l);
+    let want = u.want;
+    let d = u.depth;
+    if t.kind == 42 {
+        let bound = insert(v, j, name as usize, want);
+        return Lined {
+            run: c,
+            depth: d,
+            bound,
+        };
+    }
+    if t.kind == 43 {
+        let o = constructor_line(board, c, s, name, count, want, w, d, l, r);
+        let run = o.run;
+        return Lined {
+            run,
+            depth: o.depth,
+            bound: j,
+        };
+    }
+    Lined {
+        run: c,
+        depth: d,
+        bound: j,
+    }
+}
+
+// The run, and how many rows of the table are bindings.
+pub struct Checked {
+    pub run: Run,
+    pub bound: usize,
+}
+
+// The `lines` lines of a pattern from line `first` on, against the unknown u. The bindings stand in v; w, l and r are scratch.
+pub fn check_pattern(
+    board: &mut [u32],
+    c: Run,
+    s: &[u8],
+    first: usize,
+    lines: usize,
+    u: u32,
+    w: &mut [usize],
+    v: &mut [usize],
+    l: &mut [u32],
+    r: &mut [u32],
+) -> Checked
+    requires { ⌜ CheckAsk (now board) c (triples (now s)) first lines u (now w) (now v) (now l) (now r) ⌝ }
+    ensures { λ o. ⌜ Checking (now (board .entry)) c (triples (now (s .entry))) first lines u (now (board .exit)) (now (v .exit)) o ⌝ }
+{
+    let base = wide(u);
+    put(
+        w,
+        0,
+        0,
+        TypeRef {
+            first: 0,
+            lines: 0,
+            at: 0,
+            count: 1,
+            base,
+        },
+    );
+    let mut run = c;
+    let mut n: usize = 1;
+    let mut j: usize = 0;
+    let mut i: usize = 0;
+    while i < lines {
+        if n == 0 {
+            return Checked { run, bound: j };
+        }
+        let o = pattern_line(board, run, s, first + i, w, n, v, j, l, r);
+        run = o.run;
+        n = o.depth;
+        j = o.bound;
+        i += 1;
+    }
+    Checked { run, bound: j }
+}

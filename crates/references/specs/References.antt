@@ -1,0 +1,59 @@
+-- What a reference stands for: a part of an opened type, or the parameters that such a part still has. Assumes nothing: these are definitions.
+use mathlib.Core.Path.{_≡_}
+use mathlib.Core.Bool.{cond}
+use mathlib.Core.List.{List, [], _∷_}
+use Prim.Native.Nat.{ℕ, _+_, _-_, _≤_, _<_}
+use lib.Dec.{eqb, ltb}
+use lib.ListN.{length, take, drop}
+use Rattle.nodes.specs.Nodes.{Ty}
+use Rattle.nodes.specs.Lists.{All}
+use Rattle.spelling.specs.declared.Triple.{Triple}
+use Rattle.sheet.specs.Plan.{nodesOf, Narrow}
+use Rattle.judgment.specs.Types.{unknown, Renaming, rename, frontNames}
+use Rattle.core_types.specs.Names.{pairs}
+use Rattle.references.specs.Signatures.{params}
+use Rattle.references.specs.declared.TypeRef.{TypeRef}
+use Rattle.references.specs.declared.Split.{Split}
+
+-- the constructor's whole type, and the unknowns for its quantifiers
+abbrev pub wholeOf : List Triple → TypeRef → Ty
+wholeOf ls r = nodesOf (take (r .lines) (drop (r .first) ls))
+
+abbrev pub openedAt : Ty → ℕ → Renaming
+openedAt t a = pairs (frontNames t) a []
+
+unfoldable pub typeOf : List Triple → TypeRef → Ty
+typeOf ls r =
+    cond (eqb (r .lines) 0) (unknown (r .base)) (rename (openedAt (wholeOf ls r) (r .base)) (take (r .count) (drop (r .at) (wholeOf ls r))))
+
+-- a reference within a type on the sheet, behind its quantifiers; or to an unknown
+pub record Good (ls : List Triple) (r : TypeRef) : Type 0 where
+  pub stands : r .first + r .lines ≤ length ls
+  pub narrow : All Narrow (take (r .lines) (drop (r .first) ls))
+  pub few : r .lines ≤ 4096
+  pub within : 0 < r .lines → r .at + r .count ≤ r .lines
+  pub past : length (frontNames (wholeOf ls r)) ≤ r .at
+  pub low : r .base ≤ 1000
+  pub alone : r .lines ≡ 0 → (r .at ≡ 0) × (r .count ≡ 1)
+
+-- ---- a frame: a reference that stands for the parameters which its type still has, one or more; an unknown stands for itself
+unfoldable pub pendingOf : List Triple → TypeRef → List Ty
+pendingOf ls r = cond (eqb (r .lines) 0) (typeOf ls r ∷ []) (params (r .count) (typeOf ls r))
+
+pub record Frame (ls : List Triple) (r : TypeRef) : Type 0 where
+  pub good : Good ls r
+  pub some : 0 < length (pendingOf ls r)
+
+-- the first parameter, of m nodes, and the type after it
+abbrev pub parameterOf : TypeRef → ℕ → TypeRef
+parameterOf r m = record { first = r .first; lines = r .lines; at = r .at + 1; count = m; base = r .base }
+
+abbrev pub othersOf : TypeRef → ℕ → TypeRef
+othersOf r m = record { first = r .first; lines = r .lines; at = r .at + 1 + m; count = r .count - 1 - m; base = r .base }
+
+pub record Halved (ls : List Triple) (r : TypeRef) (h : Split) : Type 0 where
+  pub short : 1 + h .count ≤ r .count
+  pub first : Good ls (parameterOf r (h .count))
+  pub others : Good ls (othersOf r (h .count))
+  pub pending : pendingOf ls r ≡ typeOf ls (parameterOf r (h .count)) ∷ pendingOf ls (othersOf r (h .count))
+  pub more : h .more ≡ ltb 0 (length (pendingOf ls (othersOf r (h .count))))

@@ -1,0 +1,34 @@
+use borrow.Author.Needs.{needs}
+use mathlib.Core.Path.{_≡_, _∙_}
+use mathlib.Core.List.{List, _++_}
+use Prim.Native.Nat.{ℕ, _+_, _*_, _-_, _≤_, _<_}
+use native.Mathlib.Omega.{arith}
+use Rattle.nodes.specs.Nodes.{Ty}
+use Rattle.spelling.specs.declared.Triple.{Triple}
+use Rattle.judgment.specs.Rules.{insert}
+use Rattle.tables.specs.Rows.{bindingsAt}
+use Rattle.tables.proofs.Tables.{place-start, place-turn}
+use Rattle.tables.proofs.place.Statement.{statement}
+use Rattle.tables.proofs.place.Tie as tie
+
+abbrev Inv-loop : tie.InvT-loop
+Inv-loop w n name j₀ j = (j ≤ n) × ((ls : List Triple) (t : Ty) → insert name t (bindingsAt ls w 0 n) ≡ bindingsAt ls w 0 j ++ insert name t (bindingsAt ls w j (n - j)))
+
+abbrev μ-loop : tie.MeasureT-loop
+μ-loop w n name j₀ j = n - j
+
+loop-holds : tie.Need-loop-holds Inv-loop μ-loop
+loop-holds c = (omega arith, λ ls t. place-start ls _ _ _ t)
+
+returns : tie.Need-returns Inv-loop μ-loop
+returns c = (search needs, λ h. c .if1 .taken, c .before .before .before .loop .inv .1)
+
+loop-again : tie.Need-loop-again Inv-loop μ-loop
+loop-again c = (search needs, λ ls t. c .before .before .before .loop .inv .1 ls t ∙ place-turn ls _ _ _ _ t (c .before .before .loop-test .taken) (let z = c .if1 .left in omega arith))
+
+returns-2 : tie.Need-returns-2 Inv-loop μ-loop
+returns-2 c = (search needs, λ h. absurd (let z = c .loop-test .left in omega arith), c .before .loop .inv .1)
+
+pub place-spec : {M : Type 1} → statement M
+place-spec =
+    tie.close (tie.spec Inv-loop μ-loop loop-holds (λ c. search needs) (λ c. search needs) (λ c. search needs) returns (λ c. search needs) (λ c. search needs) loop-again returns-2)
