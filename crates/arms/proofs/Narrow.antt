@@ -21,32 +21,16 @@ use Rattle.grammar.specs.Grammar.{Item, part as item, entries, goal, ok, due, a
 use Rattle.sheet.specs.Plan.{Narrow}
 use Rattle.sheet.specs.Form.{Forms, IsPart}
 use Rattle.sheet.proofs.Forming.{due-following}
+use Rattle.sheet.proofs.TypeLines.{Only, only-append, only-replicate, sort-is, value-ok, begun-row, name-narrow}
 use Rattle.judgment.specs.Terms.{Term, part, afterParts}
 use Rattle.judgment.proofs.WholeTerms.{arms-whole}
 use Rattle.arms.specs.Arms.{NarrowArms}
-
--- only patterns are due
-abbrev Patterns : List Item → Type 0
-Patterns [] = Unit {0}
-Patterns (item x ∷ ahead) = (x ≡ aPattern) × Patterns ahead
-Patterns (entries k n ∷ ahead) = ⊥
-Patterns (goal ∷ ahead) = ⊥
-
-patterns-append : (a b : List Item) → Patterns a → Patterns b → Patterns (a ++ b)
-patterns-append [] b p q = q
-patterns-append (item x ∷ a) b p q = (p .0, patterns-append a b (p .1) q)
-patterns-append (entries k n ∷ a) b p q = absurd p
-patterns-append (goal ∷ a) b p q = absurd p
-
-patterns-replicate : (n : ℕ) → Patterns (replicate n (item aPattern))
-patterns-replicate zero = tt
-patterns-replicate (suc n) = (refl, patterns-replicate n)
 
 -- a pattern's row: patterns follow or nothing, and its value is a name or 0
 abbrev patternRow : ℕ → Row → Bool
 patternRow k r = not (eqb (r .sort) aPattern) || ((eqb (r .types) 0 && eqb (r .terms) 0) && ((eqb (r .each) nothing || eqb (r .each) aPattern) && not (eqb (r .value) number)))
 
-row-patterns : (ty te e c : ℕ) → ((eqb ty 0 && eqb te 0) && (eqb e nothing || eqb e aPattern)) ≡ true → Patterns (following ty te e c)
+row-patterns : (ty te e c : ℕ) → ((eqb ty 0 && eqb te 0) && (eqb e nothing || eqb e aPattern)) ≡ true → Only aPattern (following ty te e c)
 unfolding following
 row-patterns ty te e c h =
     let a = and-eq-true-iff (eqb ty 0 && eqb te 0) (eqb e nothing || eqb e aPattern) .0 h in
@@ -55,44 +39,25 @@ row-patterns ty te e c h =
     let y = eqb-true te 0 (b .1) in
     rw (x, y) (by (eqb e nothing) refl (a .1))
   where
-    by : (q : Bool) → eqb e nothing ≡ q → (q || eqb e aPattern) ≡ true → Patterns (repeated e c)
+    by : (q : Bool) → eqb e nothing ≡ q → (q || eqb e aPattern) ≡ true → Only aPattern (repeated e c)
     by true q z = let w = eqb-true e nothing q in rw w tt
-    by false q z = let w = eqb-true e aPattern z in rw w (patterns-replicate c)
-
-name-narrow : (rule v : ℕ) → not (eqb rule number) ≡ true → valueOk rule v ≡ true → v < 4294967296
-name-narrow rule v e = go (eqb rule 0) (eqb rule number) e
-  where
-    go : (b c : Bool) → not c ≡ true → cond b (eqb v 0) (cond c true (leb 1 v && leb v (cond (eqb rule 1) 9999 6))) ≡ true → v < 4294967296
-    go true c e q = let z = eqb-true v 0 q in omega arith
-    go false true e q = absurd (let z : _≡_ {A = ℕ} 0 1 = cc in omega arith)
-    go false false e q =
-        let m = leb-true v (cond (eqb rule 1) 9999 6) (and-eq-true-iff (leb 1 v) _ .0 q .1) in
-        let most : cond (eqb rule 1) 9999 6 ≤ 9999 = cond-ind (λ (x : ℕ). x ≤ 9999) (eqb rule 1) (λ _. omega arith) (λ _. omega arith) in
-        omega arith
+    by false q z = let w = eqb-true e aPattern z in rw w (only-replicate aPattern c)
 
 -- a line that begins a pattern
-line-pattern : (t : Triple) → ok (item aPattern) (Spelt t) ≡ true → Patterns (due (item aPattern) (Spelt t)) × Narrow t
-unfolding table begins
+line-pattern : (t : Triple) → ok (item aPattern) (Spelt t) ≡ true → Only aPattern (due (item aPattern) (Spelt t)) × Narrow t
+unfolding table
 line-pattern t e =
     let d = due-following aPattern t e in
-    let b = and-eq-true-iff (eqb (rowOf (t .kind) .sort) aPattern) _ .0 (d .0) in
-    let s = eqb-true (rowOf (t .kind) .sort) aPattern (b .0) in
-    let v = and-eq-true-iff (valueOk (rowOf (t .kind) .value) (t .value)) _ .0 (b .1) .0 in
-    go d s v (listed-passes patternRow (t .kind) refl)
-  where
-    go : (begins aPattern t ≡ true) × (due (item aPattern) (Spelt t) ≡ following (rowOf (t .kind) .types) (rowOf (t .kind) .terms) (rowOf (t .kind) .each) (t .count)) → rowOf (t .kind) .sort ≡ aPattern → valueOk (rowOf (t .kind) .value) (t .value) ≡ true
-        → (rowOf (t .kind) ≡ unlisted) ⊎ (patternRow (t .kind) (rowOf (t .kind)) ≡ true) → Patterns (due (item aPattern) (Spelt t)) × Narrow t
-    go d s v (inl u) = absurd (let z : _≡_ {A = ℕ} nothing aPattern = sym (ap (λ (r : Row). r .sort) u) ∙ s in omega arith)
-    go d s v (inr h) =
-        let r : Row = rowOf (t .kind) in
-        let k : ((eqb (r .types) 0 && eqb (r .terms) 0) && ((eqb (r .each) nothing || eqb (r .each) aPattern) && not (eqb (r .value) number))) ≡ true = rw s at h in
-        let a = and-eq-true-iff (eqb (r .types) 0 && eqb (r .terms) 0) _ .0 k in
-        let c = and-eq-true-iff (eqb (r .each) nothing || eqb (r .each) aPattern) _ .0 (a .1) in (
-          subst⁻¹ Patterns (d .1) (row-patterns (r .types) (r .terms) (r .each) (t .count) (and-eq-true-iff (eqb (r .types) 0 && eqb (r .terms) 0) _ .1 (a .0, c .0))),
-          name-narrow (r .value) (t .value) (c .1) v,
-        )
+    let r : Row = rowOf (t .kind) in
+    let k : ((eqb (r .types) 0 && eqb (r .terms) 0) && ((eqb (r .each) nothing || eqb (r .each) aPattern) && not (eqb (r .value) number))) ≡ true =
+    rw (sort-is aPattern t (d .0)) at (begun-row aPattern t (d .0) (omega arith) patternRow refl) in
+    let a = and-eq-true-iff (eqb (r .types) 0 && eqb (r .terms) 0) _ .0 k in
+    let c = and-eq-true-iff (eqb (r .each) nothing || eqb (r .each) aPattern) _ .0 (a .1) in (
+      subst⁻¹ (Only aPattern) (d .1) (row-patterns (r .types) (r .terms) (r .each) (t .count) (and-eq-true-iff (eqb (r .types) 0 && eqb (r .terms) 0) _ .1 (a .0, c .0))),
+      name-narrow (r .value) (t .value) (c .1) (value-ok aPattern t (d .0)),
+    )
 
-patterns-all : (ts : List Triple) (ahead : List Item) → Forms ts ahead → Patterns ahead → All Narrow ts
+patterns-all : (ts : List Triple) (ahead : List Item) → Forms ts ahead → Only aPattern ahead → All Narrow ts
 patterns-all [] ahead f p = tt
 patterns-all (t ∷ ts) [] f p = absurd f
 patterns-all (t ∷ ts) (entries k n ∷ ahead) f p = absurd p
@@ -100,7 +65,7 @@ patterns-all (t ∷ ts) (goal ∷ ahead) f p = absurd p
 patterns-all (t ∷ ts) (item x ∷ ahead) f p =
     let g : (ok (item aPattern) (Spelt t) ≡ true) × Forms ts (due (item aPattern) (Spelt t) ++ ahead) = rw (p .0) at f in
     let l = line-pattern t (g .0) in
-    (l .1, patterns-all ts (due (item aPattern) (Spelt t) ++ ahead) (g .1) (patterns-append (due (item aPattern) (Spelt t)) ahead (l .0) (p .1)))
+    (l .1, patterns-all ts (due (item aPattern) (Spelt t) ++ ahead) (g .1) (only-append aPattern (due (item aPattern) (Spelt t)) ahead (l .0) (p .1)))
 
 pub pattern-narrow : (ts : List Triple) → IsPart aPattern ts → All Narrow ts
 pattern-narrow ts f = patterns-all ts (item aPattern ∷ []) f (refl, tt)

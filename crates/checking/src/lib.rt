@@ -22,7 +22,15 @@ use subtyping::FORALL;
 use subtyping::shape;
 
 // An Arrow: a Lambda takes its parts, any other term is synthesized.
-fn check_arrow(board: &mut [u32], c: Run, s: &[u8], line: u32, t: &[u32], tn: usize, out: &mut [u32]) -> Run
+fn check_arrow(
+    board: &mut [u32],
+    c: Run,
+    s: &[u8],
+    line: u32,
+    t: &[u32],
+    tn: usize,
+    out: &mut [u32],
+) -> Run
     requires { ⌜ CheckAsk (now board) c (now s) line (now t) tn (now out) × (0 < tn) ⌝ }
     ensures { λ r. ⌜ ((w : ℕ) (E : Env) (k rep : List ℕ) → WellFormed (now (board .entry)) k c → Does w (triples (now (s .entry))) (now (board .entry)) k rep c (checkArrow E (termAt (triples (now (s .entry))) line) (nodesAt (now (t .entry)) 0 tn) (first (nodesAt (now (t .entry)) 2 (tn - 1))) (rest (nodesAt (now (t .entry)) 2 (tn - 1))) (lambdaOf (termAt (triples (now (s .entry))) line))) (now (board .exit)) k rep r) ⌝ }
 {
@@ -43,7 +51,15 @@ fn check_arrow(board: &mut [u32], c: Run, s: &[u8], line: u32, t: &[u32], tn: us
 }
 
 // Chk of the term that starts at a line.
-pub fn solve_checking(board: &mut [u32], c: Run, s: &[u8], line: u32, t: &mut [u32], tn: usize, out: &mut [u32]) -> Run
+pub fn solve_checking(
+    board: &mut [u32],
+    c: Run,
+    s: &[u8],
+    line: u32,
+    t: &mut [u32],
+    tn: usize,
+    out: &mut [u32],
+) -> Run
     requires { ⌜ CheckAsk (now board) c (now s) line (now t) tn (now out) ⌝ }
     ensures { λ r. ⌜ ((w : ℕ) (E : Env) (k rep : List ℕ) → WellFormed (now (board .entry)) k c → Does w (triples (now (s .entry))) (now (board .entry)) k rep c (checkBy E (termAt (triples (now (s .entry))) line) (nodesAt (now (t .entry)) 0 tn) (view (nodesAt (now (t .entry)) 0 tn))) (now (board .exit)) k rep r) ⌝ }
 {

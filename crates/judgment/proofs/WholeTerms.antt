@@ -47,6 +47,11 @@ after t ls h k e =
     subst (λ (j : ℕ). Forms ls (following (rowOf j .types) (rowOf j .terms) (rowOf j .each) (t .count))) e
     (subst (Forms ls) (due-following aTerm t (h .0) .1) (subst (Forms ls) (append-nil _) (h .1)))
 
+-- the type and the body of a Lambda
+pub lambda-parts : (t : Triple) (ls : Term) → TermOK (t ∷ ls) → t .kind ≡ 23 → IsPart aType (part 0 ls) × TermOK (part 1 ls)
+unfolding rowOf find table following
+lambda-parts t ls h e = two ls aType aTerm [] (after t ls h 23 e)
+
 -- ---- what is taken out of a term
 -- an Intrinsic may have no argument; its rule takes the first only where the count is 1
 abbrev pub TermViewWhole : TermView → Type 0
@@ -69,7 +74,7 @@ term-view-whole (t ∷ ls) h =
     let W : TermView → Type 0 = TermViewWhole in
     cond-ind W (eqb (t .kind) 21) (λ _. tt)
     (λ _. cond-ind W (eqb (t .kind) 22) (λ _. tt)
-    (λ _. cond-ind W (eqb (t .kind) 23) (λ e. (let p = two ls aType aTerm [] (from 23 e) in (type-whole (part 0 ls) (p .0), p .1)))
+    (λ _. cond-ind W (eqb (t .kind) 23) (λ e. (let p = lambda-parts t ls h (eqb-true (t .kind) 23 e) in (type-whole (part 0 ls) (p .0), p .1)))
     (λ _. cond-ind W (eqb (t .kind) 24) (λ e. two ls aTerm aTerm [] (from 24 e))
     (λ _. cond-ind W (eqb (t .kind) 25) (λ e. front ls aTerm [] (from 25 e) .0)
     (λ _. cond-ind W (eqb (t .kind) 26) (λ _. tt)
@@ -90,5 +95,5 @@ unfolding lambdaOf rowOf find table following
 lambda-whole [] h = tt
 lambda-whole (t ∷ ls) h =
     cond-ind LambdaWhole (eqb (t .kind) 23)
-    (λ e. (let p = two ls aType aTerm [] (after t ls h 23 (eqb-true (t .kind) 23 e)) in (type-whole (part 0 ls) (p .0), p .1)))
+    (λ e. (let p = lambda-parts t ls h (eqb-true (t .kind) 23 e) in (type-whole (part 0 ls) (p .0), p .1)))
     (λ _. tt)

@@ -22,22 +22,22 @@ use Rattle.sheet.specs.Plan.{lineNode, nodesOf, Narrow}
 use Rattle.sheet.specs.Form.{Forms, IsPart}
 use Rattle.sheet.proofs.Forming.{due-following}
 
--- only types are due
-abbrev Types : List Item → Type 0
-Types [] = Unit {0}
-Types (part x ∷ ahead) = (x ≡ aType) × Types ahead
-Types (entries k n ∷ ahead) = ⊥
-Types (goal ∷ ahead) = ⊥
+-- only parts of sort x are due
+abbrev pub Only : ℕ → List Item → Type 0
+Only x [] = Unit {0}
+Only x (part y ∷ ahead) = (y ≡ x) × Only x ahead
+Only x (entries k n ∷ ahead) = ⊥
+Only x (goal ∷ ahead) = ⊥
 
-types-append : (a b : List Item) → Types a → Types b → Types (a ++ b)
-types-append [] b p q = q
-types-append (part x ∷ a) b p q = (p .0, types-append a b (p .1) q)
-types-append (entries k n ∷ a) b p q = absurd p
-types-append (goal ∷ a) b p q = absurd p
+pub only-append : (x : ℕ) (a b : List Item) → Only x a → Only x b → Only x (a ++ b)
+only-append x [] b p q = q
+only-append x (part y ∷ a) b p q = (p .0, only-append x a b (p .1) q)
+only-append x (entries k n ∷ a) b p q = absurd p
+only-append x (goal ∷ a) b p q = absurd p
 
-types-replicate : (n : ℕ) → Types (replicate n (part aType))
-types-replicate zero = tt
-types-replicate (suc n) = (refl, types-replicate n)
+pub only-replicate : (x n : ℕ) → Only x (replicate n (part x))
+only-replicate x zero = tt
+only-replicate x (suc n) = (refl, only-replicate x n)
 
 -- a type's row: as many types follow as the node says, and nothing else
 abbrev typeRow : ℕ → Row → Bool
@@ -48,7 +48,7 @@ typeRow k r =
 -- of such a row, with the count c and the value v
 abbrev Fits : ℕ → Row → ℕ → ℕ → Type 0
 Fits k r c v =
-    Types (following (r .types) (r .terms) (r .each) c) × (length (following (r .types) (r .terms) (r .each) c) ≡ nodeParts (node k (cond (eqb k 16) c v)))
+    Only aType (following (r .types) (r .terms) (r .each) c) × (length (following (r .types) (r .terms) (r .each) c) ≡ nodeParts (node k (cond (eqb k 16) c v)))
 
 other-kind : (k v : ℕ) → eqb k 16 ≡ false → nodeParts (node k 0) ≡ nodeParts (node k v)
 other-kind k v e = rw e
@@ -69,45 +69,45 @@ row-fits k c v r e s = go (eqb k 16) refl (rest .0) (rest .1)
         let ty = eqb-true (r .types) 0 (p .0) in
         let ea = eqb-true (r .each) aType (p .1) in
         let kk = eqb-true k 16 q in
-        (rw (ty, te, ea) (types-replicate c), rw (ty, te, ea, kk) (length-replicate c (part aType)))
+        (rw (ty, te, ea) (only-replicate aType c), rw (ty, te, ea, kk) (length-replicate c (part aType)))
     go false q te h =
         let p = and-eq-true-iff (eqb (r .each) nothing) (eqb (r .types) (nodeParts (node k 0))) .0 h in
         let ea = eqb-true (r .each) nothing (p .0) in
         let ty = eqb-true (r .types) (nodeParts (node k 0)) (p .1) in (
-          rw (te, ea) (types-append (replicate (r .types) (part aType)) [] (types-replicate (r .types)) tt),
+          rw (te, ea) (only-append aType (replicate (r .types) (part aType)) [] (only-replicate aType (r .types)) tt),
           rw (te, ea) (ap length (append-nil (replicate (r .types) (part aType))) ∙ length-replicate (r .types) (part aType) ∙ ty ∙ other-kind k (cond (eqb k 16) c v) q),
         )
 
 -- ---- a line that begins a part of sort x
 module _ (x : ℕ) (t : Triple) (h : begins x t ≡ true) where
-  sort-is : rowOf (t .kind) .sort ≡ x
+  pub sort-is : rowOf (t .kind) .sort ≡ x
   unfolding begins
   sort-is = eqb-true (rowOf (t .kind) .sort) x (and-eq-true-iff (eqb (rowOf (t .kind) .sort) x) _ .0 h .0)
 
-  value-ok : valueOk (rowOf (t .kind) .value) (t .value) ≡ true
+  pub value-ok : valueOk (rowOf (t .kind) .value) (t .value) ≡ true
   unfolding begins
   value-ok = and-eq-true-iff (valueOk (rowOf (t .kind) .value) (t .value)) _ .0 (and-eq-true-iff (eqb (rowOf (t .kind) .sort) x) _ .0 h .1) .0
 
   -- its kind is listed
-  begun-row : 0 < x → (p : ℕ → Row → Bool) → everyListed p table ≡ true → p (t .kind) (rowOf (t .kind)) ≡ true
+  pub begun-row : 0 < x → (p : ℕ → Row → Bool) → everyListed p table ≡ true → p (t .kind) (rowOf (t .kind)) ≡ true
   begun-row l p e = go (listed-passes p (t .kind) e)
     where
       go : (rowOf (t .kind) ≡ unlisted) ⊎ (p (t .kind) (rowOf (t .kind)) ≡ true) → p (t .kind) (rowOf (t .kind)) ≡ true
       go (inl u) = absurd (let z : _≡_ {A = ℕ} nothing x = sym (ap (λ (r : Row). r .sort) u) ∙ sort-is in omega arith)
       go (inr h) = h
 
-type-line : (t : Triple) → ok (part aType) (Spelt t) ≡ true → Types (due (part aType) (Spelt t)) × (length (due (part aType) (Spelt t)) ≡ nodeParts (lineNode t))
+type-line : (t : Triple) → ok (part aType) (Spelt t) ≡ true → Only aType (due (part aType) (Spelt t)) × (length (due (part aType) (Spelt t)) ≡ nodeParts (lineNode t))
 unfolding table
 type-line t e =
     let d = due-following aType t e in
     let f : Fits (t .kind) (rowOf (t .kind)) (t .count) (t .value) = row-fits (t .kind) (t .count) (t .value) (rowOf (t .kind)) (begun-row aType t (d .0) (omega arith) typeRow refl) (sort-is aType t (d .0)) in
-    (subst⁻¹ Types (d .1) (f .0), ap length (d .1) ∙ f .1)
+    (subst⁻¹ (Only aType) (d .1) (f .0), ap length (d .1) ∙ f .1)
 
 -- ---- the values of a type's lines are names
 abbrev namesOnly : ℕ → Row → Bool
 namesOnly k r = not (eqb (r .sort) aType) || not (eqb (r .value) number)
 
-name-narrow : (rule v : ℕ) → not (eqb rule number) ≡ true → valueOk rule v ≡ true → v < 4294967296
+pub name-narrow : (rule v : ℕ) → not (eqb rule number) ≡ true → valueOk rule v ≡ true → v < 4294967296
 name-narrow rule v e = go (eqb rule 0) (eqb rule number) e
   where
     go : (b c : Bool) → not c ≡ true → cond b (eqb v 0) (cond c true (leb 1 v && leb v (cond (eqb rule 1) 9999 6))) ≡ true → v < 4294967296
@@ -126,7 +126,7 @@ line-narrow t e =
     name-narrow (rowOf (t .kind) .value) (t .value) (rw (sort-is aType t h) at n) (value-ok aType t h)
 
 -- ---- lines of types
-types-all : (ts : List Triple) (ahead : List Item) → Forms ts ahead → Types ahead → Whole nodeParts (nodesOf ts) (length ahead) × All Narrow ts
+types-all : (ts : List Triple) (ahead : List Item) → Forms ts ahead → Only aType ahead → Whole nodeParts (nodesOf ts) (length ahead) × All Narrow ts
 types-all [] [] f ty = (refl, tt)
 types-all [] (x ∷ ahead) f ty = absurd f
 types-all (t ∷ ts) [] f ty = absurd f
@@ -135,7 +135,7 @@ types-all (t ∷ ts) (goal ∷ ahead) f ty = absurd ty
 types-all (t ∷ ts) (part x ∷ ahead) f ty =
     let g : (ok (part aType) (Spelt t) ≡ true) × Forms ts (due (part aType) (Spelt t) ++ ahead) = rw (ty .0) at f in
     let l = type-line t (g .0) in
-    let all = types-all ts (due (part aType) (Spelt t) ++ ahead) (g .1) (types-append (due (part aType) (Spelt t)) ahead (l .0) (ty .1)) in
+    let all = types-all ts (due (part aType) (Spelt t) ++ ahead) (g .1) (only-append aType (due (part aType) (Spelt t)) ahead (l .0) (ty .1)) in
     (rw (length-append (due (part aType) (Spelt t)) ahead, l .1) at (all .0), (line-narrow t (g .0), all .1))
 
 pub type-whole : (ts : List Triple) → IsPart aType ts → Whole nodeParts (nodesOf ts) 1

@@ -134,3 +134,11 @@ module _ (t : List ℕ) (at n : ℕ) where
 
   pub body-more : 0 < n → n ≢ 1 → null body ≡ false
   body-more h f = ap null (nodesAt-cons t (at + 2) (n - 1) (omega arith))
+
+  -- a shape other than the last is that of some node
+  pub shaped-some : shapeOf (view T) ≢ 5 → 0 < n
+  shaped-some f = by n refl
+    where
+      by : (m : ℕ) → n ≡ m → 0 < n
+      by zero e = absurd (f (sym (no-shape e)))
+      by (suc m) e = omega arith

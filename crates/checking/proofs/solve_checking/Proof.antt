@@ -1,94 +1,74 @@
+use mathlib.Core.Path.{_≡_, refl, sym, ap, ap₂, _∙_}
+use mathlib.Core.List.{List}
+use Prim.Native.Nat.{ℕ, _+_, _*_, _-_, _≤_, _<_}
+use native.Mathlib.Omega.{arith}
+use denote.Ref.{now}
+use lib.ListN.{length, getD}
+use Rattle.nodes.specs.Nodes.{Ty, nodesAt}
+use Rattle.judgment.specs.Types.{View, view}
+use Rattle.judgment.specs.Rules.{Env, checkBy}
+use Rattle.board.specs.Board.{termAt}
+use Rattle.sheet.specs.Plan.{triples}
+use Rattle.operations.specs.State.{WellFormed}
+use Rattle.operations.proofs.Then.{does-as}
+use Rattle.subtyping.specs.Subtyping.{shapeOf}
+use Rattle.subtyping.proofs.Shapes.{arrow-view, forall-view, shaped-some}
+use Rattle.checking.proofs.Checks.{check-other}
 use borrow.Author.Needs.{needs}
 use Rattle.checking.proofs.solve_checking.Statement.{statement}
 use Rattle.checking.proofs.solve_checking.Tie as tie
-use Rattle.checking.proofs.solve_checking.Reads as reads
-use Rattle.checking.proofs.solve_checking.Lts as lts
-use Rattle.checking.proofs.check_arrow.Reads as check-arrow-reads
-use Rattle.inference.proofs.check_forall.Reads as check-forall-reads
-use Rattle.inference.proofs.synthesize.Reads as synthesize-reads
-use Rattle.subtyping.proofs.shape.Reads as shape-reads
 
--- src/lib.rt:50:9
 shape-requires : tie.Need-shape-requires
-shape-requires c κs = search needs
+shape-requires c κs = let x = c .before .before .before .before .before .pre .within in omega arith
 
--- src/lib.rt:52:9
 check-arrow-requires : tie.Need-check-arrow-requires
-check-arrow-requires c κs = ?
+check-arrow-requires c κs = (c .before .before .before .before .before .before .before .before .before .before .pre, shaped-some (now (c .before .before .before .before .before .before .before .before .before .before .args .t)) 0 (c .before .before .before .before .before .before .before .before .before .before .args .tn) (λ z. (let y = sym (c .before .before .before .before .shape .ensures) ∙ c .before .before .before .if1 .taken in omega arith)))
 
--- src/lib.rt:52:9
-same-length : tie.Need-same-length
-same-length c = search needs
-
--- src/lib.rt:52:9
-same-length-2 : tie.Need-same-length-2
-same-length-2 c = search needs
-
--- src/lib.rt:52:9
-same-length-3 : tie.Need-same-length-3
-same-length-3 c = search needs
-
--- src/lib.rt:52:9
 returns : tie.Need-returns
-returns c = ?
+returns c =
+    λ (w : ℕ) (E : Env) (k rep : List ℕ) (f : WellFormed (now (c .before .before .before .before .before .before .before .before .before .before .before .before .before .before .before .args .board)) k (c .before .before .before .before .before .before .before .before .before .before .before .before .before .before .before .args .c)).
+    let a = c .before .before .before .before .before .before .before .before .before .before .before .before .before .before .before .args in
+    let P = now (a .t) in
+    let T : Ty = nodesAt P 0 (a .tn) in
+    let ls = triples (now (a .s)) in
+    let e = arrow-view P 0 (a .tn) (sym (c .before .before .before .before .before .before .before .before .before .shape .ensures) ∙ c .before .before .before .before .before .before .before .before .if1 .taken) in
+    does-as (λ _. ap (checkBy E (termAt ls (a .line)) T) (sym e)) (c .before .before .before .before .check-arrow .ensures w E k rep f)
 
--- src/lib.rt:55:20
 slice-read-name : tie.Need-slice-read-name
-slice-read-name c = ?
+slice-read-name c = let s = shaped-some (now (c .before .before .before .before .before .before .before .before .before .args .t)) 0 (c .before .before .before .before .before .before .before .before .before .args .tn) (λ z. (let y = sym (c .before .before .before .shape .ensures) ∙ c .before .if2 .taken in omega arith)) in let x = c .before .before .before .before .before .before .before .before .before .pre .within in omega arith
 
--- src/lib.rt:56:17
 sub-n : tie.Need-sub-n
-sub-n c = ?
+sub-n c = shaped-some (now (c .before .before .before .before .before .before .before .before .before .args .t)) 0 (c .before .before .before .before .before .before .before .before .before .args .tn) (λ z. (let y = sym (c .before .before .before .shape .ensures) ∙ c .before .if2 .taken in omega arith))
 
--- src/lib.rt:57:9
 check-forall-requires : tie.Need-check-forall-requires
-check-forall-requires c κs = ?
+check-forall-requires c κs =
+    let s = shaped-some (now (c .before .before .before .before .before .before .before .before .before .before .before .args .t)) 0 (c .before .before .before .before .before .before .before .before .before .before .before .args .tn) (λ z. (let y = sym (c .before .before .before .before .before .shape .ensures) ∙ c .before .before .before .if2 .taken in omega arith)) in
+    let x = c .before .before .before .before .before .before .before .before .before .before .before .pre .within in
+    let y = c .before .before .before .before .before .before .before .before .before .before .before .pre .short in
+    (c .before .before .before .before .before .before .before .before .before .before .before .pre .board, omega arith, omega arith)
 
--- src/lib.rt:57:9
-same-length-4 : tie.Need-same-length-4
-same-length-4 c = search needs
-
--- src/lib.rt:57:9
-same-length-5 : tie.Need-same-length-5
-same-length-5 c = search needs
-
--- src/lib.rt:57:9
 returns-2 : tie.Need-returns-2
-returns-2 c = ?
+returns-2 c =
+    λ (w : ℕ) (E : Env) (k rep : List ℕ) (f : WellFormed (now (c .before .before .before .before .before .before .before .before .before .before .before .before .before .before .before .before .args .board)) k (c .before .before .before .before .before .before .before .before .before .before .before .before .before .before .before .before .args .c)).
+    let a = c .before .before .before .before .before .before .before .before .before .before .before .before .before .before .before .before .args in
+    let P = now (a .t) in
+    let T : Ty = nodesAt P 0 (a .tn) in
+    let ls = triples (now (a .s)) in
+    let e = forall-view P 0 (a .tn) (sym (c .before .before .before .before .before .before .before .before .before .before .shape .ensures) ∙ c .before .before .before .before .before .before .before .before .if2 .taken) in
+    does-as (λ _. ap (checkBy E (termAt ls (a .line)) T) (sym e)) (c .before .before .before .before .check-forall .ensures .1 E T w ls k rep f)
 
--- src/lib.rt:59:5
 synthesize-requires : tie.Need-synthesize-requires
-synthesize-requires c κs = search needs
+synthesize-requires c κs = (c .before .before .before .before .before .before .before .before .before .before .pre .board, c .before .before .before .before .before .before .before .before .before .before .pre .within)
 
--- src/lib.rt:46:1
-same-length-6 : tie.Need-same-length-6
-same-length-6 c = search needs
-
--- src/lib.rt:46:1
-same-length-7 : tie.Need-same-length-7
-same-length-7 c = search needs
-
--- src/lib.rt:46:1
 returns-3 : tie.Need-returns-3
-returns-3 c = ?
+returns-3 c =
+    λ (w : ℕ) (E : Env) (k rep : List ℕ) (f : WellFormed (now (c .before .before .before .before .before .before .before .before .before .before .before .before .before .args .board)) k (c .before .before .before .before .before .before .before .before .before .before .before .before .before .args .c)).
+    let a = c .before .before .before .before .before .before .before .before .before .before .before .before .before .args in
+    let P = now (a .t) in
+    let T : Ty = nodesAt P 0 (a .tn) in
+    let ls = triples (now (a .s)) in
+    does-as (λ _. check-other E (termAt ls (a .line)) T (view T) (λ z. c .before .before .before .before .before .before .if1 .left (c .before .before .before .before .before .before .before .shape .ensures ∙ z)) (λ z. c .before .before .before .before .before .if2 .left (c .before .before .before .before .before .before .before .shape .ensures ∙ z))) (c .before .before .synthesize .ensures E w ls k rep f)
 
 pub solve-checking-spec : {M : Type 1} → statement M
 solve-checking-spec =
-    tie.close
-    (tie.spec
-    shape-requires
-    check-arrow-requires
-    same-length
-    same-length-2
-    same-length-3
-    returns
-    slice-read-name
-    sub-n
-    check-forall-requires
-    same-length-4
-    same-length-5
-    returns-2
-    synthesize-requires
-    same-length-6
-    same-length-7
-    returns-3)
+    tie.close (tie.spec shape-requires check-arrow-requires (λ c. search needs) (λ c. search needs) (λ c. search needs) returns slice-read-name sub-n check-forall-requires (λ c. search needs) (λ c. search needs) returns-2 synthesize-requires (λ c. search needs) (λ c. search needs) returns-3)
