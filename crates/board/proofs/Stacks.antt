@@ -11,11 +11,12 @@ use lib.Seq.{sets, length-sets, take-append-seam, drop-append-seam}
 use lib.Dec.{leb, ltb}
 use borrow.Author.Tests.{leb-true, ltb-true}
 use borrow.Author.Count.{below-more}
-use Rattle.nodes.specs.Nodes.{Ty, words, nodesAt}
+use Rattle.nodes.specs.Nodes.{Ty, words, nodesAt, zeros}
 use Rattle.nodes.proofs.Laws.{length-words, words-append, length-nodesAt, sets-append, getD-sets-below, getD-sets-above, getD-sets-in, nodesAt-same, nodesAt-agree, take-nodesAt, drop-nodesAt}
 use Rattle.spelling.specs.declared.Triple.{Triple}
 use Rattle.judgment.proofs.TypeLaws.{both}
 use Rattle.judgment.specs.Board.{Entry, entryNodes, boardNodes, Limits, roomFor}
+use Rattle.judgment.specs.Result.{boardWords}
 use Rattle.board.specs.declared.Board.{Board}
 use Rattle.board.specs.Board.{entryOf, word, size, nodesBelow, leftAt, entryAt, entriesOf, Stacked, fitting, laid, grown, topOf}
 
@@ -253,3 +254,7 @@ new-stacked w h = record {
 pub no-entries : (ls : List Triple) (w : List ℕ) → entriesOf ls w 0 ≡ []
 unfolding entriesOf
 no-entries ls w = refl
+
+pub cleared-words : boardWords ≡ zeros 16384
+unfolding boardWords zeros
+cleared-words = refl

@@ -3,3 +3,4 @@ pub mod Fronts
 pub mod Insts
 pub mod Subs
 pub mod Outs
+pub mod Parts

@@ -1,6 +1,6 @@
--- A sound type, written out, may be compared; and Sub as its two write-outs and the comparison. Assumes nothing.
+-- A sound type, written out, may be compared; two write-outs one after the other. Assumes nothing.
 use mathlib.Core.Path.{_≡_, refl, sym, ap, _∙_, subst⁻¹}
-use mathlib.Core.Bool.{cond}
+use mathlib.Core.Bool.{true, false, cond}
 use mathlib.Core.List.{List, [], _∷_}
 use Prim.Native.Nat.{ℕ, zero, suc, _+_, _*_, _≤_, _<_}
 use native.Mathlib.Nat.{le-trans}
@@ -8,21 +8,24 @@ use native.Mathlib.Omega.{arith}
 use lib.ListN.{length}
 use Rattle.nodes.specs.Nodes.{Node, Ty, nodeParts, nodesAt}
 use Rattle.spelling.specs.declared.Triple.{Triple}
+use Rattle.nodes.proofs.Laws.{length-nodesAt}
 use Rattle.nodes.specs.Parts.{Whole}
 use Rattle.nodes.specs.Lists.{All}
 use Rattle.nodes.proofs.ListLaws.{all-map}
 use Rattle.judgment.specs.Types.{view, eqTy}
 use Rattle.judgment.specs.Board.{Rule, done, zonk}
-use Rattle.judgment.specs.Rules.{subtypeBy, subtype}
+use Rattle.judgment.specs.Rules.{subtypeBy}
 use Rattle.judgment.specs.Solutions.{Solution, Solutions, value, writeOut}
 use Rattle.judgment.proofs.SolutionLaws.{all-written, written-is-free}
 use Rattle.judgment.proofs.WholeTypes.{written-whole}
 use Rattle.book.specs.Book.{sols}
 use Rattle.operations.specs.declared.Run.{Run}
 use Rattle.operations.specs.declared.Zonked.{Zonked}
-use Rattle.operations.specs.State.{WellFormed, Does, Zonks}
-use Rattle.operations.proofs.Then.{does-as, zonk-then}
-use Rattle.subtyping.specs.Subtyping.{Made, Written, Sound}
+use Rattle.operations.specs.State.{WellFormed, Does, going, zonkRun, zonkWords, ZonkAsk, Zonks}
+use Rattle.operations.proofs.Latch.{going-is, stays-does}
+use Rattle.operations.proofs.Zonking.{zonk-few, zonk-below}
+use Rattle.operations.proofs.Then.{does-as, done-does, zonk-then, alive, grows}
+use Rattle.subtyping.specs.Subtyping.{Made, Written, Sound, SubAsk, SubtypeAsk}
 
 some-node : (t : Ty) → Whole nodeParts t 1 → 0 < length t
 some-node [] h = absurd (let z : 1 ≡ 0 = h in omega arith)
@@ -41,14 +44,85 @@ written-out {b} {k} {c} f n l h s t a e few = record {
     later : (y : Node) → Made n y → Made (c .fresh) y
     later y m = λ z. le-trans (m z) l
 
--- ---- the whole rule: two write-outs, and then the two types that stand in the report
+-- ---- two types of the board written out, one after the other, as Sub and InfApp do
+module _ {b k rep : List ℕ} {c : Run} {at fn tn w : ℕ} (p : SubtypeAsk b k rep c at fn tn w) where
+  abbrev f : Ty
+  f = nodesAt b at fn
+
+  abbrev t : Ty
+  t = nodesAt b (at + 2 * fn) tn
+
+  -- both write-outs fit
+  pub first-asks : ZonkAsk k c b at fn rep 0 w
+  first-asks =
+      let x = p .within in
+      let r = p .report in
+      record { book = p .formed .book; within = omega arith; room = omega arith }
+
+  module _ {rep₁ : List ℕ} {z : Zonked} (e₁ : z ≡ zonkRun c (writeOut (sols k) f) 0 w) (Z₁ : Zonks k rep c f 0 w rep₁ z) where
+    D₁ : (ls : List Triple) → Does w ls b k rep c (zonk f (λ _. done)) b k rep₁ (z .run)
+    D₁ ls = Z₁ .does ls b (p .formed)
+
+    pub few₁ : z .nodes ≤ w
+    few₁ = zonk-few c (writeOut (sols k) f) 0 w e₁
+
+    pub second-asks : length rep₁ ≡ length rep → ZonkAsk k (z .run) b (at + 2 * fn) tn rep₁ (z .nodes) w
+    second-asks l =
+        let x = p .within in
+        let r = p .report in
+        let s = few₁ in
+        record { book = D₁ [] .kept .book; within = omega arith; room = omega arith }
+
+    module _ {rep₂ : List ℕ} {y : Zonked} (e₂ : y ≡ zonkRun (z .run) (writeOut (sols k) t) (z .nodes) w)
+        (q : rep₂ ≡ zonkWords rep₁ (z .run) (writeOut (sols k) t) (z .nodes) w) (Z₂ : Zonks k rep₁ (z .run) t (z .nodes) w rep₂ y) where
+      abbrev F : Ty
+      F = nodesAt rep₂ 0 (z .nodes)
+
+      abbrev T : Ty
+      T = nodesAt rep₂ (2 * z .nodes) (y .nodes)
+
+      D₂ : (ls : List Triple) → Does w ls b k rep₁ (z .run) (zonk t (λ _. done)) b k rep₂ (y .run)
+      D₂ ls = Z₂ .does ls b (D₁ ls .kept)
+
+      -- the second write-out leaves the first type
+      first-stays : F ≡ nodesAt rep₁ 0 (z .nodes)
+      first-stays = zonk-below (z .run) (writeOut (sols k) t) (z .nodes) w rep₁ rep₂ q 0 (z .nodes) (omega arith)
+
+      -- where the run goes on, both types are written out
+      pub both-asks : going (y .run .halt) ≡ true → SubAsk b k rep₂ (y .run) (z .nodes) (y .nodes)
+      both-asks g =
+          let later : c .fresh ≤ y .run .fresh = let m = grows (D₁ []) in let n = grows (D₂ []) in omega arith in
+          let lim = p .limit in
+          let l₁ : length F ≤ 4096 = let s = few₁ in omega (arith, length-nodesAt rep₂ 0 (z .nodes)) in
+          let l₂ : length T ≤ 4096 = let s = zonk-few (z .run) (writeOut (sols k) t) (z .nodes) w e₂ in omega (arith, length-nodesAt rep₂ (2 * z .nodes) (y .nodes)) in
+          let g₁ = alive (D₂ []) g in
+          record {
+            formed = D₂ [] .kept;
+            goes = g;
+            within = Z₂ .within;
+            left = written-out (D₂ [] .kept) (c .fresh) later (p .solutions) f F (p .left) (first-stays ∙ Z₁ .nodes (going-is _ g₁)) l₁;
+            right = written-out (D₂ [] .kept) (c .fresh) later (p .solutions) t T (p .right) (Z₂ .nodes (going-is _ g)) l₂;
+          }
+
+      -- the rest of the rule, with the two types as they stand in the report
+      pub twice-then : (ls : List Triple) (G : Ty → Ty → Rule) {b' k' rep' : List ℕ} {r : Run} → Does w ls b k rep₂ (y .run) (G F T) b' k' rep' r
+          → Does w ls b k rep c (zonk f (λ (x : Ty). zonk t (G x))) b' k' rep' r
+      twice-then ls G d =
+          zonk-then {f = λ (x : Ty). zonk t (G x)} (p .formed) Z₁ (zonk-then {f = G (nodesAt rep₁ 0 (z .nodes))} (D₁ ls .kept) Z₂ (does-as (λ _. ap (λ (x : Ty). G x T) first-stays) d))
+
+      -- a run that is refused stays
+      pub twice-stays : (ls : List Triple) (G : Ty → Ty → Rule) → going (y .run .halt) ≡ false → Does w ls b k rep c (zonk f (λ (x : Ty). zonk t (G x))) b k rep₂ (y .run)
+      twice-stays ls G g = twice-then ls G (stays-does (D₂ ls .kept) w ls rep₂ g (G F T))
+
+      pub twice-done : (ls : List Triple) (G : Ty → Ty → Rule) → G F T ≡ done → Does w ls b k rep c (zonk f (λ (x : Ty). zonk t (G x))) b k rep₂ (y .run)
+      twice-done ls G e = twice-then ls G (does-as (λ _. sym e) (done-does (D₂ ls .kept)))
+
+-- ---- Sub on its two written-out types
 abbrev pub compared : Ty → Ty → Rule
 compared l r = cond (eqTy l r) done (subtypeBy l r (view l) (view r))
 
-pub subtype-then : {w : ℕ} {ls : List Triple} {b k rep R₁ R₂ : List ℕ} {c : Run} {s t : Ty} {z y : Zonked} {b' k' rep' : List ℕ} {o : Run} → WellFormed b k c
-    → Zonks k rep c s 0 w R₁ z → Zonks k R₁ (z .run) t (z .nodes) w R₂ y → nodesAt R₂ 0 (z .nodes) ≡ nodesAt R₁ 0 (z .nodes)
-    → Does w ls b k R₂ (y .run) (compared (nodesAt R₂ 0 (z .nodes)) (nodesAt R₂ (2 * z .nodes) (y .nodes))) b' k' rep' o → Does w ls b k rep c (subtype s t) b' k' rep' o
-unfolding subtype
-subtype-then {ls = ls} {b} {R₁ = R₁} {R₂} {t = t} {z} {y} f Z₁ Z₂ same d =
-    zonk-then {f = λ (l : Ty). zonk t (compared l)} f Z₁
-    (zonk-then {f = compared (nodesAt R₁ 0 (z .nodes))} (Z₁ .does ls b f .kept) Z₂ (does-as (λ _. ap (λ (l : Ty). compared l (nodesAt R₂ (2 * z .nodes) (y .nodes))) same) d))
+pub same-done : (l r : Ty) → eqTy l r ≡ true → compared l r ≡ done
+same-done l r e = rw e
+
+pub other-shapes : (l r : Ty) → eqTy l r ≡ false → subtypeBy l r (view l) (view r) ≡ compared l r
+other-shapes l r e = rw e

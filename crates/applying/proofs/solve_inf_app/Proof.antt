@@ -2,9 +2,10 @@ use mathlib.Core.Path.{sym, _∙_}
 use mathlib.Core.List.{List}
 use native.Mathlib.Omega.{arith}
 use Rattle.spelling.specs.declared.Triple.{Triple}
-use Rattle.judgment.specs.Rules.{Env}
+use Rattle.judgment.specs.Rules.{Env, inferApp}
 use Rattle.board.specs.Board.{termAt}
-use Rattle.applying.proofs.Outs.{first-asks, second-asks, both-asks, apply-then, apply-stays}
+use Rattle.subtyping.proofs.Outs.{first-asks, second-asks, both-asks, twice-then, twice-stays}
+use Rattle.applying.proofs.Outs.{applied}
 use borrow.Author.Needs.{needs}
 use Rattle.applying.proofs.solve_inf_app.Statement.{statement}
 use Rattle.applying.proofs.solve_inf_app.Tie as tie
@@ -13,14 +14,10 @@ zonk-requires : tie.Need-zonk-requires
 zonk-requires c κs = first-asks (c .before .before .before .before .before .before .pre)
 
 mul-next : tie.Need-mul-next
-mul-next c =
-    let x = c .before .before .before .before .before .before .before .before .before .before .pre .within in
-    omega arith
+mul-next c = omega (arith, c .before .before .before .before .before .before .before .before .before .before .pre .within)
 
 add-next : tie.Need-add-next
-add-next c =
-    let x = c .before .before .before .before .before .before .before .before .before .before .pre .within in
-    omega arith
+add-next c = omega (arith, c .before .before .before .before .before .before .before .before .before .before .pre .within)
 
 zonk-requires-2 : tie.Need-zonk-requires-2
 zonk-requires-2 c κs = second-asks (c .before .before .before .before .before .before .before .before .before .before .before .before .before .pre) (c .before .before .before .before .before .before .zonk .ensures .0) (c .before .before .before .before .before .before .zonk .ensures .2) (c .before .before .before .before .before .before .zonk .kept .1 .1 .1 .1 .1 .0)
@@ -29,16 +26,17 @@ apply-shapes-requires : tie.Need-apply-shapes-requires
 apply-shapes-requires c κs = both-asks (c .before .before .before .before .before .before .before .before .before .before .before .before .before .before .before .before .before .before .before .before .before .before .pre) (c .before .before .before .before .before .before .before .before .before .before .before .before .before .before .before .zonk .ensures .0) (c .before .before .before .before .before .before .before .before .before .before .before .before .before .before .before .zonk .ensures .2) (c .before .before .before .before .before .before .before .before .zonk2 .ensures .0) (c .before .before .before .before .before .before .before .before .zonk2 .ensures .1) (c .before .before .before .before .before .before .before .before .zonk2 .ensures .2) (sym (c .before .before .before .before .is-going .ensures) ∙ c .before .before .before .if1 .taken)
 
 returns : tie.Need-returns
+unfolding inferApp
 returns c =
     λ (ls : List Triple) (E : Env).
-    apply-then (c .before .before .before .before .before .before .before .before .before .before .before .before .before .before .before .before .before .before .before .before .before .before .before .before .before .before .before .before .before .pre) (c .before .before .before .before .before .before .before .before .before .before .before .before .before .before .before .before .before .before .before .before .before .before .zonk .ensures .0) (c .before .before .before .before .before .before .before .before .before .before .before .before .before .before .before .before .before .before .before .before .before .before .zonk .ensures .2) (c .before .before .before .before .before .before .before .before .before .before .before .before .before .before .before .zonk2 .ensures .0) (c .before .before .before .before .before .before .before .before .before .before .before .before .before .before .before .zonk2 .ensures .1) (c .before .before .before .before .before .before .before .before .before .before .before .before .before .before .before .zonk2 .ensures .2) ls E (termAt ls (c .before .before .before .before .before .before .before .before .before .before .before .before .before .before .before .before .before .before .before .before .before .before .before .before .before .before .before .before .before .args .line))
+    twice-then (c .before .before .before .before .before .before .before .before .before .before .before .before .before .before .before .before .before .before .before .before .before .before .before .before .before .before .before .before .before .pre) (c .before .before .before .before .before .before .before .before .before .before .before .before .before .before .before .before .before .before .before .before .before .before .zonk .ensures .0) (c .before .before .before .before .before .before .before .before .before .before .before .before .before .before .before .before .before .before .before .before .before .before .zonk .ensures .2) (c .before .before .before .before .before .before .before .before .before .before .before .before .before .before .before .zonk2 .ensures .0) (c .before .before .before .before .before .before .before .before .before .before .before .before .before .before .before .zonk2 .ensures .1) (c .before .before .before .before .before .before .before .before .before .before .before .before .before .before .before .zonk2 .ensures .2) ls (applied E (termAt ls (c .before .before .before .before .before .before .before .before .before .before .before .before .before .before .before .before .before .before .before .before .before .before .before .before .before .before .before .before .before .args .line)))
     (c .before .before .before .before .before .before .apply-shapes .ensures (c .before .before .before .before .before .before .before .before .before .before .before .before .before .before .before .before .before .before .before .before .before .before .before .before .before .before .before .before .before .args .w) ls E)
 
 returns-2 : tie.Need-returns-2
+unfolding inferApp
 returns-2 c =
     λ (ls : List Triple) (E : Env).
-    apply-stays (c .before .before .before .before .before .before .before .before .before .before .before .before .before .before .before .before .before .before .before .pre) (c .before .before .before .before .before .before .before .before .before .before .before .before .zonk .ensures .0) (c .before .before .before .before .before .before .before .before .before .before .before .before .zonk .ensures .2) (c .before .before .before .before .before .zonk2 .ensures .0) (c .before .before .before .before .before .zonk2 .ensures .1) (c .before .before .before .before .before .zonk2 .ensures .2) ls E (termAt ls (c .before .before .before .before .before .before .before .before .before .before .before .before .before .before .before .before .before .before .before .args .line))
-    (sym (c .before .is-going .ensures) ∙ c .if1 .left)
+    twice-stays (c .before .before .before .before .before .before .before .before .before .before .before .before .before .before .before .before .before .before .before .pre) (c .before .before .before .before .before .before .before .before .before .before .before .before .zonk .ensures .0) (c .before .before .before .before .before .before .before .before .before .before .before .before .zonk .ensures .2) (c .before .before .before .before .before .zonk2 .ensures .0) (c .before .before .before .before .before .zonk2 .ensures .1) (c .before .before .before .before .before .zonk2 .ensures .2) ls (applied E (termAt ls (c .before .before .before .before .before .before .before .before .before .before .before .before .before .before .before .before .before .before .before .args .line))) (sym (c .before .is-going .ensures) ∙ c .if1 .left)
 
 pub solve-inf-app-spec : {M : Type 1} → statement M
 solve-inf-app-spec =

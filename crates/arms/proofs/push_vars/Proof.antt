@@ -35,34 +35,13 @@ get-requires c κs =
     omega arith
 
 mul-name : tie.Need-mul-name Inv-loop μ-loop
-mul-name c =
-    let a = c .before .before .before .before .before .before .before .args in
-    let p = c .before .before .before .before .before .before .before .pre in
-    let ls = triples (now (a .s)) in
-    let L = c .before .before .loop in
-    let t : L .i < a .n = c .before .loop-test .taken in
-    let rows : 6 * a .n ≤ length (now (a .v)) = p .rows in
-    omega arith
+mul-name c = omega (arith, c .before .loop-test .taken, c .before .before .before .before .before .before .before .pre .rows)
 
 mul-name-2 : tie.Need-mul-name-2 Inv-loop μ-loop
-mul-name-2 c =
-    let a = c .before .before .before .before .before .before .before .args in
-    let p = c .before .before .before .before .before .before .before .pre in
-    let ls = triples (now (a .s)) in
-    let L = c .before .before .loop in
-    let t : L .i < a .n = c .before .loop-test .taken in
-    let rows : 6 * a .n ≤ length (now (a .v)) = p .rows in
-    omega arith
+mul-name-2 c = omega (arith, c .before .loop-test .taken, c .before .before .before .before .before .before .before .pre .rows)
 
 shared-slice-read-name : tie.Need-shared-slice-read-name Inv-loop μ-loop
-shared-slice-read-name c =
-    let a = c .before .before .before .before .before .before .before .before .args in
-    let p = c .before .before .before .before .before .before .before .before .pre in
-    let ls = triples (now (a .s)) in
-    let L = c .before .before .before .loop in
-    let t : L .i < a .n = c .before .before .loop-test .taken in
-    let rows : 6 * a .n ≤ length (now (a .v)) = p .rows in
-    omega arith
+shared-slice-read-name c = omega (arith, c .before .before .loop-test .taken, c .before .before .before .before .before .before .before .before .pre .rows)
 
 cast-name : tie.Need-cast-name Inv-loop μ-loop
 cast-name c =

@@ -26,28 +26,10 @@ signature-requires c κs =
     (O .within, few-nodes ls (a .first) (a .n) (a .count) (a .want) p O .2)
 
 mul-la : tie.Need-mul-la
-mul-la c =
-    let a = c .before .before .before .before .before .before .before .before .before .before .before .before .before .before .before .before .before .before .before .before .args in
-    let p = c .before .before .before .before .before .before .before .before .before .before .before .before .before .before .before .before .before .before .before .before .pre in
-    let ls = triples (now (a .s)) in
-    let O = c .before .before .before .before .before .before .before .before .instantiate-constructor-type .ensures in
-    let o = c .before .before .before .before .before .before .before .before .instantiate-constructor-type .result in
-    let f : (o .nodes ≤ a .n) × (o .at ≤ 8192) × (o .nodes ≤ 4096) = few-nodes ls (a .first) (a .n) (a .count) (a .want) p O in
-    let S = c .before .signature .ensures in
-    let st : c .before .signature .result .start ≤ o .nodes = S .0 in
-    omega arith
+mul-la c = let f = few-nodes (triples (now (c .before .before .before .before .before .before .before .before .before .before .before .before .before .before .before .before .before .before .before .before .args .s))) (c .before .before .before .before .before .before .before .before .before .before .before .before .before .before .before .before .before .before .before .before .args .first) (c .before .before .before .before .before .before .before .before .before .before .before .before .before .before .before .before .before .before .before .before .args .n) (c .before .before .before .before .before .before .before .before .before .before .before .before .before .before .before .before .before .before .before .before .args .count) (c .before .before .before .before .before .before .before .before .before .before .before .before .before .before .before .before .before .before .before .before .args .want) (c .before .before .before .before .before .before .before .before .before .before .before .before .before .before .before .before .before .before .before .before .pre) (c .before .before .before .before .before .before .before .before .instantiate-constructor-type .ensures) in omega (arith, f .0, f .1, f .2, c .before .signature .ensures .0)
 
 add-la : tie.Need-add-la
-add-la c =
-    let a = c .before .before .before .before .before .before .before .before .before .before .before .before .before .before .before .before .before .before .before .before .args in
-    let p = c .before .before .before .before .before .before .before .before .before .before .before .before .before .before .before .before .before .before .before .before .pre in
-    let ls = triples (now (a .s)) in
-    let O = c .before .before .before .before .before .before .before .before .instantiate-constructor-type .ensures in
-    let o = c .before .before .before .before .before .before .before .before .instantiate-constructor-type .result in
-    let f : (o .nodes ≤ a .n) × (o .at ≤ 8192) × (o .nodes ≤ 4096) = few-nodes ls (a .first) (a .n) (a .count) (a .want) p O in
-    let S = c .before .signature .ensures in
-    let st : c .before .signature .result .start ≤ o .nodes = S .0 in
-    omega arith
+add-la c = let f = few-nodes (triples (now (c .before .before .before .before .before .before .before .before .before .before .before .before .before .before .before .before .before .before .before .before .args .s))) (c .before .before .before .before .before .before .before .before .before .before .before .before .before .before .before .before .before .before .before .before .args .first) (c .before .before .before .before .before .before .before .before .before .before .before .before .before .before .before .before .before .before .before .before .args .n) (c .before .before .before .before .before .before .before .before .before .before .before .before .before .before .before .before .before .before .before .before .args .count) (c .before .before .before .before .before .before .before .before .before .before .before .before .before .before .before .before .before .before .before .before .args .want) (c .before .before .before .before .before .before .before .before .before .before .before .before .before .before .before .before .before .before .before .before .pre) (c .before .before .before .before .before .before .before .before .instantiate-constructor-type .ensures) in omega (arith, f .0, f .1, f .2, c .before .signature .ensures .0)
 
 sub-ln : tie.Need-sub-ln
 sub-ln c =

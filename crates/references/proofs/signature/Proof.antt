@@ -19,32 +19,17 @@ loop-holds c = (omega arith, omega arith, sign-start _ _ _)
 
 add-i : tie.Need-add-i Inv-loop μ-loop
 add-i c =
-    let k = now (c .before .before .before .before .before .before .before .before .args .k) in
-    let at : ℕ = c .before .before .before .before .before .before .before .before .args .at in
-    let n : ℕ = c .before .before .before .before .before .before .before .before .args .n in
-    let i : ℕ = c .before .before .before .before .before .before .loop .i in
-    let m : ℕ = c .first-part .result in
-    let w : m ≤ n - i - 1 = first-within k (at + 2 * i + 2) (n - i - 1) m (c .first-part .ensures) in
+    let w = first-within (now (c .before .before .before .before .before .before .before .before .args .k)) (c .before .before .before .before .before .before .before .before .args .at + 2 * c .before .before .before .before .before .before .loop .i + 2) (c .before .before .before .before .before .before .before .before .args .n - c .before .before .before .before .before .before .loop .i - 1) (c .first-part .result) (c .first-part .ensures) in
     search needs
 
 add-i-2 : tie.Need-add-i-2 Inv-loop μ-loop
 add-i-2 c =
-    let k = now (c .before .before .before .before .before .before .before .before .args .k) in
-    let at : ℕ = c .before .before .before .before .before .before .before .before .args .at in
-    let n : ℕ = c .before .before .before .before .before .before .before .before .args .n in
-    let i : ℕ = c .before .before .before .before .before .before .loop .i in
-    let m : ℕ = c .first-part .result in
-    let w : m ≤ n - i - 1 = first-within k (at + 2 * i + 2) (n - i - 1) m (c .first-part .ensures) in
+    let w = first-within (now (c .before .before .before .before .before .before .before .before .args .k)) (c .before .before .before .before .before .before .before .before .args .at + 2 * c .before .before .before .before .before .before .loop .i + 2) (c .before .before .before .before .before .before .before .before .args .n - c .before .before .before .before .before .before .loop .i - 1) (c .first-part .result) (c .first-part .ensures) in
     search needs
 
 loop-less : tie.Need-loop-less Inv-loop μ-loop
 loop-less c =
-    let k = now (c .before .before .before .before .before .before .before .before .args .k) in
-    let at : ℕ = c .before .before .before .before .before .before .before .before .args .at in
-    let n : ℕ = c .before .before .before .before .before .before .before .before .args .n in
-    let i : ℕ = c .before .before .before .before .before .before .loop .i in
-    let m : ℕ = c .first-part .result in
-    let w : m ≤ n - i - 1 = first-within k (at + 2 * i + 2) (n - i - 1) m (c .first-part .ensures) in
+    let w = first-within (now (c .before .before .before .before .before .before .before .before .args .k)) (c .before .before .before .before .before .before .before .before .args .at + 2 * c .before .before .before .before .before .before .loop .i + 2) (c .before .before .before .before .before .before .before .before .args .n - c .before .before .before .before .before .before .loop .i - 1) (c .first-part .result) (c .first-part .ensures) in
     search needs
 
 loop-again : tie.Need-loop-again Inv-loop μ-loop

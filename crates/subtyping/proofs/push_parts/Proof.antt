@@ -7,10 +7,9 @@ use denote.Ref.{now}
 use lib.ListN.{length}
 use Rattle.nodes.specs.Nodes.{Ty, nodesAt}
 use Rattle.spelling.specs.declared.Triple.{Triple}
-use Rattle.judgment.specs.Board.{Rule, sub, push, done}
 use Rattle.operations.specs.State.{WellFormed}
-use Rattle.core_types.proofs.Walks.{first-within, first-nodes, rest-nodes}
-use Rattle.operations.proofs.Then.{push-then, does-as}
+use Rattle.core_types.proofs.Walks.{first-within}
+use Rattle.subtyping.proofs.Parts.{parts-at, two-subs}
 use borrow.Author.Needs.{needs}
 use Rattle.subtyping.proofs.push_parts.Statement.{statement}
 use Rattle.subtyping.proofs.push_parts.Tie as tie
@@ -51,15 +50,10 @@ same-length c = c .before .before .push-sub2 .kept .0 ∙ c .before .before .bef
 returns : tie.Need-returns
 returns c =
     λ (w : ℕ) (ls : List Triple) (k rep : List ℕ) (f : WellFormed (now (c .before .before .before .before .before .before .before .before .before .before .before .before .before .args .board)) k (c .before .before .before .before .before .before .before .before .before .before .before .before .before .args .c)).
-    let a = c .before .before .before .before .before .before .before .before .before .before .before .before .before .args in
-    let T = now (a .t) in
-    let e1 = first-nodes T (a .la) (a .ln) (c .before .before .before .before .before .before .before .before .before .before .first-part .result) (c .before .before .before .before .before .before .before .before .before .before .first-part .ensures) in
-    let e2 = rest-nodes T (a .la) (a .ln) (c .before .before .before .before .before .before .before .before .before .before .first-part .result) (c .before .before .before .before .before .before .before .before .before .before .first-part .ensures) in
-    let e3 = first-nodes T (a .ra) (a .rn) (c .before .before .before .before .before .before .before .before .before .first-part2 .result) (c .before .before .before .before .before .before .before .before .before .first-part2 .ensures) in
-    let e4 = rest-nodes T (a .ra) (a .rn) (c .before .before .before .before .before .before .before .before .before .first-part2 .result) (c .before .before .before .before .before .before .before .before .before .first-part2 .ensures) in
-    let D1 = c .before .before .before .before .before .before .push-sub .ensures .2 w ls k rep f in
-    let D2 = c .before .before .push-sub2 .ensures .2 w ls k rep (D1 .kept) in
-    rw (c .before .before .before .before .before .before .before .before .if1 .taken) (push-then (does-as (λ _. ap₂ (λ (x y : Ty). push (sub x y) done) e3 e1) D1) (does-as (λ _. ap₂ (λ (x y : Ty). push (sub x y) done) e2 e4) D2))
+    let T = now (c .before .before .before .before .before .before .before .before .before .before .before .before .before .args .t) in
+    let l = parts-at T (c .before .before .before .before .before .before .before .before .before .before .before .before .before .args .la) (c .before .before .before .before .before .before .before .before .before .before .before .before .before .args .ln) (c .before .before .before .before .before .before .before .before .before .before .first-part .ensures) in
+    let r = parts-at T (c .before .before .before .before .before .before .before .before .before .before .before .before .before .args .ra) (c .before .before .before .before .before .before .before .before .before .before .before .before .before .args .rn) (c .before .before .before .before .before .before .before .before .before .first-part2 .ensures) in
+    rw (c .before .before .before .before .before .before .before .before .if1 .taken) (two-subs (c .before .before .before .before .before .before .push-sub .ensures .2 w ls k rep f) (λ h. c .before .before .push-sub2 .ensures .2 w ls k rep h) (r .0) (l .0) (l .1) (r .1))
 
 push-sub-requires-3 : tie.Need-push-sub-requires-3
 push-sub-requires-3 c κs = (c .before .before .before .before .before .before .pre .formed .1 .board, omega (arith, first-within (now (c .before .before .before .before .before .before .args .t)) (c .before .before .before .before .before .before .args .la) (c .before .before .before .before .before .before .args .ln) (c .before .before .before .first-part .result) (c .before .before .before .first-part .ensures), first-within (now (c .before .before .before .before .before .before .args .t)) (c .before .before .before .before .before .before .args .ra) (c .before .before .before .before .before .before .args .rn) (c .before .before .first-part2 .result) (c .before .before .first-part2 .ensures), c .before .before .before .before .before .before .pre .left, c .before .before .before .before .before .before .pre .right), omega (arith, first-within (now (c .before .before .before .before .before .before .args .t)) (c .before .before .before .before .before .before .args .la) (c .before .before .before .before .before .before .args .ln) (c .before .before .before .first-part .result) (c .before .before .before .first-part .ensures), first-within (now (c .before .before .before .before .before .before .args .t)) (c .before .before .before .before .before .before .args .ra) (c .before .before .before .before .before .before .args .rn) (c .before .before .first-part2 .result) (c .before .before .first-part2 .ensures), c .before .before .before .before .before .before .pre .left, c .before .before .before .before .before .before .pre .right))
@@ -73,15 +67,10 @@ same-length-2 c = c .before .before .push-sub4 .kept .0 ∙ c .before .before .b
 returns-2 : tie.Need-returns-2
 returns-2 c =
     λ (w : ℕ) (ls : List Triple) (k rep : List ℕ) (f : WellFormed (now (c .before .before .before .before .before .before .before .before .before .before .before .before .before .args .board)) k (c .before .before .before .before .before .before .before .before .before .before .before .before .before .args .c)).
-    let a = c .before .before .before .before .before .before .before .before .before .before .before .before .before .args in
-    let T = now (a .t) in
-    let e1 = first-nodes T (a .la) (a .ln) (c .before .before .before .before .before .before .before .before .before .before .first-part .result) (c .before .before .before .before .before .before .before .before .before .before .first-part .ensures) in
-    let e2 = rest-nodes T (a .la) (a .ln) (c .before .before .before .before .before .before .before .before .before .before .first-part .result) (c .before .before .before .before .before .before .before .before .before .before .first-part .ensures) in
-    let e3 = first-nodes T (a .ra) (a .rn) (c .before .before .before .before .before .before .before .before .before .first-part2 .result) (c .before .before .before .before .before .before .before .before .before .first-part2 .ensures) in
-    let e4 = rest-nodes T (a .ra) (a .rn) (c .before .before .before .before .before .before .before .before .before .first-part2 .result) (c .before .before .before .before .before .before .before .before .before .first-part2 .ensures) in
-    let D1 = c .before .before .before .before .before .before .push-sub3 .ensures .2 w ls k rep f in
-    let D2 = c .before .before .push-sub4 .ensures .2 w ls k rep (D1 .kept) in
-    rw (c .before .before .before .before .before .before .before .before .if1 .left) (push-then (does-as (λ _. ap₂ (λ (x y : Ty). push (sub x y) done) e1 e3) D1) (does-as (λ _. ap₂ (λ (x y : Ty). push (sub x y) done) e2 e4) D2))
+    let T = now (c .before .before .before .before .before .before .before .before .before .before .before .before .before .args .t) in
+    let l = parts-at T (c .before .before .before .before .before .before .before .before .before .before .before .before .before .args .la) (c .before .before .before .before .before .before .before .before .before .before .before .before .before .args .ln) (c .before .before .before .before .before .before .before .before .before .before .first-part .ensures) in
+    let r = parts-at T (c .before .before .before .before .before .before .before .before .before .before .before .before .before .args .ra) (c .before .before .before .before .before .before .before .before .before .before .before .before .before .args .rn) (c .before .before .before .before .before .before .before .before .before .first-part2 .ensures) in
+    rw (c .before .before .before .before .before .before .before .before .if1 .left) (two-subs (c .before .before .before .before .before .before .push-sub3 .ensures .2 w ls k rep f) (λ h. c .before .before .push-sub4 .ensures .2 w ls k rep h) (l .0) (r .0) (l .1) (r .1))
 
 pub push-parts-spec : {M : Type 1} → statement M
 push-parts-spec =
