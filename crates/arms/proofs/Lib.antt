@@ -2,3 +2,4 @@ pub mod Vars
 pub mod Bodies
 pub mod Cut
 pub mod Narrow
+pub mod Cases

@@ -56,3 +56,15 @@ pub record ArmsAsk (b : List ℕ) (c : Run) (ls : List Triple) (line n u : ℕ) 
   pub lent : Lent ls u w v l r t ta tn
   pub within : line ≤ length ls
   pub narrow : NarrowArms n (drop line ls)
+
+-- a Case of n arms, the first at `line`; the bodies must have the type of tn nodes at the front of t
+pub record CaseAsk (b : List ℕ) (c : Run) (ls : List Triple) (line n : ℕ) (w v l r t : List ℕ) (tn : ℕ) : Type 0 where
+  pub ready : Ready b c
+  pub sheet : Sheet ls
+  pub frames : 6 * length ls + 12 ≤ length w
+  pub rows : 6 * length ls + 6 ≤ length v
+  pub left : 8192 ≤ length l
+  pub right : 8192 ≤ length r
+  pub type : 2 * tn ≤ length t
+  pub within : line ≤ length ls
+  pub narrow : NarrowArms n (drop line ls)

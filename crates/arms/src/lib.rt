@@ -1,4 +1,4 @@
-// The arms of a Case (worklist.rs: `solve_inference` for a Case): each pattern, its variables, its body.
+// A Case (worklist.rs: `solve_inference` for a Case): its scrutinee, and of each arm the pattern, its variables, its body.
 ghost use mathlib.Core.Path.{_≡_};
 ghost use mathlib.Core.List.{List};
 ghost use Prim.Native.Nat.{ℕ, _+_, _*_, _≤_, _<_};
@@ -6,14 +6,18 @@ ghost use lib.ListN.{length, drop};
 ghost use Rattle.nodes.specs.Nodes.{nodesAt};
 ghost use Rattle.sheet.specs.Plan.{triples};
 ghost use Rattle.judgment.specs.Types.{unknown};
-ghost use Rattle.judgment.specs.Rules.{pushVars, checkArms};
+ghost use Rattle.judgment.specs.Terms.{isCase};
+ghost use Rattle.judgment.specs.Rules.{pushVars, checkArms, inferBy};
+ghost use Rattle.board.specs.Board.{termAt};
 ghost use Rattle.operations.specs.State.{WellFormed, Does};
 ghost use Rattle.tables.specs.Rows.{bindingsAt};
 ghost use Rattle.patterns.specs.Turns.{Turn};
 ghost use Rattle.patterns.specs.Readings.{envAt};
-ghost use Rattle.arms.specs.Arms.{VarsAsk, ArmAsk, Armed, ArmsAsk};
+ghost use Rattle.arms.specs.Arms.{VarsAsk, ArmAsk, Armed, ArmsAsk, CaseAsk};
 use operations::Run;
+use operations::fresh_evar;
 use operations::push_chk;
+use operations::push_tvar;
 use operations::push_var;
 use patterns::check_pattern;
 use references::instance;
@@ -102,4 +106,30 @@ pub fn check_arms(
         left -= 1;
     }
     run
+}
+
+// Case: the scrutinee's type is a fresh unknown, which every arm's pattern must have. `e` is the scrutinee's line, `line` that of the first arm.
+pub fn infer_case(
+    board: &mut [u32],
+    c: Run,
+    s: &[u8],
+    e: u32,
+    line: usize,
+    n: usize,
+    w: &mut [usize],
+    v: &mut [usize],
+    l: &mut [u32],
+    r: &mut [u32],
+    t: &[u32],
+    tn: usize,
+) -> Run
+    requires { ⌜ CaseAsk (now board) c (triples (now s)) line n (now w) (now v) (now l) (now r) (now t) tn ⌝ }
+    ensures { λ o. ⌜ ((m : ℕ) (k rep : List ℕ) → WellFormed (now (board .entry)) k c → Does m (triples (now (s .entry))) (now (board .entry)) k rep c (inferBy (envAt (triples (now (s .entry)))) (nodesAt (now (t .entry)) 0 tn) (isCase n (termAt (triples (now (s .entry))) e) (drop line (triples (now (s .entry)))))) (now (board .exit)) k rep o) ⌝ }
+{
+    let a = c.fresh;
+    let c1 = fresh_evar(c);
+    let c2 = push_tvar(board, c1, 17, a);
+    let u = [17u32, a];
+    let c3 = push_chk(board, c2, e, &u, 0, 1);
+    check_arms(board, c3, s, line, n, a, w, v, l, r, t, 0, tn)
 }

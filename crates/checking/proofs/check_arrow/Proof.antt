@@ -15,10 +15,11 @@ use Rattle.board.specs.Board.{termAt}
 use Rattle.board.proofs.Terms.{lineOf}
 use Rattle.sheet.specs.Plan.{triples, partLine}
 use Rattle.inference.specs.Inference.{LinesAsk}
+use Rattle.inference.proofs.Heads.{lines-asks}
 use Rattle.operations.specs.State.{WellFormed}
 use Rattle.operations.proofs.Then.{does-as}
 use Rattle.core_types.proofs.Walks.{first-within, first-nodes, rest-nodes}
-use Rattle.checking.proofs.Checks.{head-is, head-narrow, bounds, no-lambda, lambda-read, lines-asks}
+use Rattle.checking.proofs.Checks.{head-is, name-narrow, bounds, no-lambda, lambda-read}
 use borrow.Author.Needs.{needs}
 use Rattle.checking.proofs.check_arrow.Statement.{statement}
 use Rattle.checking.proofs.check_arrow.Tie as tie
@@ -29,7 +30,7 @@ cast-name c =
     let p = c .before .before .before .before .before .before .before .before .before .pre .0 in
     let W = c .before .before .before .before .wide .ensures in
     let e : c .before .before .before .triple-at .result ≡ lineOf (triples (now (a .s))) (a .line) = head-is (now (a .s)) (a .line) (c .before .before .before .before .wide .result) (c .before .before .before .triple-at .result) (c .before .before .before .before .wide .ensures) (c .before .before .before .triple-at .ensures) in
-    let v : c .before .before .before .triple-at .result .value < 4294967296 = head-narrow p e (c .before .if1 .taken) in search needs
+    let v : c .before .before .before .triple-at .result .value < 4294967296 = name-narrow p e (c .before .if1 .taken) in search needs
 
 add-start : tie.Need-add-start
 add-start c = let x = c .before .before .before .before .before .before .before .before .before .pre .0 .stands in let y = c .before .before .before .before .before .before .before .before .before .pre .0 .few in let z = c .before .before .before .before .wide .ensures in omega arith
@@ -71,7 +72,7 @@ check-lambda-requires c κs =
     let m = first-within (now (a .t)) 2 (a .tn - 1) (c .before .before .first-part .result) (c .before .before .first-part .ensures) in
     let x = p .within in
     let u = c .before .before .before .before .before .before .before .before .before .before .before .before .before .pre .1 in
-    let l : LinesAsk (now (a .s)) (c .before .before .before .before .before .before .before .before .wide .result + 1) (c .before .before .before .part-line .result - (c .before .before .before .before .before .before .before .before .wide .result + 1)) = rw (q, W) (lines-asks p (sym (ap (λ (t : Triple). t .kind) e) ∙ c .before .before .before .before .before .if1 .taken)) in
+    let l : LinesAsk (now (a .s)) (c .before .before .before .before .before .before .before .before .wide .result + 1) (c .before .before .before .part-line .result - (c .before .before .before .before .before .before .before .before .wide .result + 1)) = rw (q, W) (lines-asks (now (a .s)) (a .line) (p .stands) (p .term) (sym (ap (λ (t : Triple). t .kind) e) ∙ c .before .before .before .before .before .if1 .taken)) in
     let lw = l .within in
     let room = p .room in
     (p .board, omega arith, omega arith, l)

@@ -1,0 +1,93 @@
+-- A Case: what stands ready for its arms, and its parts by its first line. Assumes nothing.
+use mathlib.Core.Path.{_≡_, refl, sym, ap, ap₂, _∙_, subst, fun-ext}
+use mathlib.Core.List.{List, [], _∷_}
+use Prim.Native.Nat.{ℕ, suc, _+_, _*_, _<_}
+use native.Mathlib.Nat.{add-zero}
+use native.Mathlib.Numerals.{add-one}
+use native.Mathlib.Omega.{arith}
+use lib.Dec.{ltb}
+use borrow.Author.Tests.{ltb-true}
+use lib.ListN.{length, drop}
+use Rattle.nodes.specs.Nodes.{node, Ty}
+use Rattle.nodes.specs.Parts.{takeParts, dropParts}
+use Rattle.nodes.proofs.ListLaws.{cond-ind}
+use Rattle.nodes.proofs.PartLaws.{drop-take}
+use Rattle.spelling.specs.declared.Triple.{Triple}
+use Rattle.kinds.specs.Kinds.{aTerm, partsOf, rowOf, find, table}
+use Rattle.sheet.specs.Plan.{partLine}
+use Rattle.sheet.specs.Form.{IsPart}
+use Rattle.sheet.proofs.Lines.{line-none, drop-line}
+use Rattle.judgment.specs.Types.{unknown}
+use Rattle.judgment.specs.Terms.{Term, part, afterParts, isCase, termView}
+use Rattle.judgment.specs.Board.{tvar, chk, Rule, fresh, push}
+use Rattle.judgment.specs.Rules.{Env, inferBy}
+use Rattle.judgment.proofs.WholeTerms.{TermViewWhole, term-view-whole}
+use Rattle.board.specs.Board.{termAt, entryOf}
+use Rattle.board.proofs.Terms.{lineOf, bodyAt, term-head, part-at}
+use Rattle.operations.specs.declared.Run.{Run}
+use Rattle.operations.specs.State.{going, freshRun, Pushes}
+use Rattle.patterns.specs.Turns.{Ready}
+use Rattle.patterns.proofs.Steps.{pushed-ready}
+use Rattle.arms.specs.Arms.{NarrowArms}
+use Rattle.arms.proofs.Cut.{arms-cut}
+use Rattle.arms.proofs.Narrow.{arms-narrow}
+
+-- ---- board and counters after a fresh unknown, its TVar and a Chk
+pub fresh-ready : {b : List ℕ} (c : Run) {r : Run} → Ready b c → r ≡ freshRun c → Ready b r
+fresh-ready {b} c h e =
+    let l = h .numbers in
+    rw e
+    (cond-ind (Ready b) (going (c .halt))
+    (λ _. cond-ind (Ready b) (ltb (c .fresh) 1000)
+    (λ q. record { board = h .board; numbers = omega (arith, ltb-true (c .fresh) 1000 q) }) (λ _. record { board = h .board; numbers = l }))
+    (λ _. h))
+
+pub tvar-ready : {b : List ℕ} {c : Run} {a : ℕ} {b' : List ℕ} {r : Run} → Ready b c → Pushes b c 17 a [] [] (λ ls. tvar (node 17 a)) b' r → Ready b' r
+unfolding entryOf
+tvar-ready {a = a} h p = pushed-ready 17 a [] [] (λ ls. refl) h p
+
+pub chk-ready : {b : List ℕ} {c : Run} (line : ℕ) (t : Ty) {b' : List ℕ} {r : Run} → Ready b c → Pushes b c 5 line t [] (λ ls. chk (termAt ls line) t) b' r → Ready b' r
+unfolding entryOf
+chk-ready line t h p = pushed-ready 5 line t [] (λ ls. sym (add-zero (length t))) h p
+
+-- ---- a Case on the sheet: its first line is line p
+case-parts : (t : Triple) → t .kind ≡ 27 → partsOf t ≡ 1 + 2 * t .count
+unfolding partsOf rowOf find table
+case-parts t e = rw e
+
+case-head : (t : Triple) (xs : Term) → t .kind ≡ 27 → termView (t ∷ xs) ≡ isCase (t .count) (part 0 xs) (afterParts 1 xs)
+unfolding termView
+case-head t xs e = rw e
+
+module _ (ls : List Triple) (p : ℕ) (h : p < length ls) (e : lineOf ls p .kind ≡ 27) where
+  abbrev n : ℕ
+  n = lineOf ls p .count
+
+  abbrev armLines : Term
+  armLines = drop (partLine ls (p + 1) 1) ls
+
+  scrutinee : part 0 (bodyAt ls p) ≡ termAt ls (p + 1)
+  scrutinee =
+      let z = case-parts (lineOf ls p) e in
+      part-at ls p 0 (omega arith) ∙ ap (termAt ls) (sym (line-none ls (p + 1) 0 refl))
+
+  arms-after : afterParts 1 (bodyAt ls p) ≡ takeParts partsOf armLines (2 * n)
+  arms-after =
+      ap (λ (m : ℕ). afterParts 1 (takeParts partsOf (drop (suc p) ls) m)) (case-parts (lineOf ls p) e)
+      ∙ drop-take partsOf (drop (suc p) ls) 1 (2 * n)
+      ∙ ap (λ (q : ℕ). takeParts partsOf (dropParts partsOf (drop q ls) 1) (2 * n)) (sym (add-one p))
+      ∙ ap (λ (xs : Term). takeParts partsOf xs (2 * n)) (sym (drop-line ls (p + 1) 1))
+
+  a-case : termView (termAt ls p) ≡ isCase n (termAt ls (p + 1)) (takeParts partsOf armLines (2 * n))
+  a-case = ap termView (term-head ls p h) ∙ case-head (lineOf ls p) (bodyAt ls p) e ∙ ap₂ (isCase n) scrutinee arms-after
+
+pub case-view : (E : Env) (t : Ty) (ls : List Triple) (p : ℕ) → p < length ls → lineOf ls p .kind ≡ 27
+    → inferBy E t (isCase (lineOf ls p .count) (termAt ls (p + 1)) (drop (partLine ls (p + 1) 1) ls)) ≡ inferBy E t (termView (termAt ls p))
+case-view E t ls p h e =
+    ap fresh (fun-ext (λ a. ap (λ (r : Rule). push (tvar (node 17 a)) (push (chk (termAt ls (p + 1)) (unknown a)) r))
+    (sym (arms-cut E (lineOf ls p .count) (drop (partLine ls (p + 1) 1) ls) (unknown a) t))))
+    ∙ ap (inferBy E t) (sym (a-case ls p h e))
+
+pub case-narrow : (ls : List Triple) (p : ℕ) → p < length ls → lineOf ls p .kind ≡ 27 → IsPart aTerm (termAt ls p) → NarrowArms (lineOf ls p .count) (drop (partLine ls (p + 1) 1) ls)
+case-narrow ls p h e f =
+    arms-narrow (lineOf ls p .count) (drop (partLine ls (p + 1) 1) ls) (subst TermViewWhole (a-case ls p h e) (term-view-whole (termAt ls p) f) .1)

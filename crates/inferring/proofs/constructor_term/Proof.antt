@@ -1,0 +1,34 @@
+use mathlib.Core.Path.{refl, sym, _∙_}
+use denote.Ref.{now}
+use Rattle.nodes.specs.Nodes.{nodesAt}
+use Rattle.sheet.specs.Plan.{triples}
+use Rattle.applying.specs.Applying.{envOn}
+use Rattle.inferring.proofs.Views.{ruled, value-fits, constructor-rule, open-asks}
+use borrow.Author.Needs.{needs}
+use Rattle.inferring.proofs.constructor_term.Statement.{statement}
+use Rattle.inferring.proofs.constructor_term.Tie as tie
+
+value-at-requires : tie.Need-value-at-requires
+value-at-requires c κs =
+    value-fits (c .before .before .before .before .pre .0) refl
+
+infer-constructor-requires : tie.Need-infer-constructor-requires
+infer-constructor-requires c κs =
+    open-asks (c .before .before .before .before .before .before .before .before .before .before .before .pre .0) (c .before .before .before .before .before .before .before .before .before .before .before .pre .1) _ (sym (c .before .before .before .line .given .1) ∙ c .before .before .before .before .before .find-entry .ensures)
+
+returns : tie.Need-returns
+returns c =
+    let p = c .before .before .before .before .before .before .before .before .before .before .before .before .before .before .before .before .pre .0 in
+    let s = now (c .before .before .before .before .before .before .before .before .before .before .before .before .before .before .before .before .args .s) in
+    ruled p (constructor-rule p refl (c .before .before .before .before .before .before .before .before .before .before .before .value-at .ensures) (sym (c .before .before .before .before .before .before .before .before .line .given .1) ∙ c .before .before .before .before .before .before .before .before .before .before .find-entry .ensures)) (λ m. c .before .before .before .before .infer-constructor .ensures (envOn s) (c .before .before .before .before .before .before .before .before .before .before .before .value-at .result) m (triples s))
+
+returns-2 : tie.Need-returns-2
+unfolding nodesAt
+returns-2 c =
+    let p = c .before .before .before .before .before .before .before .before .before .pre .0 in
+    let s = now (c .before .before .before .before .before .before .before .before .before .args .s) in
+    ruled p (constructor-rule p refl (c .before .before .before .before .value-at .ensures) (sym (c .before .enum-told .given .1) ∙ c .before .before .before .find-entry .ensures)) (λ m. c .refuse .ensures .1 m (triples s) _)
+
+pub constructor-term-spec : {M : Type 1} → statement M
+constructor-term-spec =
+    tie.close (tie.spec value-at-requires (λ c. search needs) (λ c κs. search needs) (λ c. search needs) infer-constructor-requires (λ c. search needs) (λ c κs. search needs) (λ c. search needs) (λ c. search needs) returns returns-2)

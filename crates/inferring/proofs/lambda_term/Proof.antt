@@ -1,0 +1,34 @@
+use mathlib.Core.Path.{refl, _∙_}
+use Prim.Native.Nat.{_-_}
+use native.Mathlib.Omega.{arith}
+use denote.Ref.{now}
+use Rattle.applying.specs.Applying.{envOn}
+use Rattle.inferring.proofs.Views.{viewed, value-fits, type-lines, lambda-view}
+use borrow.Author.Needs.{needs}
+use Rattle.inferring.proofs.lambda_term.Statement.{statement}
+use Rattle.inferring.proofs.lambda_term.Tie as tie
+
+value-at-requires : tie.Need-value-at-requires
+value-at-requires c κs =
+    value-fits (c .before .before .before .before .pre .0) refl
+
+sub-n : tie.Need-sub-n
+sub-n c =
+    type-lines (c .before .before .before .before .before .before .before .pre .0) refl (c .wide .ensures ∙ c .before .part-at .ensures) .0
+
+infer-lambda-requires : tie.Need-infer-lambda-requires
+infer-lambda-requires c κs =
+    let p = c .before .before .before .before .before .before .before .before .before .pre .0 in
+    let l = type-lines p refl (c .before .before .wide .ensures ∙ c .before .before .before .part-at .ensures) in
+    let n = l .1 in
+    let r = c .before .before .before .before .before .before .before .before .before .pre .1 in
+    (p .ready .board, p .within, omega arith, l .2)
+
+returns : tie.Need-returns
+returns c =
+    let p = c .before .before .before .before .before .before .before .before .before .before .before .before .before .before .pre .0 in
+    viewed p (lambda-view p refl (c .before .before .before .before .before .before .before .before .before .value-at .ensures) (c .before .before .before .before .before .before .before .wide .ensures) (c .before .before .before .before .before .before .before .before .part-at .ensures)) (λ m. c .before .before .before .before .infer-lambda .ensures .1 m (envOn (now (c .before .before .before .before .before .before .before .before .before .before .before .before .before .before .args .s))))
+
+pub lambda-term-spec : {M : Type 1} → statement M
+lambda-term-spec =
+    tie.close (tie.spec value-at-requires (λ c κs. search needs) (λ c. search needs) (λ c κs. search needs) sub-n infer-lambda-requires (λ c. search needs) (λ c. search needs) returns)

@@ -1,0 +1,26 @@
+use mathlib.Core.Path.{refl}
+use native.Mathlib.Omega.{arith}
+use Rattle.inferring.proofs.Views.{viewed, value-fits, var-view}
+use borrow.Author.Needs.{needs}
+use Rattle.inferring.proofs.variable_term.Statement.{statement}
+use Rattle.inferring.proofs.variable_term.Tie as tie
+
+value-at-requires : tie.Need-value-at-requires
+value-at-requires c κs =
+    value-fits (c .before .before .before .before .pre .0) refl
+
+infer-variable-requires : tie.Need-infer-variable-requires
+infer-variable-requires c κs =
+    let p = c .before .before .before .before .before .before .before .pre .0 in
+    let f = p .few in
+    let l = c .before .before .before .before .before .before .before .pre .1 in
+    record { board = p .ready .board; sheet = p .sheet; lines = omega arith; room = l; type = p .within }
+
+returns : tie.Need-returns
+returns c =
+    let p = c .before .before .before .before .before .before .before .before .before .before .before .before .pre .0 in
+    viewed p (var-view p refl (c .before .before .before .before .before .before .before .value-at .ensures)) (c .before .before .before .before .infer-variable .ensures)
+
+pub variable-term-spec : {M : Type 1} → statement M
+variable-term-spec =
+    tie.close (tie.spec value-at-requires infer-variable-requires (λ c. search needs) (λ c. search needs) returns)
