@@ -63,7 +63,7 @@ pair-at s k (suc n) (suc j) h =
     )
 
 -- ---- nodes
-words-at : (w : List ℕ) (p n i : ℕ) → i < 2 * n → getD (words (nodesAt w p n)) i 0 ≡ getD w (p + i) 0
+pub words-at : (w : List ℕ) (p n i : ℕ) → i < 2 * n → getD (words (nodesAt w p n)) i 0 ≡ getD w (p + i) 0
 unfolding words nodesAt
 words-at w p zero i h = absurd (not-suc-le-zero h)
 words-at w p (suc n) zero h = let e : p ≡ p + 0 = omega arith in ap (λ (x : ℕ). getD w x 0) e

@@ -56,7 +56,7 @@ sheet-stop s = go (readAt s (entries 1 0 ∷ []) 0) refl
     go (Refused l) e = rw e at (entries-stop s)
 
 -- a sheet that is read at all has at most 2,000 lines
-few-lines : (n : ℕ) → lengthOk n ≡ true → n / 29 ≤ 2000
+pub few-lines : (n : ℕ) → lengthOk n ≡ true → n / 29 ≤ 2000
 few-lines n = go (ltb 0 n) (leb n 58000) refl
   where
     go : (a b : Bool) → leb n 58000 ≡ b → (a && (b && eqb (n % 29) 0)) ≡ true → n / 29 ≤ 2000

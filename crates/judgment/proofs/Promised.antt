@@ -93,20 +93,24 @@ bindings-ok : (Plain : Type 0) (bs : Bindings) → All (λ b. All (λ x. kind x 
 bindings-ok Plain [] h g = tt
 bindings-ok Plain (_∶_ x t ∷ bs) h g = (ok-of Plain (λ n. n) t (h .0) (λ p. g p .0), bindings-ok Plain bs (h .1) (λ p. g p .1))
 
+-- where a plan's run starts
+module _ (p : PlanOf) (g : GoodPlan p) where
+  pub plan-env : EnvOK (p .plain ≡ true) (envOf p)
+  plan-env = record {
+    constructors = bindings-ok (p .plain ≡ true) (p .constructors) (g .no-unknowns .constructors) (λ e. g .if-plain e .constructors);
+    context = bindings-ok (p .plain ≡ true) (p .context) (g .no-unknowns .context) (λ e. g .if-plain e .context);
+  }
+
+  pub plan-inv : Inv (p .plain ≡ true) (chk (p .term) (p .expected) ∷ []) [] 0
+  plan-inv = record {
+    entries = ((ok-of (p .plain ≡ true) lineNode (p .term) (g .no-unknowns .term) (λ e. g .if-plain e .term), ok-of (p .plain ≡ true) (λ n. n) (p .expected) (g .no-unknowns .expected) (λ e. g .if-plain e .expected)), tt);
+    fine = tt;
+    solutions = tt;
+  }
+
 pub plan-promise : (L : Limits) (c : ℕ) (p : PlanOf) → GoodPlan p → Promise (chk (p .term) (p .expected)) (p .plain) (runOf L c p)
 unfolding runOf checkType
-plan-promise L c p g =
-    start-promise (p .plain) L (envOf p) hE (chk (p .term) (p .expected)) c (record {
-      entries = ((ok-of (p .plain ≡ true) lineNode (p .term) (g .no-unknowns .term) (λ e. g .if-plain e .term), ok-of (p .plain ≡ true) (λ n. n) (p .expected) (g .no-unknowns .expected) (λ e. g .if-plain e .expected)), tt);
-      fine = tt;
-      solutions = tt;
-    })
-  where
-    hE : EnvOK (p .plain ≡ true) (envOf p)
-    hE = record {
-      constructors = bindings-ok (p .plain ≡ true) (p .constructors) (g .no-unknowns .constructors) (λ e. g .if-plain e .constructors);
-      context = bindings-ok (p .plain ≡ true) (p .context) (g .no-unknowns .context) (λ e. g .if-plain e .context);
-    }
+plan-promise L c p g = start-promise (p .plain) L (envOf p) (plan-env p g) (chk (p .term) (p .expected)) c (plan-inv p g)
 
 -- ---- a sheet
 module _ (P : Node → Type 0) (ls : List Triple) (h : Lines P ls) where

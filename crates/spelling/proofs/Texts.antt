@@ -134,7 +134,7 @@ module _ (s : List ℕ) (i : ℕ) (t : Triple) (z : lineAt s i ≡ Spelt t) wher
       sign-minus false e p q = absurd (let z : _≡_ {A = ℕ} 0 1 = cc in omega arith)
 
 -- ---- the text of a fair triple
-length-field : (w : ℕ) (f : Field) → length (fieldText w f) ≡ w
+pub length-field : (w : ℕ) (f : Field) → length (fieldText w f) ≡ w
 unfolding fieldText
 length-field zero f = refl
 length-field (suc w) f = length-append (fieldText w (front f)) _ ∙ rw (length-field w (front f)) (add-one w)

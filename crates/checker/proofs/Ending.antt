@@ -1,0 +1,133 @@
+-- Steps to the end of a run: what is left from here is the whole. Assumes nothing.
+use mathlib.Core.Path.{_≡_, refl, sym, ap, ap₂, _∙_, subst, subst⁻¹}
+use mathlib.Core.Bool.{Bool, true, false, cond, _&&_, and-eq-true-iff}
+use mathlib.Core.List.{List, [], _∷_}
+use Prim.Native.Nat.{ℕ, zero, suc, _+_, _*_, _-_, _≤_, _<_}
+use native.Mathlib.Nat.{add-zero, not-suc-le-zero}
+use native.Mathlib.Numerals.{add-one}
+use native.Mathlib.Omega.{arith}
+use lib.Dec.{ltb}
+use lib.ListN.{length}
+use borrow.Author.Tests.{ltb-true, ltb-false}
+use Rattle.nodes.specs.Nodes.{nodesAt}
+use Rattle.spelling.specs.declared.Triple.{Triple}
+use Rattle.sheet.specs.Plan.{triples}
+use Rattle.judgment.specs.Solutions.{Solutions}
+use Rattle.judgment.specs.Board.{Entry, Limits, Operation, State, state, Outcome, finished, refused, perform, operations}
+use Rattle.judgment.specs.Board.{Board as Entries}
+use Rattle.judgment.specs.Rules.{Env, rule}
+use Rattle.judgment.specs.Run.{Step, step, End, accepted, ceiling, refusedBy, addStep, onward, runFrom}
+use Rattle.judgment.specs.Run.{Run as Steps, run as steps}
+use Rattle.judgment.specs.Result.{limits}
+use Rattle.board.specs.Board.{entryAt, entriesOf}
+use Rattle.book.specs.Book.{sols}
+use Rattle.operations.specs.declared.Halt.{Halt}
+use Rattle.operations.specs.declared.Halt.the-variants.{Going, Refused}
+use Rattle.operations.specs.declared.Run.{Run}
+use Rattle.operations.specs.State.{reported, outcomeBy, outcomeOf, stateOf, going}
+use Rattle.operations.proofs.Latch.{going-is}
+use Rattle.applying.specs.Applying.{envOn}
+use Rattle.checker.specs.Running.{startOf, stepO, after, Told, told, endBy, endOf, Reached}
+
+-- ---- on the definition
+module _ (L : Limits) (E : Env) (C : ℕ) where
+  -- what is left of a run with ceiling C, m entries having been taken
+  abbrev pub leftOf : ℕ → Outcome → Told
+  leftOf m (finished s) = told m (runFrom L E (C - m) s)
+  leftOf m (refused r ts s) = record { end = refusedBy r ts; taken = m; last = s }
+
+  add-told : (m : ℕ) (t : Step) (R : Steps) → told (m + 1) R ≡ told m (addStep t R)
+  add-told m t (steps ss e s) =
+      let z : m + 1 + length ss ≡ m + suc (length ss) = omega arith in
+      ap (λ (n : ℕ). record { end = e; taken = n; last = s }) z
+
+  onward-told : (m c : ℕ) → C - (m + 1) ≡ c → (s : State) (e : Entry) (os : List Operation) (o : Outcome)
+      → leftOf (m + 1) o ≡ told m (onward L E s e os o (λ x. runFrom L E c x))
+  onward-told m c z s e os (finished s′) = ap (λ (n : ℕ). told (m + 1) (runFrom L E n s′)) z ∙ add-told m (step s e os (finished s′)) (runFrom L E c s′)
+  onward-told m c z s e os (refused r ts s′) = refl
+
+  left-turn : (m : ℕ) → m < C → (e : Entry) (Γ : Entries) (σ : Solutions) (n : ℕ)
+      → leftOf (m + 1) (stepO L E (finished (state (e ∷ Γ) σ n))) ≡ leftOf m (finished (state (e ∷ Γ) σ n))
+  unfolding runFrom
+  left-turn m h e Γ σ n =
+      let z : suc (C - (m + 1)) ≡ C - m = omega arith in
+      onward-told m (C - (m + 1)) refl (state (e ∷ Γ) σ n) e (operations L (rule E e) Γ σ n) (perform L (rule E e) Γ σ n)
+      ∙ ap (λ (c : ℕ). told m (runFrom L E c (state (e ∷ Γ) σ n))) z
+
+  -- ---- in words
+  turn-entries : (ls : List Triple) (b : List ℕ) (i : ℕ) → 0 < i → (m : ℕ) → m < C → (σ : Solutions) (n : ℕ)
+      → leftOf (m + 1) (stepO L E (finished (state (entriesOf ls b i) σ n))) ≡ leftOf m (finished (state (entriesOf ls b i) σ n))
+  unfolding entriesOf
+  turn-entries ls b zero h m l σ n = absurd (not-suc-le-zero h)
+  turn-entries ls b (suc i) h m l σ n = left-turn m l (entryAt ls b i) (entriesOf ls b i) σ n
+
+  end-entries : (ls : List Triple) (b rep : List ℕ) (i m : ℕ) (σ : Solutions) (n : ℕ) → (0 < i → C ≤ m)
+      → leftOf m (finished (state (entriesOf ls b i) σ n)) ≡ record { end = endBy Going i rep; taken = m; last = state (entriesOf ls b i) σ n }
+  unfolding runFrom entriesOf
+  end-entries ls b rep zero m σ n h = go (C - m)
+    where
+      go : (c : ℕ) → told m (runFrom L E c (state [] σ n)) ≡ record { end = accepted; taken = m; last = state [] σ n }
+      go zero = ap (λ (k : ℕ). record { end = accepted; taken = k; last = state [] σ n }) (add-zero m)
+      go (suc c) = ap (λ (k : ℕ). record { end = accepted; taken = k; last = state [] σ n }) (add-zero m)
+  end-entries ls b rep (suc i) m σ n h =
+      let z : C - m ≡ 0 = (let y = h (omega arith) in omega arith) in
+      let s : State = state (entryAt ls b i ∷ entriesOf ls b i) σ n in
+      ap (λ (c : ℕ). told m (runFrom L E c s)) z ∙ ap (λ (k : ℕ). record { end = ceiling; taken = k; last = s }) (add-zero m)
+
+-- ---- the loop
+pub record Loop (s : List ℕ) (C : ℕ) (b k rep : List ℕ) (c : Run) : Type 0 where
+  pub reached : Reached s b k rep c
+  pub left : leftOf limits (envOn s) C (c .taken) (outcomeOf (triples s) b k rep c) ≡ told 0 (runFrom limits (envOn s) C (startOf (triples s)))
+
+pub loop-start : {s : List ℕ} (C : ℕ) {b k rep : List ℕ} {c : Run} → Reached s b k rep c → c .taken ≡ 0 → Loop s C b k rep c
+unfolding after
+loop-start {s} C {b} {k} {rep} {c} r z =
+    let E = envOn s in
+    let S = startOf (triples s) in
+    let y : C - 0 ≡ C = omega arith in
+    record {
+      reached = r;
+      left =
+          ap₂ (leftOf limits E C) z (r .outcome ∙ ap (after limits E S) z)
+          ∙ ap (λ (n : ℕ). told 0 (runFrom limits E n S)) y;
+    }
+
+-- what the test tells
+pub more-facts : (c : Run) (C : ℕ) → (going (c .halt) && (ltb 0 (c .board .entries) && ltb (c .taken) C)) ≡ true → (going (c .halt) ≡ true) × (0 < c .board .entries) × (c .taken < C)
+more-facts c C e =
+    let x = and-eq-true-iff (going (c .halt)) (ltb 0 (c .board .entries) && ltb (c .taken) C) .0 e in
+    let y = and-eq-true-iff (ltb 0 (c .board .entries)) (ltb (c .taken) C) .0 (x .1) in
+    (x .0, ltb-true 0 (c .board .entries) (y .0), ltb-true (c .taken) C (y .1))
+
+pub loop-turn : {s : List ℕ} {C : ℕ} {b k rep : List ℕ} {c : Run} {b' k' rep' : List ℕ} {q : Run} → (going (c .halt) ≡ true) × (0 < c .board .entries) × (c .taken < C)
+    → Loop s C b k rep c → Reached s b' k' rep' q × (q .taken ≡ c .taken + 1) → Loop s C b' k' rep' q
+unfolding after
+loop-turn {s} {C} {b} {k} {rep} {c} {b'} {k'} {rep'} {q} f h r =
+    let E = envOn s in
+    let ls = triples s in
+    let S = startOf ls in
+    let g = going-is (c .halt) (f .0) in
+    let o : outcomeOf ls b' k' rep' q ≡ stepO limits E (outcomeOf ls b k rep c) =
+    r .0 .outcome ∙ ap (after limits E S) (r .1 ∙ add-one (c .taken)) ∙ ap (stepO limits E) (sym (h .reached .outcome)) in
+    let t : leftOf limits E C (c .taken + 1) (stepO limits E (outcomeBy (c .halt) rep (stateOf ls b k c))) ≡ leftOf limits E C (c .taken) (outcomeBy (c .halt) rep (stateOf ls b k c)) =
+    rw g (turn-entries limits E C ls b (c .board .entries) (f .1) (c .taken) (f .2) (sols k) (c .fresh)) in
+    record {
+      reached = r .0;
+      left = ap₂ (leftOf limits E C) (r .1) o ∙ t ∙ h .left;
+    }
+
+-- no more is taken
+ended : (L : Limits) (E : Env) (C : ℕ) (ls : List Triple) (b rep : List ℕ) (h : Halt) (i m : ℕ) (σ : Solutions) (n : ℕ) → (going h && (ltb 0 i && ltb m C)) ≡ false
+    → leftOf L E C m (outcomeBy h rep (state (entriesOf ls b i) σ n)) ≡ record { end = endBy h i rep; taken = m; last = state (entriesOf ls b i) σ n }
+ended L E C ls b rep Going i m σ n e = end-entries L E C ls b rep i m σ n (λ l. go (ltb 0 i) (ltb m C) refl refl l e)
+  where
+    go : (x y : Bool) → ltb 0 i ≡ x → ltb m C ≡ y → 0 < i → (x && y) ≡ false → C ≤ m
+    go true true p q l z = absurd (let u : _≡_ {A = ℕ} 0 1 = cc in omega arith)
+    go true false p q l z = ltb-false m C q
+    go false y p q l z = absurd (let u = ltb-false 0 i p in omega arith)
+ended L E C ls b rep (Refused r) i m σ n e = refl
+
+pub loop-end : {s : List ℕ} {C : ℕ} {b k rep : List ℕ} {c : Run} → Loop s C b k rep c → (going (c .halt) && (ltb 0 (c .board .entries) && ltb (c .taken) C)) ≡ false
+    → told 0 (runFrom limits (envOn s) C (startOf (triples s))) ≡ record { end = endOf rep c; taken = c .taken; last = stateOf (triples s) b k c }
+loop-end {s} {C} {b} {k} {rep} {c} h e =
+    sym (h .left) ∙ ended limits (envOn s) C (triples s) b rep (c .halt) (c .board .entries) (c .taken) (sols k) (c .fresh) e

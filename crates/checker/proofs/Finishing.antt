@@ -1,0 +1,177 @@
+-- The seven numbers and the buffers, read off the end of a run. Assumes nothing.
+use mathlib.Core.Path.{_≡_, refl, sym, ap, ap₂, _∙_, subst, subst⁻¹}
+use mathlib.Core.Bool.{Bool, true, false, cond}
+use mathlib.Core.List.{List, [], _∷_, _++_, append-nil}
+use Prim.Native.Nat.{ℕ, zero, suc, _+_, _*_, _-_, _≤_, _<_}
+use native.Mathlib.Nat.{zero-add}
+use native.Mathlib.Omega.{arith}
+use lib.Dec.{eqb, ltb}
+use lib.ListN.{length, getD, take, drop, replicate, length-append, length-replicate, drop-of-length-le}
+use lib.Seq.{sets, length-sets, sets-eq, take-all, length-take-le, getD-take, getD-append-add, ext-getD}
+use lib.ListN.{List·getD-append, getD-replicate}
+use borrow.Author.Tests.{ltb-true, ltb-false, lt-ltb, le-ltb, ne-eqb}
+use Rattle.nodes.specs.Nodes.{Ty, words, nodesAt, zeros}
+use Rattle.nodes.proofs.Laws.{length-words, length-nodesAt, getD-sets-below, getD-sets-in}
+use Rattle.spelling.specs.declared.Triple.{Triple}
+use Rattle.sheet.specs.Plan.{triples, isPlain, planOf}
+use Rattle.judgment.specs.declared.Answer.{Answer}
+use Rattle.judgment.specs.declared.Details.{Details}
+use Rattle.judgment.specs.declared.TypeError.{TypeError}
+use Rattle.judgment.specs.Solutions.{Solutions}
+use Rattle.judgment.specs.Board.{State, state}
+use Rattle.judgment.specs.Run.{Step, End, runFrom, checkType}
+use Rattle.judgment.specs.Run.{Run as Steps, run as steps}
+use Rattle.judgment.specs.Result.{Result, endNumber, endDetails, endReport, resultOf, envOf, runOf, judge, limits, padded, bookWords, reportWords, boardWords}
+use Rattle.judgment.proofs.Words.{length-board}
+use Rattle.book.specs.declared.Book.{Book}
+use Rattle.book.specs.Book.{sols, Booked}
+use Rattle.book.proofs.Words.{words-at, book-words}
+use Rattle.operations.specs.declared.Halt.{Halt}
+use Rattle.operations.specs.declared.Halt.the-variants.{Going, Refused}
+use Rattle.operations.specs.declared.Run.{Run}
+use Rattle.operations.specs.State.{reported, stateOf, WellFormed}
+use Rattle.applying.specs.Applying.{envOn}
+use Rattle.checker.specs.Running.{startOf, Told, told, endBy, endOf, reportEnd, answerBy}
+use Rattle.checker.specs.Calling.{Ran}
+
+-- ---- the result
+abbrev counterOf : State → ℕ
+counterOf (state Γ σ n) = n
+
+abbrev solutionsOf : State → Solutions
+solutionsOf (state Γ σ n) = σ
+
+abbrev resultTold : Bool → Told → Result
+resultTold plain t = record {
+  answer = answerBy plain (t .end) (t .taken) (counterOf (t .last));
+  report = endReport (t .end);
+  solutions = solutionsOf (t .last);
+}
+
+result-told : (plain : Bool) (R : Steps) → resultOf plain R ≡ resultTold plain (told 0 R)
+unfolding resultOf
+result-told plain (steps ss e (state Γ σ n)) =
+    ap (λ (m : ℕ). resultTold plain (record { end = e; taken = m; last = state Γ σ n })) (sym (zero-add (length ss)))
+
+pub judged : (s : List ℕ) (C : ℕ) (b k rep : List ℕ) (c : Run) → told 0 (runFrom limits (envOn s) C (startOf (triples s))) ≡ record { end = endOf rep c; taken = c .taken; last = stateOf (triples s) b k c }
+    → judge limits C (triples s) ≡ record {
+      answer = answerBy (planOf (triples s) .plain) (endOf rep c) (c .taken) (c .fresh);
+      report = endReport (endOf rep c);
+      solutions = sols k;
+    }
+unfolding judge runOf checkType
+judged s C b k rep c e =
+    let p = planOf (triples s) in
+    result-told (p .plain) (runFrom limits (envOn s) C (startOf (triples s))) ∙ ap (resultTold (p .plain)) e
+
+-- ---- the numbers of an end
+pub going-number : (i : ℕ) (rep : List ℕ) → endNumber (endBy Going i rep) ≡ cond (eqb i 0) 0 21
+going-number zero rep = refl
+going-number (suc i) rep = sym (ap (λ (b : Bool). cond b 0 21) (ne-eqb (suc i) 0 (λ z. omega arith)))
+
+pub going-details : (i : ℕ) (rep : List ℕ) → endDetails (endBy Going i rep) ≡ (0, 0)
+going-details zero rep = refl
+going-details (suc i) rep = refl
+
+pub answer-is : (plain : Bool) (e : End) (taken fresh : ℕ) {n m : ℕ} {d : Details} → n ≡ endNumber e → d ≡ endDetails e → m ≡ cond plain 1 0
+    → record { number = n; line = 0; taken = taken; fresh = fresh; detail1 = d .0; detail2 = d .1; plain = m } ≡ answerBy plain e taken fresh
+answer-is plain e taken fresh p q r = rw (p, q, r) refl
+
+pub refused-fits : {h : Halt} {e : TypeError} {n : ℕ} → h ≡ Refused e → n ≡ reported e → n < 2048 → 2 * n ≡ reportEnd h
+refused-fits {h} {e} {n} p q l = rw q (sym (ap reportEnd p ∙ ap (λ (b : Bool). cond b (2 * reported e) 4096) (lt-ltb (reported e) 2048 (omega arith))))
+
+pub refused-over : {h : Halt} {e : TypeError} {n : ℕ} → h ≡ Refused e → n ≡ reported e → 2048 ≤ n → 4096 ≡ reportEnd h
+refused-over {h} {e} {n} p q l = sym (ap reportEnd p ∙ ap (λ (b : Bool). cond b (2 * reported e) 4096) (le-ltb (reported e) 2048 (omega arith)))
+
+-- ---- the buffers
+-- all words of a buffer of that length
+pub all-set : (l vs : List ℕ) → length l ≡ length vs → sets l 0 vs ≡ vs
+all-set l vs e =
+    let z : length l ≤ 0 + length vs = omega arith in
+    sets-eq vs l 0 (omega arith) ∙ ap (λ (r : List ℕ). vs ++ r) (drop-of-length-le l z) ∙ append-nil vs
+
+pub whole-board : (b b' : List ℕ) → length b ≡ 16384 → b' ≡ sets b 0 boardWords → b' ≡ boardWords
+whole-board b b' l e = e ∙ all-set b boardWords (l ∙ sym length-board)
+
+pub whole-book : {k : List ℕ} {d : Book} → Booked k d → length k ≡ 10192 → k ≡ bookWords (sols k)
+whole-book {k} {d} h e = sym (take-all 10192 k (omega arith)) ∙ book-words k d h
+
+-- the report: n nodes, and then 0
+module _ (rep : List ℕ) (len : length rep ≡ 4096) (n : ℕ) where
+  abbrev end : ℕ
+  end = cond (ltb n 2048) (2 * n) 4096
+
+  abbrev W : List ℕ
+  W = words (nodesAt rep 0 n)
+
+  long : length W ≡ 2 * n
+  long = length-words (nodesAt rep 0 n) ∙ ap (λ (m : ℕ). 2 * m) (length-nodesAt rep 0 n)
+
+  -- a word of the types
+  in-types : (i : ℕ) → i < 2 * n → getD (W ++ replicate 4096 0) i 0 ≡ getD rep i 0
+  in-types i h =
+      let l = long in
+      List·getD-append W (replicate 4096 0) 0 i (omega arith) ∙ words-at rep 0 n i h ∙ ap (λ (j : ℕ). getD rep j 0) (zero-add i)
+
+  word-is : (i : ℕ) → i < 4096 → (b : Bool) → ltb n 2048 ≡ b → getD (sets rep (cond b (2 * n) 4096) (zeros (4096 - cond b (2 * n) 4096))) i 0 ≡ getD (W ++ replicate 4096 0) i 0
+  unfolding zeros
+  word-is i h true e = go (ltb i (2 * n)) refl
+    where
+      go : (b : Bool) → ltb i (2 * n) ≡ b → getD (sets rep (2 * n) (replicate (4096 - 2 * n) 0)) i 0 ≡ getD (W ++ replicate 4096 0) i 0
+      go true q = let x = ltb-true i (2 * n) q in getD-sets-below rep (2 * n) (replicate (4096 - 2 * n) 0) i x ∙ sym (in-types i x)
+      go false q =
+          let x = ltb-false i (2 * n) q in
+          let y = ltb-true n 2048 e in
+          let l = long in
+          let z : 2 * n + (i - 2 * n) ≡ i = omega arith in
+          let u : i ≡ length W + (i - 2 * n) = omega arith in
+          let m = length-replicate {A = ℕ} (4096 - 2 * n) 0 in
+          ap (λ (j : ℕ). getD (sets rep (2 * n) (replicate (4096 - 2 * n) 0)) j 0) (sym z)
+          ∙ getD-sets-in rep (2 * n) (replicate (4096 - 2 * n) 0) (i - 2 * n) (omega arith) (omega arith)
+          ∙ getD-replicate (4096 - 2 * n) (i - 2 * n) 0 0 (omega arith)
+          ∙ sym (ap (λ (j : ℕ). getD (W ++ replicate 4096 0) j 0) u ∙ getD-append-add W (replicate 4096 0) (i - 2 * n) 0 ∙ getD-replicate 4096 (i - 2 * n) 0 0 (omega arith))
+  word-is i h false e =
+      let x = ltb-false n 2048 e in
+      getD-sets-below rep 4096 (replicate (4096 - 4096) 0) i h ∙ sym (in-types i (omega arith))
+
+  pub report-is : sets rep end (zeros (4096 - end)) ≡ reportWords (nodesAt rep 0 n)
+  unfolding reportWords padded
+  report-is =
+      let l = length-append W (replicate 4096 0) in
+      let r = length-replicate {A = ℕ} 4096 0 in
+      let m = length-take-le 4096 (W ++ replicate 4096 0) (omega arith) in
+      let a = length-sets rep end (zeros (4096 - end)) in
+      ext-getD 0 (sets rep end (zeros (4096 - end))) (take 4096 (W ++ replicate 4096 0)) (a ∙ len ∙ sym m)
+      (λ i q.
+      let h : i < 4096 = omega arith in
+      word-is i h (ltb n 2048) refl ∙ sym (getD-take 4096 (W ++ replicate 4096 0) i 0 h))
+
+-- at any end
+pub ended-report : (rep : List ℕ) → length rep ≡ 4096 → (h : Halt) (i : ℕ) → sets rep (reportEnd h) (zeros (4096 - reportEnd h)) ≡ reportWords (endReport (endBy h i rep))
+unfolding nodesAt
+ended-report rep len Going zero = report-is rep len 0
+ended-report rep len Going (suc i) = report-is rep len 0
+ended-report rep len (Refused e) i = report-is rep len (reported e)
+
+pub end-small : (h : Halt) → reportEnd h ≤ 4096
+end-small Going = omega arith
+end-small (Refused e) = go (ltb (reported e) 2048) refl
+  where
+    go : (b : Bool) → ltb (reported e) 2048 ≡ b → cond b (2 * reported e) 4096 ≤ 4096
+    go true q = let x = ltb-true (reported e) 2048 q in omega arith
+    go false q = omega arith
+
+-- ---- all of it
+pub ran : (s : List ℕ) (C : ℕ) {b k : List ℕ} (rep : List ℕ) (c : Run) {b' rep' : List ℕ} {a : Answer} {plain : Bool} {n : ℕ}
+    → WellFormed b k c × (told 0 (runFrom limits (envOn s) C (startOf (triples s))) ≡ record { end = endOf rep c; taken = c .taken; last = stateOf (triples s) b k c })
+    → length k ≡ 10192 → length rep ≡ 4096 → b' ≡ boardWords → n ≡ reportEnd (c .halt) → rep' ≡ sets rep n (zeros (4096 - n))
+    → plain ≡ isPlain (triples s) → ((rep : List ℕ) → a ≡ answerBy plain (endOf rep c) (c .taken) (c .fresh)) → Ran (judge limits C (triples s)) b' k rep' a
+unfolding planOf
+ran s C {b} {k} rep c h lk lr eb en er ep ea =
+    let j = judged s C b k rep c (h .1) in
+    record {
+      answer = ea rep ∙ ap (λ (p : Bool). answerBy p (endOf rep c) (c .taken) (c .fresh)) ep ∙ sym (ap (λ (r : Result). r .answer) j);
+      board = eb;
+      book = whole-book (h .0 .book) lk ∙ sym (ap (λ (r : Result). bookWords (r .solutions)) j);
+      report = er ∙ ap (λ (m : ℕ). sets rep m (zeros (4096 - m))) en ∙ ended-report rep lr (c .halt) (c .board .entries) ∙ sym (ap (λ (r : Result). reportWords (r .report)) j);
+    }

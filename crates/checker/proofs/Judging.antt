@@ -1,0 +1,145 @@
+-- The rule of a taken entry, by what the entry is. Assumes nothing.
+use mathlib.Core.Path.{_≡_, refl, sym, ap, _∙_, subst, subst⁻¹}
+use mathlib.Core.Logic.{_≢_}
+use mathlib.Core.Bool.{Bool, true, false, cond, _&&_}
+use mathlib.Core.List.{List, [], _∷_}
+use Prim.Native.Nat.{ℕ, zero, suc, _+_, _*_, _/_, _%_, _≤_, _<_}
+use native.Mathlib.Omega.{arith}
+use lib.Dec.{eqb, leb, ltb}
+use lib.ListN.{length, drop, drop-of-length-le}
+use borrow.Author.Tests.{eq-eqb, ne-eqb, leb-true, ltb-true, ltb-false}
+use lib.Seq.{sets}
+use Rattle.nodes.specs.Nodes.{node, Ty, words, nodesAt}
+use Rattle.nodes.specs.Parts.{takeParts}
+use Rattle.nodes.proofs.PartLaws.{take-all}
+use Rattle.nodes.proofs.Laws.{length-nodesAt, nodesAt-same}
+use Rattle.spelling.specs.Spelling.{linesOf, firstMisspelt}
+use Rattle.spelling.specs.declared.Triple.{Triple}
+use Rattle.kinds.specs.Kinds.{aTerm, partsOf}
+use Rattle.grammar.specs.declared.Check.{Check}
+use Rattle.grammar.specs.declared.Check.the-variants.{Plan, Length}
+use Rattle.grammar.specs.Check.{check, lengthOk}
+use Rattle.grammar.proofs.Lines.{few-lines}
+use Rattle.sheet.specs.Plan.{triples}
+use Rattle.sheet.specs.Form.{IsPart}
+use Rattle.sheet.proofs.Lines.{length-triples}
+use Rattle.sheet.proofs.Formed.{formed}
+use Rattle.judgment.specs.Types.{view}
+use Rattle.judgment.specs.Terms.{termView}
+use Rattle.judgment.specs.Board.{Entry, tvar, var, sub, inf, chk, infApp, Rule, done}
+use Rattle.judgment.specs.Rules.{Env, subtype, inferBy, checkBy, inferApp, rule}
+use Rattle.board.specs.declared.Top.{Top}
+use Rattle.board.specs.Board.{termAt, entryOf}
+use Rattle.operations.specs.declared.Run.{Run}
+use Rattle.operations.specs.State.{WellFormed}
+use Rattle.patterns.specs.Turns.{Ready}
+use Rattle.subtyping.specs.Subtyping.{Sound, SubtypeAsk}
+use Rattle.checking.specs.Checking.{CheckAsk}
+use Rattle.inferring.specs.Inferring.{InferAsk}
+use Rattle.checker.specs.Running.{topEntry, EntrySound, JudgeAsk}
+
+-- ---- a sheet that is taken
+-- it has at most 2,000 lines
+pub plan-few : (s : List ℕ) → check s ≡ Plan → length (triples s) ≤ 2000
+unfolding check
+plan-few s e = let n = length-triples s in let m = go (lengthOk (length s)) refl _ e in omega arith
+  where
+    go : (b : Bool) → lengthOk (length s) ≡ b → (x : Check) → cond b x Length ≡ Plan → length s / 29 ≤ 2000
+    go true h x q = few-lines (length s) h
+    go false h x q = absurd (let z : _≡_ {A = ℕ} 0 1 = cc in omega arith)
+
+-- a part that is there stands on a line
+pub part-stands : (x : ℕ) (ls : List Triple) (p : ℕ) → IsPart x (termAt ls p) → p < length ls
+unfolding termAt
+part-stands x ls p h = go (ltb p (length ls)) refl
+  where
+    go : (b : Bool) → ltb p (length ls) ≡ b → p < length ls
+    go true e = ltb-true p (length ls) e
+    go false e = absurd (subst (IsPart x) (ap (λ (xs : List Triple). takeParts partsOf xs 1) (drop-of-length-le ls (ltb-false p (length ls) e)) ∙ take-all partsOf [] 1 (omega arith)) h)
+
+-- ---- what an entry is
+module _ (ls : List Triple) (n : ℕ) (t u : Ty) where
+  pub is-sub : (k : ℕ) → k ≡ 3 → entryOf ls k n t u ≡ sub t u
+  unfolding entryOf
+  is-sub k e = rw e refl
+
+  pub is-inf : (k : ℕ) → k ≡ 4 → entryOf ls k n t u ≡ inf (termAt ls n) t
+  unfolding entryOf
+  is-inf k e = rw e refl
+
+  pub is-chk : (k : ℕ) → k ≡ 5 → entryOf ls k n t u ≡ chk (termAt ls n) t
+  unfolding entryOf
+  is-chk k e = rw e refl
+
+  pub is-app : (k : ℕ) → k ≡ 6 → entryOf ls k n t u ≡ infApp t (termAt ls n) u
+  unfolding entryOf
+  is-app k e = rw e refl
+
+  -- a TVar or a Var
+  pub is-other : (E : Env) (k : ℕ) → k ≢ 3 → k ≢ 4 → k ≢ 5 → k ≢ 6 → done ≡ rule E (entryOf ls k n t u)
+  unfolding entryOf
+  is-other E k a b c d = rw (ne-eqb k 3 a, ne-eqb k 4 b, ne-eqb k 5 c, ne-eqb k 6 d) (go (eqb k 2))
+    where
+      go : (x : Bool) → done ≡ rule E (cond x (var n t) (tvar (node k n)))
+      go true = refl
+      go false = refl
+
+module _ {s b k rep : List ℕ} {c : Run} {o : Top} {t l : List ℕ} (a : JudgeAsk s b k rep c o t l) where
+  abbrev ls : List Triple
+  ls = triples s
+
+  pub within-board : o .at + 2 * (o .left + o .right) ≤ length b
+  within-board = let x = a .within in let y = a .formed .board .room in omega arith
+
+  pub copy-asks : (0 + 2 * o .left ≤ length t) × (o .at + 2 * o .left ≤ length b)
+  copy-asks =
+      let x = a .few in
+      let y = a .lent .type in
+      let z = within-board in
+      (omega arith, omega arith)
+
+  two-sound : Sound (c .fresh) (nodesAt b (o .at) (o .left)) × Sound (c .fresh) (nodesAt b (o .at + 2 * o .left) (o .right)) → SubtypeAsk b k rep c (o .at) (o .left) (o .right) 1024
+  two-sound q = record {
+    formed = a .formed;
+    within = within-board;
+    limit = omega arith;
+    report = let x = a .report in omega arith;
+    left = q .0;
+    right = q .1;
+    solutions = a .solutions;
+  }
+
+  pub subtype-asks : o .kind ≡ 3 → SubtypeAsk b k rep c (o .at) (o .left) (o .right) 1024
+  subtype-asks e = two-sound (subst (EntrySound (c .fresh)) (is-sub ls (o .number) _ _ (o .kind) e) (a .entry))
+
+  pub app-asks : o .kind ≡ 6 → SubtypeAsk b k rep c (o .at) (o .left) (o .right) 1024
+  app-asks e = two-sound (subst (EntrySound (c .fresh)) (is-app ls (o .number) _ _ (o .kind) e) (a .entry))
+
+  pub infer-asks : o .kind ≡ 4 → (t' : List ℕ) → length t' ≡ length t → InferAsk b c s (o .number) t' (o .left) l
+  infer-asks e t' q =
+      let h = subst (EntrySound (c .fresh)) (is-inf ls (o .number) _ _ (o .kind) e) (a .entry) in
+      let n = plan-few s (a .plan) in
+      record {
+        ready = record { board = a .formed .board; numbers = a .formed .numbers };
+        sheet = formed s (a .plan);
+        few = n;
+        stands = part-stands aTerm ls (o .number) h;
+        term = h;
+        within = let x = copy-asks .0 in omega arith;
+        left = a .lent .left;
+      }
+
+  pub check-asks : o .kind ≡ 5 → (t' : List ℕ) → length t' ≡ length t → CheckAsk b c s (o .number) t' (o .left) l
+  check-asks e t' q =
+      let h = subst (EntrySound (c .fresh)) (is-chk ls (o .number) _ _ (o .kind) e) (a .entry) in
+      let n = plan-few s (a .plan) in
+      let g = a .lent .left in
+      record {
+        board = a .formed .board;
+        stands = part-stands aTerm ls (o .number) h;
+        few = n;
+        term = h;
+        within = let x = copy-asks .0 in omega arith;
+        short = let x = a .few in omega arith;
+        room = omega arith;
+      }

@@ -1,0 +1,7 @@
+pub mod Reaching
+pub mod Judging
+pub mod Stepping
+pub mod Ending
+pub mod Starting
+pub mod Finishing
+pub mod Answering

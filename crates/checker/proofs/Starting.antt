@@ -1,0 +1,183 @@
+-- Where the run of a sheet starts, in words. Assumes nothing.
+use mathlib.Core.Path.{_≡_, refl, sym, ap, ap₂, _∙_, subst, subst⁻¹}
+use mathlib.Core.List.{List, [], _∷_, _++_, append-nil}
+use Prim.Native.Nat.{ℕ, zero, suc, _+_, _*_, _-_, _≤_, _<_}
+use native.Mathlib.Nat.{add-zero}
+use native.Mathlib.Omega.{arith}
+use lib.ListN.{length, take, drop}
+use lib.Seq.{sets}
+use Rattle.nodes.specs.Nodes.{Ty, words, nodesAt}
+use Rattle.nodes.specs.Lists.{All}
+use Rattle.nodes.specs.Parts.{takeParts, dropParts}
+use Rattle.nodes.proofs.Laws.{length-nodesAt}
+use Rattle.nodes.proofs.PartLaws.{take-drop}
+use Rattle.spelling.specs.declared.Triple.{Triple}
+use Rattle.kinds.specs.Kinds.{aType, aTerm, partsOf}
+use Rattle.grammar.specs.declared.Check.the-variants.{Plan}
+use Rattle.grammar.specs.Check.{check}
+use Rattle.grammar.specs.Grammar.{Item, part as item}
+use Rattle.sheet.specs.declared.Places.{Places}
+use Rattle.sheet.specs.Plan.{triples, partLine, nodesOf, Narrow, placesOf, planOf}
+use Rattle.sheet.specs.Form.{Forms, IsPart}
+use Rattle.sheet.proofs.Lines.{length-triples}
+use Rattle.sheet.proofs.Forming.{split}
+use Rattle.sheet.proofs.TypeLines.{type-narrow}
+use Rattle.sheet.proofs.Formed.{formed}
+use Rattle.judgment.specs.Board.{chk, State, state, Outcome, finished}
+use Rattle.judgment.specs.Result.{bookWords, limits}
+use Rattle.applying.specs.Applying.{envOn}
+use Rattle.board.specs.declared.Board.{Board}
+use Rattle.board.specs.Board.{termAt, entryOf, entriesOf, Stacked, laid, grown, PushAsk}
+use Rattle.board.proofs.Stacks.{laid-entries, laid-stacked, new-stacked, no-entries}
+use Rattle.board.proofs.Terms.{part-lines}
+use Rattle.book.specs.declared.Book.{Book}
+use Rattle.book.specs.Book.{sols}
+use Rattle.book.proofs.Words.{new-sols, new-booked, zero-at}
+use Rattle.inference.proofs.Heads.{part-within}
+use Rattle.inference.proofs.Written.{length-typeOn, copied}
+use Rattle.operations.specs.declared.Halt.the-variants.{Going}
+use Rattle.operations.specs.declared.Run.{Run}
+use Rattle.operations.specs.State.{outcomeOf, WellFormed}
+use Rattle.checker.specs.Running.{startOf, after, StartAsk, Reached}
+use Rattle.checker.proofs.Judging.{plan-few, part-stands}
+
+-- a part that is all there is
+no-lines : (ts : List Triple) → Forms ts [] → ts ≡ []
+no-lines [] f = refl
+no-lines (t ∷ ts) f = absurd f
+
+alone : (x : ℕ) (ts : List Triple) → IsPart x ts → takeParts partsOf ts 1 ≡ ts
+alone x ts f =
+    let q = no-lines (dropParts partsOf ts 1) (split ts (item x ∷ []) [] tt f .1) in
+    sym (append-nil (takeParts partsOf ts 1)) ∙ ap (λ (ys : List Triple). takeParts partsOf ts 1 ++ ys) (sym q) ∙ take-drop partsOf ts 1
+
+module _ (s : List ℕ) (h : check s ≡ Plan) where
+  abbrev ls : List Triple
+  ls = triples s
+
+  abbrev at : ℕ
+  at = placesOf ls .expected
+
+  expected-part : IsPart aType (termAt ls at)
+  unfolding termAt
+  expected-part = formed s h .expected
+
+  -- the expected type stands within the sheet
+  pub expected-within : (at ≤ partLine ls at 1) × (partLine ls at 1 ≤ 2000)
+  expected-within =
+      let l = part-stands aType ls at expected-part in
+      let w = part-within ls at 1 (omega arith) in
+      let n = plan-few s h in
+      let w1 = w .1 in
+      (w .0, omega arith)
+
+  pub copy-start : (t : List ℕ) → 8192 ≤ length t → (let n = partLine ls at 1 - at in (0 + 2 * n ≤ length t) × (at + n ≤ length ls) × All Narrow (take n (drop at ls)))
+  copy-start t m =
+      let l = part-stands aType ls at expected-part in
+      let w = part-within ls at 1 (omega arith) in
+      let n = plan-few s h in
+      let w0 = w .0 in
+      let w1 = w .1 in
+      (omega arith, omega arith, type-narrow (take (partLine ls at 1 - at) (drop at ls)) (subst (IsPart aType) (part-lines ls at) expected-part))
+
+  -- the line of the term is a word
+  pub term-word : placesOf ls .term < 4294967296
+  unfolding placesOf
+  term-word = let w = expected-within .1 in omega arith
+
+  -- what stands there is the plan's
+  term-is : termAt ls (placesOf ls .term) ≡ planOf ls .term
+  unfolding termAt planOf
+  term-is = alone aTerm (drop (placesOf ls .term) ls) (formed s h .term)
+
+  type-is : nodesOf (take (partLine ls at 1 - at) (drop at ls)) ≡ planOf ls .expected
+  unfolding planOf termAt
+  type-is = ap nodesOf (sym (part-lines ls at))
+
+  module _ (b k t : List ℕ) (lb : 12288 ≤ length b) (lk : 10192 ≤ length k) (n : ℕ) (ln : n ≡ partLine ls at 1 - at) (tn : nodesAt t 0 n ≡ nodesOf (take (partLine ls at 1 - at) (drop at ls))) where
+    abbrev none : Board
+    none = record { entries = 0; nodes = 0 }
+
+    abbrev T : Ty
+    T = nodesAt t 0 n
+
+    abbrev words-after : List ℕ
+    words-after = laid b none 5 (placesOf ls .term) T []
+
+    abbrev begun : Run
+    begun = record { taken = 0; fresh = 0; board = grown none (n + 0); book = record { nodes = 0 }; halt = Going }
+
+    few : 0 + (length T + 0) ≤ 4096
+    few =
+        let x = length-nodesAt t 0 n in
+        let w0 = expected-within .0 in
+        let w1 = expected-within .1 in
+        omega arith
+
+    stacked : Stacked words-after (grown none (n + 0))
+    unfolding entryOf
+    stacked =
+        let e : length T + 0 ≡ n + 0 = ap (λ (m : ℕ). m + 0) (length-nodesAt t 0 n) in
+        subst (λ (m : ℕ). Stacked words-after (grown none m)) e
+        (laid-stacked (new-stacked b lb) 5 (placesOf ls .term) T [] (omega arith) few (λ _. sym (add-zero (length T))))
+
+    pub begun-formed : WellFormed words-after (sets k 0 (bookWords [])) begun
+    begun-formed = record {
+      board = stacked;
+      book = new-booked k lk;
+      numbers = omega arith;
+      unmade = λ j _ i. let z = zero-at k lk (2 * j) (omega arith) in omega arith;
+    }
+
+    pub begun-outcome : (rep : List ℕ) → outcomeOf ls words-after (sets k 0 (bookWords [])) rep begun ≡ finished (startOf ls)
+    unfolding entryOf
+    begun-outcome rep =
+        rw (laid-entries (new-stacked b lb) 5 (placesOf ls .term) T [] (omega arith) few ls, no-entries ls b, new-sols k lk, term-is, tn, type-is) refl
+
+-- what the code reads and writes, one after the other
+module _ {s b k t : List ℕ} (a : StartAsk s b k t) {p : Places} (ep : p ≡ placesOf (triples s)) {e : ℕ} (ee : e ≡ partLine (triples s) (p .expected) 1) where
+  count-is : e - p .expected ≡ partLine (triples s) (placesOf (triples s) .expected) 1 - placesOf (triples s) .expected
+  count-is = rw (ee, ep) refl
+
+  pub begins : p .expected ≤ e
+  begins = rw (ee, ep) (expected-within s (a .plan) .0)
+
+  pub copy-asks : (0 + 2 * (e - p .expected) ≤ length t) × (p .expected + (e - p .expected) ≤ length (triples s)) × All Narrow (take (e - p .expected) (drop (p .expected) (triples s)))
+  copy-asks = rw (ee, ep) (copy-start s (a .plan) t (a .type))
+
+  pub line-word : p .term < 4294967296
+  line-word = rw ep (term-word s (a .plan))
+
+  module _ {t' : List ℕ} (et : t' ≡ sets t 0 (words (nodesOf (take (e - p .expected) (drop (p .expected) (triples s)))))) (m : length t' ≡ length t) {d : Board} (ed : d ≡ record { entries = 0; nodes = 0 }) where
+    pub push-asks : PushAsk b d t' 0 (e - p .expected) t' 0 0
+    push-asks =
+        let w0 = copy-asks .0 in
+        let w1 = expected-within s (a .plan) .1 in
+        let c = count-is in
+        rw ed (record { room = a .board; few = omega arith; fits = omega arith; left = omega arith; right = omega arith })
+
+    expected-nodes : nodesAt t' 0 (e - p .expected) ≡ nodesOf (take (partLine (triples s) (placesOf (triples s) .expected) 1 - placesOf (triples s) .expected) (drop (placesOf (triples s) .expected) (triples s)))
+    expected-nodes =
+        let T : Ty = nodesOf (take (e - p .expected) (drop (p .expected) (triples s))) in
+        let w0 = copy-asks .0 in
+        let y : nodesAt t' 0 (e - p .expected) ≡ T = copied t T (e - p .expected) (length-typeOn s (p .expected) (e - p .expected) (copy-asks .1)) (omega arith) et in
+        let z : T ≡ nodesOf (take (partLine (triples s) (placesOf (triples s) .expected) 1 - placesOf (triples s) .expected) (drop (placesOf (triples s) .expected) (triples s))) = rw (ee, ep) refl in
+        y ∙ z
+
+    pub begun-is : {b' k' : List ℕ} {q : Board} {bk : Book} → (b' ≡ laid b d 5 (p .term) (nodesAt t' 0 (e - p .expected)) (nodesAt t' 0 0)) × (q ≡ grown d (e - p .expected + 0)) → k' ≡ sets k 0 (bookWords []) → bk ≡ record { nodes = 0 }
+        → (let r : Run = record { taken = 0; fresh = 0; board = q; book = bk; halt = Going } in WellFormed b' k' r × (r .taken ≡ 0) × ((rep : List ℕ) → outcomeOf (triples s) b' k' rep r ≡ finished (startOf (triples s))))
+    unfolding nodesAt
+    begun-is u ek eb =
+        let f = begun-formed s (a .plan) b k t' (a .board) (a .book) (e - p .expected) count-is expected-nodes in
+        let o = begun-outcome s (a .plan) b k t' (a .board) (a .book) (e - p .expected) count-is expected-nodes in
+        let pt : p .term ≡ placesOf (triples s) .term = ap (λ (x : Places). x .term) ep in
+        (rw (u .0, u .1, ek, eb, ed, pt) f, refl, λ rep. rw (u .0, u .1, ek, ed, pt) (o rep))
+
+-- the run has taken nothing yet
+pub reached-start : {s b k : List ℕ} {c : Run} → check s ≡ Plan → WellFormed b k c × (c .taken ≡ 0) × ((rep : List ℕ) → outcomeOf (triples s) b k rep c ≡ finished (startOf (triples s))) → (rep : List ℕ) → Reached s b k rep c
+unfolding after
+reached-start {s} h q rep = record {
+  plan = h;
+  formed = q .0;
+  outcome = q .2 rep ∙ ap (after limits (envOn s) (startOf (triples s))) (sym (q .1));
+}

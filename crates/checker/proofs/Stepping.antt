@@ -1,0 +1,96 @@
+-- One step in words is one step of the definition's run. Assumes nothing.
+use mathlib.Core.Path.{_≡_, refl, sym, ap, ap₂, _∙_, subst, subst⁻¹}
+use mathlib.Core.Bool.{Bool, true, false, cond}
+use mathlib.Core.List.{List, [], _∷_}
+use Prim.Native.Nat.{ℕ, zero, suc, _+_, _*_, _-_, _≤_, _<_}
+use native.Mathlib.Numerals.{add-one}
+use native.Mathlib.Omega.{arith}
+use lib.ListN.{length}
+use Rattle.nodes.specs.Nodes.{nodesAt}
+use Rattle.nodes.specs.Lists.{All}
+use Rattle.spelling.specs.declared.Triple.{Triple}
+use Rattle.sheet.specs.Plan.{triples}
+use Rattle.judgment.specs.Board.{Entry, State, state, Outcome, finished, refused, perform}
+use Rattle.judgment.specs.Board.{Board as Entries}
+use Rattle.judgment.specs.Rules.{Env, rule}
+use Rattle.judgment.specs.Chain.{performO, performs}
+use Rattle.judgment.specs.Result.{limits, limitsWith}
+use Rattle.judgment.proofs.Invariant.{EntryOK}
+use Rattle.judgment.proofs.WholeRun.{EntryWhole}
+use Rattle.board.specs.declared.Board.{Board}
+use Rattle.board.specs.declared.Top.{Top}
+use Rattle.board.specs.Board.{entryOf, entriesOf, Stacked, topOf, size}
+use Rattle.board.proofs.Stacks.{top-size, top-entries, top-stacked, top-within}
+use Rattle.book.specs.Book.{sols}
+use Rattle.operations.specs.declared.Halt.{Halt}
+use Rattle.operations.specs.declared.Halt.the-variants.{Going}
+use Rattle.operations.specs.declared.Run.{Run}
+use Rattle.operations.specs.State.{outcomeBy, outcomeOf, stateOf, WellFormed, Does, going}
+use Rattle.operations.proofs.Latch.{going-is}
+use Rattle.applying.specs.Applying.{envOn}
+use Rattle.checker.specs.Running.{startOf, stepO, after, topEntry, JudgeAsk, Reached, StepAsk}
+use Rattle.checker.proofs.Reaching.{PlainPlan, entry-sound, solutions-sound, reached-ok}
+
+-- the run with the newest entry taken
+abbrev pub taking : Run → Top → Run
+taking c o = record { taken = c .taken + 1; fresh = c .fresh; board = o .rest; book = c .book; halt = c .halt }
+
+top-few : {b : List ℕ} {d : Board} → Stacked b d → 0 < d .entries → topOf b d .left + topOf b d .right ≤ 4096
+unfolding topOf
+top-few h l = let x = top-size h l in let y = h .fewNodes in omega arith
+
+module _ {s b k rep : List ℕ} {c : Run} {t l : List ℕ} (a : StepAsk s b k rep c t l) (o : Top) (e : o ≡ topOf b (c .board)) where
+  abbrev ls : List Triple
+  ls = triples s
+
+  abbrev below : Entries
+  below = entriesOf ls b (o .rest .entries)
+
+  abbrev st : Stacked b (c .board)
+  st = a .reached .formed .board
+
+  entries-are : entriesOf ls b (c .board .entries) ≡ topEntry ls b o ∷ below
+  entries-are = rw e (top-entries st (a .more) ls)
+
+  formed-next : WellFormed b k (taking c o)
+  formed-next = record {
+    board = rw e (top-stacked st (a .more));
+    book = a .reached .formed .book;
+    numbers = a .reached .formed .numbers;
+    unmade = a .reached .formed .unmade;
+  }
+
+  pub step-asks : JudgeAsk s b k rep (taking c o) o t l
+  step-asks =
+      let q = reached-ok (a .reached) in
+      record {
+        plan = a .reached .plan;
+        formed = formed-next;
+        within = rw e (top-within st (a .more));
+        few = rw e (top-few st (a .more));
+        report = a .report;
+        lent = a .lent;
+        entry =
+            let x = subst (All (EntryOK (PlainPlan s) (c .fresh))) entries-are (q .inv .entries) in
+            let y = subst (All EntryWhole) entries-are (q .entries) in
+            entry-sound (PlainPlan s) (c .fresh) (topEntry ls b o) (x .0) (y .0);
+        solutions = solutions-sound (PlainPlan s) (c .fresh) (sols k) (q .inv .solutions) (q .solutions);
+      }
+
+  pub step-reached : {b' k' rep' : List ℕ} {q : Run} → Does 1024 ls b k rep (taking c o) (rule (envOn s) (topEntry ls b o)) b' k' rep' q → Reached s b' k' rep' q × (q .taken ≡ c .taken + 1)
+  unfolding after
+  step-reached {b'} {k'} {rep'} {q} d =
+      let E = envOn s in
+      let g = going-is (c .halt) (a .goes) in
+      let p : Entry = topEntry ls b o in
+      let σ = sols k in
+      let one : performO limits (rule E p) (outcomeBy (c .halt) rep (state below σ (c .fresh))) ≡ stepO limits E (outcomeBy (c .halt) rep (stateOf ls b k c))
+      = rw (g, entries-are) (performs limits (rule E p) below σ (c .fresh)) in
+      let m : suc (c .taken) ≡ q .taken = sym (add-one (c .taken)) ∙ sym (d .taken) in (
+        record {
+          plan = a .reached .plan;
+          formed = d .kept;
+          outcome = d .outcome ∙ one ∙ ap (stepO limits E) (a .reached .outcome) ∙ ap (after limits E (startOf ls)) m;
+        },
+        d .taken,
+      )

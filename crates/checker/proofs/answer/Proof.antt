@@ -1,0 +1,15 @@
+use mathlib.Core.List.{List}
+use Prim.Native.Nat.{ℕ}
+use Rattle.checker.specs.Running.{endOf}
+use Rattle.checker.proofs.Finishing.{answer-is}
+use borrow.Author.Needs.{needs}
+use Rattle.checker.proofs.answer.Statement.{statement}
+use Rattle.checker.proofs.answer.Tie as tie
+
+returns : tie.Need-returns
+returns c =
+    λ (rep : List ℕ). let a = c .before .before .before .before .args in answer-is (a .plain) (endOf rep (a .c)) (a .c .taken) (a .c .fresh) (c .before .before .end-number .ensures rep) (c .before .end-details .ensures (a .c .board .entries) rep) (c .plain-number .ensures)
+
+pub answer-spec : {M : Type 1} → statement M
+answer-spec =
+    tie.close (tie.spec (λ c κs. search needs) (λ c κs. search needs) (λ c κs. search needs) returns)

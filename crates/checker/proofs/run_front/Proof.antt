@@ -1,0 +1,58 @@
+use mathlib.Core.Path.{_≡_, refl, sym, ap, ap₂, _∙_}
+use denote.Ref.{now}
+use lib.Seq.{length-take-le, length-front}
+use Rattle.sheet.specs.Plan.{triples}
+use Rattle.judgment.specs.Result.{limits, judge}
+use Rattle.checker.proofs.Answering.{fronted}
+use borrow.Author.Needs.{needs}
+use Rattle.checker.proofs.run_front.Statement.{statement}
+use Rattle.checker.proofs.run_front.Tie as tie
+
+slice-relend-prefix-run-plan : tie.Need-slice-relend-prefix-run-plan
+slice-relend-prefix-run-plan c =
+    c .before .before .before .before .pre .board
+
+slice-aggregate-run-plan : tie.Need-slice-aggregate-run-plan
+slice-aggregate-run-plan c =
+    sym (length-take-le 16384 (now (c .before .before .before .before .before .args .board)) (c .before .before .before .before .before .pre .board))
+
+slice-relend-prefix-run-plan-2 : tie.Need-slice-relend-prefix-run-plan-2
+slice-relend-prefix-run-plan-2 c =
+    c .before .before .before .before .before .pre .book
+
+slice-aggregate-run-plan-2 : tie.Need-slice-aggregate-run-plan-2
+slice-aggregate-run-plan-2 c =
+    sym (length-take-le 10192 (now (c .before .before .before .before .before .before .args .book)) (c .before .before .before .before .before .before .pre .book))
+
+slice-relend-prefix-run-plan-3 : tie.Need-slice-relend-prefix-run-plan-3
+slice-relend-prefix-run-plan-3 c =
+    c .before .before .before .before .before .before .pre .report
+
+slice-aggregate-run-plan-3 : tie.Need-slice-aggregate-run-plan-3
+slice-aggregate-run-plan-3 c =
+    sym (length-take-le 4096 (now (c .before .before .before .before .before .before .before .args .report)) (c .before .before .before .before .before .before .before .pre .report))
+
+run-plan-requires : tie.Need-run-plan-requires
+run-plan-requires c κs =
+    let p = c .before .before .before .before .before .before .before .pre in
+    (p .plan, length-take-le 16384 (now (c .before .before .before .before .before .before .before .args .board)) (p .board), length-take-le 10192 (now (c .before .before .before .before .before .before .before .args .book)) (p .book), length-take-le 4096 (now (c .before .before .before .before .before .before .before .args .report)) (p .report))
+
+same-length : tie.Need-same-length
+same-length c =
+    length-front (now (c .before .before .before .before .before .before .before .before .before .before .before .before .before .before .args .board)) (c .before .before .before .before .before .before .run-plan .last .1 .1 .0) 16384 (c .before .before .before .before .before .before .run-plan .kept .1 .1 .0)
+
+same-length-2 : tie.Need-same-length-2
+same-length-2 c =
+    length-front (now (c .before .before .before .before .before .before .before .before .before .before .before .before .before .before .args .book)) (c .before .before .before .before .before .before .run-plan .last .1 .1 .1 .0) 10192 (c .before .before .before .before .before .before .run-plan .kept .1 .1 .1 .0)
+
+same-length-3 : tie.Need-same-length-3
+same-length-3 c =
+    length-front (now (c .before .before .before .before .before .before .before .before .before .before .before .before .before .before .args .report)) (c .before .before .before .before .before .before .run-plan .last .1 .1 .1 .1 .0) 4096 (c .before .before .before .before .before .before .run-plan .kept .1 .1 .1 .1 .0)
+
+returns : tie.Need-returns
+returns c =
+    fronted (c .before .before .before .before .before .before .before .before .before .before .before .before .before .before .pre) (judge limits (c .before .before .before .before .before .before .before .before .before .before .before .before .before .before .args .ceiling) (triples (now (c .before .before .before .before .before .before .before .before .before .before .before .before .before .before .args .s)))) (c .before .before .before .before .before .before .run-plan .ensures)
+
+pub run-front-spec : {M : Type 1} → statement M
+run-front-spec =
+    tie.close (tie.spec slice-relend-prefix-run-plan slice-aggregate-run-plan slice-relend-prefix-run-plan-2 slice-aggregate-run-plan-2 slice-relend-prefix-run-plan-3 slice-aggregate-run-plan-3 run-plan-requires same-length same-length-2 same-length-3 returns)

@@ -1,0 +1,132 @@
+-- Which outcome of the definition's run stands in the words, step by step, and what a step asks. Assumes nothing: these are definitions.
+use mathlib.Core.Path.{_≡_}
+use mathlib.Core.Bool.{Bool, true, cond}
+use mathlib.Core.List.{List, [], _∷_}
+use Prim.Native.Nat.{ℕ, zero, suc, _+_, _*_, _≤_, _<_}
+use lib.Dec.{ltb}
+use lib.ListN.{length}
+use Rattle.nodes.specs.Nodes.{Ty, nodesAt}
+use Rattle.nodes.specs.Lists.{All}
+use Rattle.spelling.specs.declared.Triple.{Triple}
+use Rattle.kinds.specs.Kinds.{aTerm}
+use Rattle.grammar.specs.declared.Check.the-variants.{Plan}
+use Rattle.grammar.specs.Check.{check}
+use Rattle.sheet.specs.Plan.{triples, planOf}
+use Rattle.sheet.specs.Form.{IsPart}
+use Rattle.judgment.specs.declared.Answer.{Answer}
+use Rattle.judgment.specs.Solutions.{value}
+use Rattle.judgment.specs.Board.{Entry, tvar, var, sub, inf, chk, infApp, Limits, State, state, Outcome, finished, refused, perform}
+use Rattle.judgment.specs.Rules.{Env, rule}
+use Rattle.judgment.specs.Run.{End, accepted, ceiling, refusedBy}
+use Rattle.judgment.specs.Run.{Run as Steps, run as steps}
+use Rattle.judgment.specs.Result.{endNumber, endDetails, limits, envOf}
+use Rattle.board.specs.declared.Top.{Top}
+use Rattle.board.specs.Board.{entryOf}
+use Rattle.book.specs.Book.{sols}
+use Rattle.operations.specs.declared.Halt.{Halt}
+use Rattle.operations.specs.declared.Halt.the-variants.{Going, Refused}
+use Rattle.operations.specs.declared.Run.{Run}
+use Rattle.operations.specs.State.{reported, outcomeOf, WellFormed, going}
+use Rattle.subtyping.specs.Subtyping.{Sound}
+use Rattle.applying.specs.Applying.{envOn}
+
+-- ---- the definition's run, by steps
+-- where the run of a plan starts
+abbrev pub startOf : List Triple → State
+startOf ls = state (chk (planOf ls .term) (planOf ls .expected) ∷ []) [] 0
+
+-- one more step: the newest entry is taken and its rule performed
+abbrev pub stepO : Limits → Env → Outcome → Outcome
+stepO L E (finished (state [] σ n)) = finished (state [] σ n)
+stepO L E (finished (state (e ∷ Γ) σ n)) = perform L (rule E e) Γ σ n
+stepO L E (refused r ts s) = refused r ts s
+
+unfoldable pub after : Limits → Env → State → ℕ → Outcome
+after L E s zero = finished s
+after L E s (suc m) = stepO L E (after L E s m)
+
+-- how a run ended, how many entries were taken, and its last state
+pub record Told : Type 0 where
+  pub end : End
+  pub taken : ℕ
+  pub last : State
+
+-- of a run that comes after m steps
+abbrev pub told : ℕ → Steps → Told
+told m (steps ss e s) = record { end = e; taken = m + length ss; last = s }
+
+-- the end that a run in words has come to, where no more is taken
+abbrev pub endBy : Halt → ℕ → List ℕ → End
+endBy Going zero rep = accepted
+endBy Going (suc n) rep = ceiling
+endBy (Refused e) n rep = refusedBy e (nodesAt rep 0 (reported e))
+
+abbrev pub endOf : List ℕ → Run → End
+endOf rep c = endBy (c .halt) (c .board .entries) rep
+
+-- the word of the report after an end's types; a type that does not fit is cut off
+abbrev pub reportEnd : Halt → ℕ
+reportEnd Going = 0
+reportEnd (Refused e) = cond (ltb (reported e) 2048) (2 * reported e) 4096
+
+-- the seven numbers of an end
+abbrev pub answerBy : Bool → End → ℕ → ℕ → Answer
+answerBy plain e taken fresh = record {
+  number = endNumber e;
+  line = 0;
+  taken = taken;
+  fresh = fresh;
+  detail1 = endDetails e .0;
+  detail2 = endDetails e .1;
+  plain = cond plain 1 0;
+}
+
+-- ---- what a step asks
+-- the room that the rules are lent
+pub record Lent (t l : List ℕ) : Type 0 where
+  pub type : 8192 ≤ length t
+  pub left : 8192 ≤ length l
+
+abbrev pub topEntry : List Triple → List ℕ → Top → Entry
+topEntry ls b o = entryOf ls (o .kind) (o .number) (nodesAt b (o .at) (o .left)) (nodesAt b (o .at + 2 * o .left) (o .right))
+
+-- an entry's types and its term, as far as its rule asks for them
+abbrev pub EntrySound : ℕ → Entry → Type 0
+EntrySound n (tvar x) = Unit {0}
+EntrySound n (var x t) = Unit {0}
+EntrySound n (sub s t) = Sound n s × Sound n t
+EntrySound n (inf e t) = IsPart aTerm e
+EntrySound n (chk e t) = IsPart aTerm e
+EntrySound n (infApp f e t) = Sound n f × Sound n t
+
+-- the buffers of a sheet that is taken, before its run
+pub record StartAsk (s b k t : List ℕ) : Type 0 where
+  pub plan : check s ≡ Plan
+  pub board : 12288 ≤ length b
+  pub book : 10192 ≤ length k
+  pub type : 8192 ≤ length t
+
+-- the entry `o`, taken off the board
+pub record JudgeAsk (s b k rep : List ℕ) (c : Run) (o : Top) (t l : List ℕ) : Type 0 where
+  pub plan : check s ≡ Plan
+  pub formed : WellFormed b k c
+  pub within : o .at + 2 * (o .left + o .right) ≤ 12288
+  pub few : o .left + o .right ≤ 4096
+  pub report : 4096 ≤ length rep
+  pub lent : Lent t l
+  pub entry : EntrySound (c .fresh) (topEntry (triples s) b o)
+  pub solutions : All (λ x. Sound (c .fresh) (value x)) (sols k)
+
+-- what stands in the words is what the definition's run of the sheet has come to
+pub record Reached (s b k rep : List ℕ) (c : Run) : Type 0 where
+  pub plan : check s ≡ Plan
+  pub formed : WellFormed b k c
+  pub outcome : outcomeOf (triples s) b k rep c ≡ after limits (envOn s) (startOf (triples s)) (c .taken)
+
+pub record StepAsk (s b k rep : List ℕ) (c : Run) (t l : List ℕ) : Type 0 where
+  pub reached : Reached s b k rep c
+  pub goes : going (c .halt) ≡ true
+  pub more : 0 < c .board .entries
+  pub counts : c .taken < 4294967295
+  pub report : 4096 ≤ length rep
+  pub lent : Lent t l
