@@ -1,5 +1,6 @@
 //! Puts plans to the Rust module and gives its answers.
 
+mod checks;
 mod damage;
 mod generate;
 mod oracle;
@@ -27,7 +28,10 @@ const USAGE: &str = "usage: reference COMMAND
   record --out FILE                    the recorded list of plans and answers
   wall                                 document 01's plans on the wall
   readers --seed S --count N           this reader beside the proved one
-  bench                                the mean times of both readers
+  checks --seed S --count N --damaged M
+                                       the Rust beside the proved checker: random plans, damaged
+                                       sheets, the wall, the limits, small plans, short buffers
+  bench                                the mean times of both readers and both checkers
   stats --seed S --count N             the share of each number among random plans";
 
 /// Terms of 2,000 lines nest deep, and the Rust goes through them by recursion.
@@ -89,8 +93,14 @@ fn command(arguments: &[String]) -> Result<bool, String> {
             options.number("--seed", None)?,
             options.number("--count", None)?,
         )),
+        "checks" => Ok(checks::compare(
+            options.number("--seed", None)?,
+            options.number("--count", None)?,
+            options.number("--damaged", None)?,
+        )),
         "bench" => {
             readers::bench();
+            checks::bench();
             Ok(true)
         }
         "stats" => stats(

@@ -1,0 +1,12 @@
+-- What the entry call answered, as its seven numbers. Assumes nothing.
+use mathlib.Core.Path.{_≡_, ap}
+use mathlib.Core.List.{List}
+use Prim.Native.Nat.{ℕ}
+use Rattle.judgment.specs.declared.Answer.{Answer}
+use Rattle.judgment.specs.Result.{Buffers, call}
+use Rattle.judgment.specs.Wall.{numbers}
+use Rattle.checker.specs.Calling.{Answered}
+
+pub returned : (s : List ℕ) (c : ℕ) (b : Buffers) {d : Buffers} {a : Answer} → Answered s c b a d
+    → (a .number ≡ call s c b .answer .number) × (numbers a ≡ numbers (call s c b .answer)) × (d ≡ call s c b .after)
+returned s c b q = (ap (λ (x : Answer). x .number) (q .answer), ap numbers (q .answer), q .buffers)

@@ -1,0 +1,16 @@
+use denote.Ref.{now}
+use Rattle.judgment.specs.Result.{Buffers}
+use Rattle.exports.proofs.Numbers.{returned}
+use borrow.Author.Needs.{needs}
+use Rattle.exports.proofs.kirvoghus_check_type.Statement.{statement}
+use Rattle.exports.proofs.kirvoghus_check_type.Tie as tie
+
+returns : tie.Need-returns
+returns c =
+    let a = c .before .before .before .before .before .before .before .before .before .before .before .before .before .before .before .args in
+    let B : Buffers = record { board = now (a .board); book = now (a .book); report = now (a .report) } in
+    returned (now (a .sheet)) (a .ceiling) B (c .before .before .before .before .before .before .before .check-type .ensures)
+
+pub kirvoghus-check-type-spec : {M : Type 1} → statement M
+kirvoghus-check-type-spec =
+    tie.close (tie.spec (λ c κs. search needs) (λ c. search needs) (λ c. search needs) (λ c. search needs) returns)

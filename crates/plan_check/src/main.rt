@@ -1,0 +1,49 @@
+// Reads a sheet on standard input, checks its plan with the ceiling 10,000, and writes out the seven numbers.
+ghost use Prim.Native.Nat.{_≤_};
+ghost use lib.ListN.{length};
+use checker::check_type;
+use columns::write_answer;
+use input::Got;
+use input::fill;
+use io::write_all;
+use libc::STDERR_FILENO;
+use libc::STDOUT_FILENO;
+
+const CEILING: u32 = 10000;
+
+fn write_out(text: &[u8]) {
+    if !write_all(STDOUT_FILENO, text) {
+        let _told = write_all(STDERR_FILENO, b"plan_check: the answer was not written\n");
+    }
+}
+
+// A sheet that fills the buffer is too long, and gets 3 as it stands.
+fn check_input(
+    sheet: &mut [u8],
+    board: &mut [u32],
+    book: &mut [u32],
+    report: &mut [u32],
+    text: &mut [u8],
+)
+    requires { ⌜ 71 ≤ length (now text) ⌝ }
+{
+    match fill(sheet, 0) {
+        Got::Failed => {
+            let _told = write_all(STDERR_FILENO, b"plan_check: standard input was not read\n");
+        }
+        Got::To(n) => {
+            let answer = check_type(&sheet[..n], CEILING, board, book, report);
+            let end = write_answer(text, answer);
+            write_out(&text[..end]);
+        }
+    }
+}
+
+fn main() {
+    let mut sheet = [0u8; 58001];
+    let mut board = [0u32; 16384];
+    let mut book = [0u32; 10192];
+    let mut report = [0u32; 4096];
+    let mut text = [0u8; 71];
+    check_input(&mut sheet, &mut board, &mut book, &mut report, &mut text);
+}

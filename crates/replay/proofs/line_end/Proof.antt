@@ -1,0 +1,14 @@
+use borrow.Author.Needs.{needs}
+use Prim.Native.Nat.{_-_, _≤_}
+use Rattle.replay.proofs.line_end.Statement.{statement}
+use Rattle.replay.proofs.line_end.Tie as tie
+
+abbrev Inv-loop : tie.InvT-loop
+Inv-loop text at end i₀ i = (at ≤ i) × (i ≤ end)
+
+abbrev μ-loop : tie.MeasureT-loop
+μ-loop text at end i₀ i = end - i
+
+pub line-end-spec : {M : Type 1} → statement M
+line-end-spec =
+    tie.close (tie.spec Inv-loop μ-loop (λ c. search needs) (λ c. search needs) (λ c. search needs) (λ c. search needs) (λ c. search needs) (λ c. search needs) (λ c. search needs))

@@ -1,0 +1,18 @@
+use mathlib.Core.Path.{_≡_, _∙_}
+use native.Mathlib.Omega.{arith}
+use borrow.Author.Needs.{needs}
+use Rattle.replay.proofs.refill.Statement.{statement}
+use Rattle.replay.proofs.refill.Tie as tie
+
+first-line-requires : tie.Need-first-line-requires
+first-line-requires c κs =
+    let h = rw (c .before .before .n .given .1) at (c .before .before .before .before .before .before .fill .ensures) in
+    (search needs, omega (arith, c .before .before .before .before .before .before .fill .kept .0))
+
+returns-2 : tie.Need-returns-2
+returns-2 c =
+    rw (c .before .before .before .before .before .before .before .fill .kept .0 ∙ c .before .before .before .before .before .before .before .before .before .before .before .move-to-front .kept .0) at (c .first-line .ensures)
+
+pub refill-spec : {M : Type 1} → statement M
+refill-spec =
+    tie.close (tie.spec (λ c. search needs) (λ c κs. search needs) (λ c κs. search needs) (λ c. search needs) (λ c. search needs) (λ c. search needs) (λ c. search needs) first-line-requires (λ c. search needs) returns-2)
