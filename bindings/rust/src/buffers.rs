@@ -1,0 +1,129 @@
+//! The buffers that a call is lent, and the solutions in the book.
+
+use crate::types::Type;
+
+/// The least length of the board, in words.
+pub const BOARD_WORDS: usize = 16_384;
+
+/// The least length of the book, in words.
+pub const BOOK_WORDS: usize = 10_192;
+
+/// The least length of the report, in words.
+pub const REPORT_WORDS: usize = 4_096;
+
+/// The unknowns that the book has a pair of words for.
+const UNKNOWNS: usize = 1_000;
+
+/// Board, book and report. One value serves any number of calls.
+///
+/// The book tells the solutions of the last run; a call that is refused before
+/// a run leaves it as it was.
+#[derive(Debug, Clone, PartialEq, Eq)]
+pub struct Buffers {
+    pub(crate) board: Vec<u32>,
+    pub(crate) book: Vec<u32>,
+    pub(crate) report: Vec<u32>,
+}
+
+impl Buffers {
+    /// Buffers of the least lengths that a call takes, all words 0.
+    pub fn new() -> Self {
+        Self::with_lengths(BOARD_WORDS, BOOK_WORDS, REPORT_WORDS)
+    }
+
+    /// Buffers of these lengths in words, all words 0. A call refuses shorter
+    /// ones and keeps the tails of longer ones.
+    pub fn with_lengths(board: usize, book: usize, report: usize) -> Self {
+        Buffers {
+            board: vec![0; board],
+            book: vec![0; book],
+            report: vec![0; report],
+        }
+    }
+
+    /// The words of the board.
+    pub fn board(&self) -> &[u32] {
+        &self.board
+    }
+
+    /// The words of the book.
+    pub fn book(&self) -> &[u32] {
+        &self.book
+    }
+
+    /// The words of the report.
+    pub fn report(&self) -> &[u32] {
+        &self.report
+    }
+
+    /// The words of the board, to be written.
+    pub fn board_mut(&mut self) -> &mut [u32] {
+        &mut self.board
+    }
+
+    /// The words of the book, to be written.
+    pub fn book_mut(&mut self) -> &mut [u32] {
+        &mut self.book
+    }
+
+    /// The words of the report, to be written.
+    pub fn report_mut(&mut self) -> &mut [u32] {
+        &mut self.report
+    }
+
+    /// The solution of an unknown as it was given: unknowns in it may have
+    /// solutions themselves. `None` if it has none.
+    pub fn solution(&self, unknown: u32) -> Option<Type> {
+        let (start, nodes) = self.pair(unknown)?;
+        let end = start.checked_add(nodes.checked_mul(2)?)?;
+        Type::from_words(self.book.get(start..end)?)
+    }
+
+    /// The solved unknowns with their solutions, in order of solving.
+    pub fn solutions(&self) -> Solutions<'_> {
+        let unknowns = 0..UNKNOWNS as u32;
+        let mut order: Vec<(usize, u32)> = unknowns
+            .filter_map(|unknown| Some((self.pair(unknown)?.0, unknown)))
+            .collect();
+        // Solutions are laid down one after the other, so the starts rise.
+        order.sort_unstable();
+        Solutions {
+            buffers: self,
+            order: order.into_iter(),
+        }
+    }
+
+    /// The start and the node count of a solution, if there is one.
+    fn pair(&self, unknown: u32) -> Option<(usize, usize)> {
+        let unknown = usize::try_from(unknown).ok()?;
+        if unknown >= UNKNOWNS {
+            return None;
+        }
+        let start = *self.book.get(2 * unknown)? as usize;
+        let nodes = *self.book.get(2 * unknown + 1)? as usize;
+        (nodes > 0).then_some((start, nodes))
+    }
+}
+
+impl Default for Buffers {
+    fn default() -> Self {
+        Self::new()
+    }
+}
+
+/// The solved unknowns with their solutions, in order of solving; made by
+/// [`Buffers::solutions`].
+#[derive(Debug, Clone)]
+pub struct Solutions<'a> {
+    buffers: &'a Buffers,
+    order: std::vec::IntoIter<(usize, u32)>,
+}
+
+impl Iterator for Solutions<'_> {
+    type Item = (u32, Type);
+
+    fn next(&mut self) -> Option<Self::Item> {
+        let (_, unknown) = self.order.next()?;
+        Some((unknown, self.buffers.solution(unknown)?))
+    }
+}

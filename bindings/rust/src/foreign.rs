@@ -1,0 +1,61 @@
+//! The calls of the library, and the crate's only unsafe code.
+//!
+//! They are sound for any arguments: the library asks of its caller that the
+//! pointers are valid for the lengths told and that no two areas overlap. Both
+//! come from references to slices, of which the writable ones are unique, and
+//! every bit pattern is a `u8` or `u32`. The library is proved to read and
+//! write within those lengths, keeps no pointer and never unwinds.
+
+#![allow(unsafe_code)]
+
+extern "C" {
+    fn kirvoghus_check_type(
+        sheet: *const u8,
+        sheet_len: usize,
+        ceiling: u32,
+        board: *mut u32,
+        board_len: usize,
+        book: *mut u32,
+        book_len: usize,
+        report: *mut u32,
+        report_len: usize,
+        result: *mut [u32; 7],
+    ) -> u32;
+
+    fn kirvoghus_read_sheet(sheet: *const u8, sheet_len: usize, line: *mut u32) -> u32;
+}
+
+/// The seven numbers.
+pub fn check_type(
+    sheet: &[u8],
+    ceiling: u32,
+    board: &mut [u32],
+    book: &mut [u32],
+    report: &mut [u32],
+) -> [u32; 7] {
+    let mut result = [0; 7];
+    // SAFETY: pointers and lengths of the same slices, which can't overlap.
+    unsafe {
+        kirvoghus_check_type(
+            sheet.as_ptr(),
+            sheet.len(),
+            ceiling,
+            board.as_mut_ptr(),
+            board.len(),
+            book.as_mut_ptr(),
+            book.len(),
+            report.as_mut_ptr(),
+            report.len(),
+            &mut result,
+        );
+    }
+    result
+}
+
+/// The number of a sheet, 0, 3, 4 or 5, and its line.
+pub fn read_sheet(sheet: &[u8]) -> (u32, u32) {
+    let mut line = 0;
+    // SAFETY: as above.
+    let number = unsafe { kirvoghus_read_sheet(sheet.as_ptr(), sheet.len(), &mut line) };
+    (number, line)
+}

@@ -1,0 +1,67 @@
+//! Checks response plans, written down as sheets, by the proved checker.
+//!
+//! ```
+//! use kirvoghus::{check, Buffers, Verdict, MOST_STEPS};
+//!
+//! // 7 as Bool
+//! let sheet = b"  3                   0    0\n 12                   2    0\n  4                   0    0\n 22                   7    0\n";
+//! let mut buffers = Buffers::new();
+//! let outcome = check(sheet, MOST_STEPS, &mut buffers);
+//! let Verdict::SubtypingError { left, right } = &outcome.verdict else {
+//!     panic!("{outcome}");
+//! };
+//! assert_eq!(format!("{left} is no {right}"), "Int is no Bool");
+//! assert_eq!(buffers.solution(0).unwrap().to_string(), "Int");
+//! assert_eq!(outcome.to_string(), "    15     0     4     1     1     1     1");
+//! ```
+//!
+//! A call takes at most about 1 MB of stack, and no memory but its stack and
+//! the buffers it is lent; the types of an [`Outcome`] are made after it.
+
+#![deny(missing_docs)]
+#![deny(unsafe_code)]
+
+mod buffers;
+mod foreign;
+mod outcome;
+mod types;
+
+pub use buffers::{Buffers, Solutions, BOARD_WORDS, BOOK_WORDS, REPORT_WORDS};
+pub use outcome::{Outcome, Verdict};
+pub use types::{Name, Type};
+
+/// The highest ceiling: so many entries may be taken at most.
+pub const MOST_STEPS: u32 = 10_000;
+
+/// The bytes of a sheet's line, with its LF.
+pub const LINE_BYTES: usize = 29;
+
+/// The most bytes of a sheet: 2,000 lines.
+pub const SHEET_BYTES: usize = 58_000;
+
+/// Checks the plan on a sheet, with at most `ceiling` entries taken.
+///
+/// Any bytes, any ceiling, any lengths and contents of the buffers are taken.
+/// A call that is refused before a run (verdicts 1 to 5) leaves the buffers as
+/// they were. After any other the board is 0, the book holds the solutions
+/// given in the run, the report the types told, both else 0; words past
+/// [`BOARD_WORDS`], [`BOOK_WORDS`] and [`REPORT_WORDS`] keep what they held.
+pub fn check(sheet: &[u8], ceiling: u32, buffers: &mut Buffers) -> Outcome {
+    let numbers = foreign::check_type(
+        sheet,
+        ceiling,
+        &mut buffers.board,
+        &mut buffers.book,
+        &mut buffers.report,
+    );
+    Outcome::new(numbers, &buffers.report)
+}
+
+/// Reads a sheet without checking its plan.
+///
+/// [`Verdict::Accepted`] says no more than that the sheet holds a plan; else
+/// it is [`Verdict::BadLength`], [`Verdict::Misspelt`] or [`Verdict::Unfit`].
+pub fn read_sheet(sheet: &[u8]) -> Verdict {
+    let (number, line) = foreign::read_sheet(sheet);
+    Verdict::new([number, line, 0, 0, 0, 0, 0], &[])
+}

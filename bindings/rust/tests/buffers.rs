@@ -1,0 +1,134 @@
+//! Short, dirty and longer buffers, and calls that are refused.
+
+mod common;
+
+use common::{dirty, sheet, SEVEN_AS_INT};
+use kirvoghus::{
+    check, Buffers, Verdict, BOARD_WORDS, BOOK_WORDS, LINE_BYTES, MOST_STEPS, REPORT_WORDS,
+};
+
+const BOOL: [i64; 12] = [3, 0, 0, 12, 2, 0, 4, 0, 0, 22, 7, 0];
+
+/// A refused call: all numbers but the first are 0 and no word is written.
+fn refused(sheet: &[u8], ceiling: u32, mut buffers: Buffers) -> Verdict {
+    let before = buffers.clone();
+    let outcome = check(sheet, ceiling, &mut buffers);
+    assert_eq!(buffers, before);
+    let [_, _, rest @ ..] = outcome.numbers();
+    assert_eq!(rest, [0; 5]);
+    outcome.verdict
+}
+
+fn least() -> Buffers {
+    dirty(BOARD_WORDS, BOOK_WORDS, REPORT_WORDS)
+}
+
+#[test]
+fn short_buffers() {
+    let good = sheet(&SEVEN_AS_INT);
+    let short = [
+        [BOARD_WORDS - 1, BOOK_WORDS, REPORT_WORDS],
+        [BOARD_WORDS, BOOK_WORDS - 1, REPORT_WORDS],
+        [BOARD_WORDS, BOOK_WORDS, REPORT_WORDS - 1],
+        [0, BOOK_WORDS, REPORT_WORDS],
+        [BOARD_WORDS, 0, REPORT_WORDS],
+        [BOARD_WORDS, BOOK_WORDS, 0],
+        [0, 0, 0],
+    ];
+    for [board, book, report] in short {
+        let buffers = || dirty(board, book, report);
+        assert_eq!(
+            refused(&good, MOST_STEPS, buffers()),
+            Verdict::BufferTooShort
+        );
+        // Before the sheet, after the ceiling.
+        assert_eq!(refused(b"", MOST_STEPS, buffers()), Verdict::BufferTooShort);
+        assert_eq!(
+            refused(&good, MOST_STEPS + 1, buffers()),
+            Verdict::CeilingTooHigh
+        );
+    }
+}
+
+#[test]
+fn refused_sheets() {
+    let good = sheet(&SEVEN_AS_INT);
+    let lacking = &good[..3 * LINE_BYTES];
+    assert_eq!(refused(&good, u32::MAX, least()), Verdict::CeilingTooHigh);
+    assert_eq!(refused(b"", MOST_STEPS, least()), Verdict::BadLength);
+    assert_eq!(refused(&good[1..], MOST_STEPS, least()), Verdict::BadLength);
+    assert_eq!(
+        refused(lacking, MOST_STEPS, least()),
+        Verdict::Unfit { line: 4 }
+    );
+    let mut misspelt = good.clone();
+    misspelt[3 * LINE_BYTES - 1] = b' ';
+    assert_eq!(
+        refused(&misspelt, MOST_STEPS, least()),
+        Verdict::Misspelt { line: 3 }
+    );
+}
+
+#[test]
+fn a_refused_call_keeps_the_last_book() {
+    let mut buffers = Buffers::new();
+    check(&sheet(&SEVEN_AS_INT), MOST_STEPS, &mut buffers);
+    check(b"", MOST_STEPS, &mut buffers);
+    assert_eq!(buffers.solutions().count(), 1);
+}
+
+#[test]
+fn dirty_buffers() {
+    for plan in [SEVEN_AS_INT, BOOL] {
+        for ceiling in [0, 4, MOST_STEPS] {
+            let (mut clean, mut used) = (Buffers::new(), least());
+            let first = check(&sheet(&plan), ceiling, &mut clean);
+            let second = check(&sheet(&plan), ceiling, &mut used);
+            assert_eq!(first, second);
+            assert_eq!(clean, used);
+        }
+    }
+}
+
+#[test]
+fn words_after_a_run() {
+    let mut buffers = least();
+    check(&sheet(&BOOL), MOST_STEPS, &mut buffers);
+    assert!(buffers.board().iter().all(|word| *word == 0));
+    let mut book = vec![0; BOOK_WORDS];
+    book[..2].copy_from_slice(&[2000, 1]);
+    book[2000..2002].copy_from_slice(&[12, 1]);
+    assert_eq!(buffers.book(), book);
+    let mut report = vec![0; REPORT_WORDS];
+    report[..4].copy_from_slice(&[12, 1, 12, 2]);
+    assert_eq!(buffers.report(), report);
+}
+
+#[test]
+fn tails_kept() {
+    let mut longer = dirty(BOARD_WORDS + 1, BOOK_WORDS + 100, REPORT_WORDS + 5000);
+    let before = longer.clone();
+    let mut exact = Buffers::new();
+    let outcome = check(&sheet(&BOOL), MOST_STEPS, &mut longer);
+    assert_eq!(outcome, check(&sheet(&BOOL), MOST_STEPS, &mut exact));
+    assert_eq!(longer.board()[..BOARD_WORDS], *exact.board());
+    assert_eq!(longer.book()[..BOOK_WORDS], *exact.book());
+    assert_eq!(longer.report()[..REPORT_WORDS], *exact.report());
+    assert_eq!(longer.board()[BOARD_WORDS..], before.board()[BOARD_WORDS..]);
+    assert_eq!(longer.book()[BOOK_WORDS..], before.book()[BOOK_WORDS..]);
+    assert_eq!(
+        longer.report()[REPORT_WORDS..],
+        before.report()[REPORT_WORDS..]
+    );
+}
+
+#[test]
+fn words_that_are_no_book() {
+    // Whatever stands in the book, reading it ends with an answer.
+    let used = least();
+    assert!(used.solutions().count() <= 1000);
+    for unknown in [0, 999, 1000, u32::MAX] {
+        assert_eq!(used.solution(unknown), None);
+    }
+    assert_eq!(Buffers::with_lengths(0, 1, 0).solution(0), None);
+}

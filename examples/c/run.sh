@@ -1,0 +1,40 @@
+#!/bin/sh
+# Builds the C program with warnings as errors, runs it on the sheets of `cases`
+# and compares with the stored outputs. KIRVOGHUS_LIB names the library, from this folder.
+cd "$(dirname "$0")" || exit 2
+library=${KIRVOGHUS_LIB:-../../target/staticlib/libexports.a}
+program=target/check
+if [ ! -f "$library" ]; then
+    echo "no library $library: run \`rt staticlib exports\` at the top, or set KIRVOGHUS_LIB" >&2
+    exit 2
+fi
+mkdir -p target || exit 2
+${CC:-cc} -std=c99 -Wall -Wextra -Werror -pedantic -O2 -I../../include check.c "$library" -o "$program" || exit 2
+
+failed=0
+# A case's output and exit status, 0 only for an accepted plan, beside the stored output.
+compare() {
+    case=$1 status=$2
+    wanted=1
+    read -r number _ < "sheets/$case.expected"
+    [ "$number" = 0 ] && wanted=0
+    if diff -u "sheets/$case.expected" target/output && [ "$status" = "$wanted" ]; then
+        echo "ok        $case"
+    else
+        echo "DIFFERENT $case (exit status $status)"
+        failed=1
+    fi
+}
+
+while read -r case sheet options; do
+    # The options are words of their own.
+    "$program" $options "sheets/$sheet.sheet" > target/output
+    compare "$case" $?
+done < cases
+
+# 2,001 lines, on standard input.
+awk 'BEGIN { for (i = 0; i < 2001; i++) printf "%3d%20d%5d\n", 41, 0, 0 }' > target/long.sheet
+"$program" < target/long.sheet > target/output
+compare long $?
+
+exit $failed
