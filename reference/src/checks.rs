@@ -5,7 +5,7 @@ use crate::damage::damaged;
 use crate::generate::{limits, random, small, Made};
 use crate::oracle::{answer_sheet, timed_check_type, Answer, MOST_STEPS};
 use crate::random::Random;
-use crate::sheet::{self, line, write, Line, LINE};
+use crate::sheet::{self, line, write, Line, LINE, MOST_LINES};
 use crate::wall::{self, long_sheet};
 use std::collections::BTreeMap;
 use std::hint::black_box;
@@ -157,7 +157,7 @@ fn longer(at: usize) -> [usize; 3] {
     [SIZES[0] + at % 3, SIZES[1] + at % 5, SIZES[2] + at % 7]
 }
 
-/// One of the buffers a word too short.
+/// One of the buffers too short, by a word or more.
 fn shorter(at: usize) -> [usize; 3] {
     let mut lengths = SIZES;
     lengths[at % 3] -= 1 + at % SIZES[at % 3];
@@ -174,6 +174,9 @@ pub fn compare(seed: u64, count: usize, damages: usize) -> bool {
     let mut tally = Tally::default();
     for plan in wall::plans() {
         tally.put(check, &write(&plan.lines), plan.ceiling, SIZES);
+    }
+    for lines in [MOST_LINES, MOST_LINES + 1] {
+        tally.put(check, &write(&long_sheet(lines)), MOST_STEPS, SIZES);
     }
     for found in limits::plans() {
         tally.put(check, &write(&found.made.lines), found.made.ceiling, SIZES);
