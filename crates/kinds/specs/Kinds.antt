@@ -2,7 +2,7 @@
 -- Assumes nothing: these are definitions.
 use mathlib.Core.Bool.{Bool, true, false, cond, _&&_}
 use mathlib.Core.List.{List, [], _∷_}
-use Prim.Native.Nat.{ℕ, _+_, _*_}
+use Prim.Native.Nat.{ℕ, _+_, _*_, _/_, _%_}
 use lib.Dec.{leb, eqb}
 use Rattle.spelling.specs.declared.Triple.{Triple}
 use Rattle.kinds.specs.declared.Row.{Row}
@@ -44,6 +44,10 @@ operator = 3
 -- a row: sort, value, count, how many types follow, then how many terms, and what then follows count times
 abbrev pub row : ℕ → ℕ → ℕ → ℕ → ℕ → ℕ → Row
 row s v c ty te e = record { sort = s; value = v; count = c; types = ty; terms = te; each = e }
+
+-- the row that a word holds, a hexadecimal digit a field
+abbrev pub rowIn : ℕ → Row
+rowIn w = row (w / 1048576) (w / 65536 % 16) (w / 4096 % 16) (w / 256 % 16) (w / 16 % 16) (w % 16)
 
 pub record Listed : Type 0 where
   pub kind : ℕ

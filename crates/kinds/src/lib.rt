@@ -2,7 +2,7 @@
 use spelling::Triple;
 ghost use mathlib.Core.Path.{_≡_};
 ghost use Prim.Native.Nat.{ℕ, _<_};
-ghost use Rattle.kinds.specs.Kinds.{rowOf, valueOk, countOk, headOf, partsOf};
+ghost use Rattle.kinds.specs.Kinds.{rowIn, rowOf, valueOk, countOk, headOf, partsOf};
 
 // Sorts of parts. An arm is a pattern and then a term.
 pub const NOTHING: u64 = 0;
@@ -41,74 +41,74 @@ pub struct Row {
     pub each: u64,
 }
 
-// A row's fields in their order.
-struct Columns(u64, u64, u64, u64, u64, u64);
-
-const UNLISTED: Columns = Columns(NOTHING, UNUSED, UNUSED, 0, 0, NOTHING);
-
-const TABLE: [Columns; 44] = [
-    UNLISTED, // 0
-    UNLISTED, // 1
-    UNLISTED, // 2
-    UNLISTED, // 3
-    UNLISTED, // 4
-    UNLISTED, // 5
-    UNLISTED, // 6
-    UNLISTED, // 7
-    UNLISTED, // 8
-    UNLISTED, // 9
-    UNLISTED, // 10
-    Columns(TYPE, NAME, UNUSED, 0, 0, NOTHING), // 11 Var
-    Columns(TYPE, NAME, UNUSED, 0, 0, NOTHING), // 12 Con
-    Columns(TYPE, UNUSED, UNUSED, 2, 0, NOTHING), // 13 Arrow
-    Columns(TYPE, NAME, UNUSED, 1, 0, NOTHING), // 14 Forall
-    Columns(TYPE, UNUSED, UNUSED, 2, 0, NOTHING), // 15 App
-    Columns(TYPE, UNUSED, USED, 0, 0, TYPE), // 16 Product
-    UNLISTED, // 17
-    UNLISTED, // 18
-    UNLISTED, // 19
-    UNLISTED, // 20
-    Columns(TERM, NAME, UNUSED, 0, 0, NOTHING), // 21 Var
-    Columns(TERM, NUMBER, UNUSED, 0, 0, NOTHING), // 22 LitInt
-    Columns(TERM, NAME, UNUSED, 1, 1, NOTHING), // 23 Lambda
-    Columns(TERM, UNUSED, UNUSED, 0, 2, NOTHING), // 24 App
-    Columns(TERM, NAME, UNUSED, 0, 1, NOTHING), // 25 TypeLambda
-    Columns(TERM, NAME, USED, 0, 0, TERM), // 26 Constructor
-    Columns(TERM, UNUSED, USED, 0, 1, ARM), // 27 Case
-    Columns(TERM, OPERATOR, UNUSED, 0, 2, NOTHING), // 28 BinOp
-    Columns(TERM, UNUSED, UNUSED, 0, 3, NOTHING), // 29 If
-    Columns(TERM, NAME, USED, 0, 0, TERM), // 30 IntrinsicCall
-    UNLISTED, // 31
-    UNLISTED, // 32
-    UNLISTED, // 33
-    UNLISTED, // 34
-    UNLISTED, // 35
-    UNLISTED, // 36
-    UNLISTED, // 37
-    UNLISTED, // 38
-    UNLISTED, // 39
-    UNLISTED, // 40
-    Columns(PATTERN, UNUSED, UNUSED, 0, 0, NOTHING), // 41 Wildcard
-    Columns(PATTERN, NAME, UNUSED, 0, 0, NOTHING), // 42 Var
-    Columns(PATTERN, NAME, USED, 0, 0, PATTERN), // 43 Constructor
+// The rows by kind, a hexadecimal digit a field, in the order of Row. A constant array is laid down anew at each use, so a row is one word.
+const TABLE: [u32; 44] = [
+    0x000000, // 0
+    0x000000, // 1
+    0x000000, // 2
+    0x000000, // 3
+    0x000000, // 4
+    0x000000, // 5
+    0x000000, // 6
+    0x000000, // 7
+    0x000000, // 8
+    0x000000, // 9
+    0x000000, // 10
+    0x110000, // 11 Var
+    0x110000, // 12 Con
+    0x100200, // 13 Arrow
+    0x110100, // 14 Forall
+    0x100200, // 15 App
+    0x101001, // 16 Product
+    0x000000, // 17
+    0x000000, // 18
+    0x000000, // 19
+    0x000000, // 20
+    0x210000, // 21 Var
+    0x220000, // 22 LitInt
+    0x210110, // 23 Lambda
+    0x200020, // 24 App
+    0x210010, // 25 TypeLambda
+    0x211002, // 26 Constructor
+    0x201014, // 27 Case
+    0x230020, // 28 BinOp
+    0x200030, // 29 If
+    0x211002, // 30 IntrinsicCall
+    0x000000, // 31
+    0x000000, // 32
+    0x000000, // 33
+    0x000000, // 34
+    0x000000, // 35
+    0x000000, // 36
+    0x000000, // 37
+    0x000000, // 38
+    0x000000, // 39
+    0x000000, // 40
+    0x300000, // 41 Wildcard
+    0x310000, // 42 Var
+    0x311003, // 43 Constructor
 ];
+
+fn unpacked(row: u32) -> Row
+    ensures { λ r. ⌜ r ≡ rowIn row ⌝ }
+{
+    Row {
+        sort: (row / 0x100000) as u64,
+        value: (row / 0x10000 % 16) as u64,
+        count: (row / 0x1000 % 16) as u64,
+        types: (row / 0x100 % 16) as u64,
+        terms: (row / 0x10 % 16) as u64,
+        each: (row % 16) as u64,
+    }
+}
 
 fn row_at(kind: u64) -> Row
     ensures { λ r. ⌜ r ≡ rowOf kind ⌝ }
 {
-    let row = if kind < 44 {
-        TABLE[kind as usize]
-    } else {
-        UNLISTED
-    };
-    Row {
-        sort: row.0,
-        value: row.1,
-        count: row.2,
-        types: row.3,
-        terms: row.4,
-        each: row.5,
+    if kind < 44 {
+        return unpacked(TABLE[kind as usize]);
     }
+    unpacked(0)
 }
 
 fn value_ok(rule: u64, value: u64) -> bool

@@ -1,15 +1,15 @@
 -- One byte of a field, and one line of a sheet, taken off the front.
 -- Assumes nothing.
-use mathlib.Core.Path.{_≡_, refl, sym, _∙_, ap}
+use mathlib.Core.Path.{_≡_, refl, sym, _∙_, ap, subst⁻¹}
 use mathlib.Core.Bool.{Bool, true, false, cond, _&&_}
 use mathlib.Core.List.{List, [], _∷_}
 use Prim.Native.Nat.{ℕ, zero, suc, _+_, _*_, _-_, _/_, _≤_, _<_}
 use native.Mathlib.Omega.{arith}
 use native.Mathlib.Nat.{add-assoc, add-zero, zero-add, sub-zero}
-use lib.Dec.{ltb}
-use borrow.Author.Tests.{ltb-true, ltb-false}
+use lib.Dec.{T, ltb, eqb, eqb→eq}
+use borrow.Author.Tests.{ltb-true, ltb-false, ne-eqb}
 use lib.ListN.{length, getD, List·getD-eq-default}
-use Rattle.spelling.specs.Spelling.{fieldFrom, step, unsigned, magnitude, signOk, lineOf, lineAt, linesFrom, linesOf, firstMisspelt}
+use Rattle.spelling.specs.Spelling.{fieldFrom, spacesFrom, step, unsigned, magnitude, signOk, lineOf, lineAt, linesFrom, linesOf, firstMisspelt}
 use Rattle.spelling.specs.declared.Field.{Field}
 use Rattle.spelling.specs.declared.Field.the-variants.{Blank}
 use Rattle.spelling.specs.declared.Triple.{Triple}
@@ -26,6 +26,56 @@ field-again s at w i f g h e = rw (e, ← add-assoc at i 1) (sym (field-step s (
 pub field-done : (s : List ℕ) (at n : ℕ) (f : Field) → n ≡ 0 → fieldFrom s at n f ≡ f
 unfolding fieldFrom
 field-done s at n f e = rw e
+
+-- ---- the spaces at the front of a field
+module _ (s : List ℕ) where
+  pub spaces-within : (at w : ℕ) → spacesFrom s at w ≤ w
+  unfolding spacesFrom
+  spaces-within at zero = omega arith
+  spaces-within at (suc w) = go (eqb (getD s at 0) 32) (spaces-within (at + 1) w)
+    where
+      go : (t : Bool) → spacesFrom s (at + 1) w ≤ w → cond t (suc (spacesFrom s (at + 1) w)) 0 ≤ suc w
+      go true h = omega arith
+      go false h = omega arith
+
+  space-here : (at n m : ℕ) → n ≡ suc m → getD s at 0 ≡ 32 → spacesFrom s at n ≡ suc (spacesFrom s (at + 1) m)
+  unfolding spacesFrom
+  space-here at n m e h = rw (e, h)
+
+  pub space-again : (at w i : ℕ) → i < w → getD s (at + i) 0 ≡ 32 → i + 1 + spacesFrom s (at + (i + 1)) (w - (i + 1)) ≡ i + spacesFrom s (at + i) (w - i)
+  space-again at w i h e = rw (space-here (at + i) (w - i) (w - (i + 1)) (omega arith) e, ← add-assoc at i 1) (omega arith)
+
+  pub space-stop : (at w i : ℕ) → (getD s (at + i) 0 ≡ 32 → ⊥) → i ≡ i + spacesFrom s (at + i) (w - i)
+  unfolding spacesFrom
+  space-stop at w i h = sym (go (w - i) ∙ add-zero i)
+    where
+      go : (n : ℕ) → i + spacesFrom s (at + i) n ≡ i + 0
+      go zero = refl
+      go (suc n) = rw (ne-eqb (getD s (at + i) 0) 32 h)
+
+  pub space-done : (at w i : ℕ) → w ≤ i → i ≡ i + spacesFrom s (at + i) (w - i)
+  unfolding spacesFrom
+  space-done at w i h = let e : w - i ≡ 0 = omega arith in rw (e, add-zero)
+
+  skip-none : (at w : ℕ) → fieldFrom s (at + 0) (w - 0) Blank ≡ fieldFrom s at w Blank
+  skip-none at w = rw (add-zero, sub-zero)
+
+  -- a field starts after them
+  pub spaces-skip : (at w : ℕ) → fieldFrom s (at + spacesFrom s at w) (w - spacesFrom s at w) Blank ≡ fieldFrom s at w Blank
+  unfolding spacesFrom fieldFrom
+  spaces-skip at zero = refl
+  spaces-skip at (suc w) = go (eqb (getD s at 0) 32) refl (spaces-skip (at + 1) w)
+    where
+      go : (t : Bool) → eqb (getD s at 0) 32 ≡ t
+          → fieldFrom s (at + 1 + spacesFrom s (at + 1) w) (w - spacesFrom s (at + 1) w) Blank ≡ fieldFrom s (at + 1) w Blank
+          → fieldFrom s (at + cond t (suc (spacesFrom s (at + 1) w)) 0) (suc w - cond t (suc (spacesFrom s (at + 1) w)) 0) Blank ≡ fieldFrom s at (suc w) Blank
+      go true e h =
+          let n = spacesFrom s (at + 1) w in
+          let p : at + suc n ≡ at + 1 + n = omega arith in
+          let q : suc w - suc n ≡ w - n = omega arith in
+          let b : step Blank (getD s at 0) ≡ Blank = ap (step Blank) (eqb→eq (getD s at 0) 32 (subst⁻¹ T e tt)) in
+          rw (p, q) h ∙ sym (ap (fieldFrom s (at + 1) w) b)
+      go false e h = skip-none at (suc w)
 
 -- past the last whole line stands no LF
 pub past-end : (s : List ℕ) (i : ℕ) → length s / 29 ≤ i → lineAt s i ≡ Misspelt

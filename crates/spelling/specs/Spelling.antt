@@ -34,6 +34,11 @@ unfoldable pub fieldFrom : List ℕ → ℕ → ℕ → Field → Field
 fieldFrom s at zero f = f
 fieldFrom s at (suc w) f = fieldFrom s (at + 1) w (step f (getD s at 0))
 
+-- how many spaces stand at the front of the w bytes from at
+unfoldable pub spacesFrom : List ℕ → ℕ → ℕ → ℕ
+spacesFrom s at zero = 0
+spacesFrom s at (suc w) = cond (eqb (getD s at 0) 32) (suc (spacesFrom s (at + 1) w)) 0
+
 -- a number with no minus sign
 abbrev pub unsigned : Field → Bool
 unsigned Blank = false

@@ -2,7 +2,7 @@
 ghost use mathlib.Core.Path.{_≡_};
 ghost use Prim.Native.Nat.{ℕ, _+_, _*_, _-_, _/_, _≤_, _<_};
 ghost use lib.ListN.{length, getD};
-ghost use Rattle.spelling.specs.Spelling.{digitStep, otherStep, step, fieldFrom, unsigned, magnitude, minus, signOk, lineOf, lineAt, linesOf, firstMisspelt};
+ghost use Rattle.spelling.specs.Spelling.{digitStep, otherStep, step, fieldFrom, spacesFrom, unsigned, magnitude, minus, signOk, lineOf, lineAt, linesOf, firstMisspelt};
 
 // What the bytes of a field read so far spell.
 pub enum Field {
@@ -93,13 +93,28 @@ fn byte_step(f: Field, b: u8) -> Field
     }
 }
 
-// The field of w bytes from at.
+// How many spaces stand at the front of the w bytes from at.
+fn spaces(s: &[u8], at: usize, w: usize) -> usize
+    requires { ⌜ at + w ≤ length (now s) ⌝ }
+    ensures { λ r. ⌜ r ≡ spacesFrom (now (s .entry)) at w ⌝ }
+{
+    let mut i = 0;
+    while i < w {
+        if s[at + i] != 32 {
+            return i;
+        }
+        i += 1;
+    }
+    i
+}
+
+// The field of w bytes from at. Its spaces are passed over in a loop of their own, since a field is mostly spaces.
 fn field_at(s: &[u8], at: usize, w: usize) -> Field
     requires { ⌜ at + w ≤ length (now s) ⌝ }
     ensures { λ r. ⌜ r ≡ fieldFrom (now (s .entry)) at w Field.Blank ⌝ }
 {
     let mut f = Field::Blank;
-    let mut i = 0;
+    let mut i = spaces(s, at, w);
     while i < w {
         f = byte_step(f, s[at + i]);
         i += 1;

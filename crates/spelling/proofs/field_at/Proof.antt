@@ -1,15 +1,12 @@
--- `sheet::field_at` meets its contract. The invariant: what is left of the field, read after what has been read, is the field.
--- Assumes nothing.
+use borrow.Author.Needs.{needs}
 use mathlib.Core.Path.{_≡_, refl, sym, _∙_}
 use Prim.Native.Nat.{ℕ, suc, _+_, _-_, _≤_}
 use native.Mathlib.Omega.{arith}
-use native.Mathlib.Nat.{add-zero, sub-zero}
-use borrow.Author.Needs.{needs}
 use lib.ListN.{length}
-use Rattle.spelling.specs.Spelling.{fieldFrom, step}
+use Rattle.spelling.specs.Spelling.{fieldFrom, spacesFrom, step}
 use Rattle.spelling.specs.declared.Field.{Field}
 use Rattle.spelling.specs.declared.Field.the-variants.{Blank}
-use Rattle.spelling.proofs.Laws.{field-again, field-done}
+use Rattle.spelling.proofs.Laws.{field-again, field-done, spaces-within, spaces-skip}
 use Rattle.spelling.proofs.field_at.Statement.{statement}
 use Rattle.spelling.proofs.field_at.Tie as tie
 
@@ -20,11 +17,15 @@ abbrev μ-loop : tie.MeasureT-loop
 μ-loop s at w f₀ i₀ f i = w - i
 
 loop-holds : tie.Need-loop-holds Inv-loop μ-loop
-loop-holds c = (search needs, search needs, simp (add-zero, sub-zero))
+loop-holds c =
+    let a = c .before .before .args in
+    let e = c .spaces .ensures in
+    let h = spaces-within (a .s .now) (a .at) (a .w) in
+    (omega arith, search needs, rw e (spaces-skip (a .s .now) (a .at) (a .w)))
 
 loop-again : tie.Need-loop-again Inv-loop μ-loop
 loop-again c =
-    let a = c .before .before .before .before .before .args in
+    let a = c .before .before .before .before .before .before .args in
     let l = c .before .before .before .loop in
     (search needs, search needs, field-again (a .s .now) (a .at) (a .w) (l .i) (l .f) _ (c .before .before .loop-test .taken) (c .byte-step .ensures) ∙ l .inv .2)
 
@@ -33,4 +34,4 @@ returns c = sym (field-done _ _ _ _ (omega arith)) ∙ c .before .loop .inv .2
 
 pub field-at-spec : {M : Type 1} → statement M
 field-at-spec =
-    tie.close (tie.spec Inv-loop μ-loop loop-holds (λ c. search needs) (λ c. search needs) (λ c κs. search needs) (λ c. search needs) (λ c. search needs) loop-again returns)
+    tie.close (tie.spec Inv-loop μ-loop (λ c κs. search needs) loop-holds (λ c. search needs) (λ c. search needs) (λ c κs. search needs) (λ c. search needs) (λ c. search needs) loop-again returns)
