@@ -13,7 +13,8 @@ use Rattle.spelling.specs.declared.Triple.{Triple}
 use Rattle.kinds.specs.Kinds.{aType, partsOf}
 use Rattle.sheet.specs.declared.Found.{Found}
 use Rattle.sheet.specs.declared.Found.the-variants.{At, Nothing}
-use Rattle.sheet.specs.Plan.{triples, isEntry, named, Declaration, declarations, findIn, findEntry, typeAt, planOf}
+use Rattle.sheet.specs.Plan.{isEntry, named, Declaration, declarations, findIn, findEntry, typeAt, planOf}
+use Rattle.sheet.specs.Rows.{rows}
 use Rattle.sheet.specs.Form.{IsPart, Typed, Formed}
 use Rattle.sheet.proofs.Declarations.{find-lookup}
 use Rattle.sheet.proofs.TypeLines.{type-narrow}
@@ -63,12 +64,12 @@ module _ (k x : ℕ) where
   found-typed ls [] h = tt
   found-typed ls (e ∷ es) h = cond-ind (IsType ls) (named k x (e .head)) (λ _. h .0) (λ _. found-typed ls es (h .1))
 
-  module _ (s : List ℕ) {r : Found} (e : r ≡ findEntry k x (triples s)) where
-    entry-lines : Formed (triples s) → {line count : ℕ} → r ≡ At line count → LinesAsk s line count
+  module _ (s : List ℕ) {r : Found} (e : r ≡ findEntry k x (rows s)) where
+    entry-lines : Formed (rows s) → {line count : ℕ} → r ≡ At line count → LinesAsk s line count
     unfolding findEntry
     entry-lines f {line} {count} q = record {
-      within = subst (Ends (length (triples s))) (sym e ∙ q) (found-ends (length (triples s)) (triples s) 0 0 (omega arith));
-      narrow = type-narrow (take count (drop line (triples s))) (subst (IsType (triples s)) (sym e ∙ q) (found-typed (triples s) (declarations (triples s) 0 0) (f .entries)));
+      within = subst (Ends (length (rows s))) (sym e ∙ q) (found-ends (length (rows s)) (rows s) 0 0 (omega arith));
+      narrow = type-narrow (take count (drop line (rows s))) (subst (IsType (rows s)) (sym e ∙ q) (found-typed (rows s) (declarations (rows s) 0 0) (f .entries)));
     }
 
     -- it may be copied and pushed
@@ -81,9 +82,9 @@ module _ (k x : ℕ) where
         (a .board, a .type, omega arith, l)
 
     -- what is found is the type that the plan's entry has
-    pub entry-is : {v : Found} → r ≡ v → typeAt (triples s) v ≡ entryIn k x s
+    pub entry-is : {v : Found} → r ≡ v → typeAt (rows s) v ≡ entryIn k x s
     unfolding findEntry
-    entry-is q = ap (typeAt (triples s)) (sym q ∙ e) ∙ find-lookup k x (triples s) (declarations (triples s) 0 0)
+    entry-is q = ap (typeAt (rows s)) (sym q ∙ e) ∙ find-lookup k x (rows s) (declarations (rows s) 0 0)
 
 -- ---- Vars on the board
 -- what is found has at most m nodes, and stands among the first m
@@ -120,7 +121,7 @@ module _ (x : ℕ) (w : List ℕ) where
 
 -- ---- the rule by the three types that a name may have
 pub looked : {w : ℕ} {b k rep : List ℕ} {c : Run} {b' k' rep' : List ℕ} {r : Run} (s : List ℕ) (x : ℕ) (t : Ty)
-    → Does w (triples s) b k rep c (variable (envOn s) x t (entryIn 2 x s) (findVar x (entriesOf (triples s) b (c .board .entries))) (entryIn 1 x s)) b' k' rep' r
-    → Does w (triples s) b k rep c (inferBy (envOn s) t (isVar x)) b' k' rep' r
+    → Does w (rows s) b k rep c (variable (envOn s) x t (entryIn 2 x s) (findVar x (entriesOf (rows s) b (c .board .entries))) (entryIn 1 x s)) b' k' rep' r
+    → Does w (rows s) b k rep c (inferBy (envOn s) t (isVar x)) b' k' rep' r
 unfolding planOf
 looked s x t d = look-then {f = λ (Γ : Entries). variable (envOn s) x t (entryIn 2 x s) (findVar x Γ) (entryIn 1 x s)} d

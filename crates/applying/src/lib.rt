@@ -5,7 +5,7 @@ ghost use Prim.Native.Nat.{ℕ, _+_, _*_, _≤_};
 ghost use lib.ListN.{length};
 ghost use Rattle.nodes.specs.Nodes.{nodesAt};
 ghost use Rattle.spelling.specs.declared.Triple.{Triple};
-ghost use Rattle.sheet.specs.Plan.{triples};
+ghost use Rattle.sheet.specs.Rows.{rows};
 ghost use Rattle.judgment.specs.Types.{view};
 ghost use Rattle.judgment.specs.Terms.{isVar};
 ghost use Rattle.judgment.specs.Board.{sub, push as pushRule, done, findVar};
@@ -98,7 +98,7 @@ pub fn solve_inf_app(
 fn push_entry(
     board: &mut [u32],
     c: Run,
-    s: &[u8],
+    s: &[u64],
     first: usize,
     n: usize,
     out: &mut [u32],
@@ -106,7 +106,7 @@ fn push_entry(
     tn: usize,
 ) -> Run
     requires { ⌜ Stacked (now board) (c .board) × (2 * tn ≤ length (now t)) × (2 * n ≤ length (now out)) × LinesAsk (now s) first n ⌝ }
-    ensures { λ r. ⌜ ((w : ℕ) (k rep : List ℕ) → WellFormed (now (board .entry)) k c → Does w (triples (now (s .entry))) (now (board .entry)) k rep c (pushRule (sub (typeOn (now (s .entry)) first n) (nodesAt (now (t .entry)) 0 tn)) done) (now (board .exit)) k rep r) ⌝ }
+    ensures { λ r. ⌜ ((w : ℕ) (k rep : List ℕ) → WellFormed (now (board .entry)) k c → Does w (rows (now (s .entry))) (now (board .entry)) k rep c (pushRule (sub (typeOn (now (s .entry)) first n) (nodesAt (now (t .entry)) 0 tn)) done) (now (board .exit)) k rep r) ⌝ }
 {
     copy_type(out, 0, s, first, n);
     push_sub(board, c, out, 0, n, t, 0, tn)
@@ -116,14 +116,14 @@ fn push_entry(
 fn infer_constructor(
     board: &mut [u32],
     c: Run,
-    s: &[u8],
+    s: &[u64],
     name: u32,
     out: &mut [u32],
     t: &[u32],
     tn: usize,
 ) -> Run
     requires { ⌜ VarAsk (now board) c (now s) (now out) (now t) tn ⌝ }
-    ensures { λ r. ⌜ ((w : ℕ) (k rep : List ℕ) → WellFormed (now (board .entry)) k c → Does w (triples (now (s .entry))) (now (board .entry)) k rep c (variable (envOn (now (s .entry))) name (nodesAt (now (t .entry)) 0 tn) none none (entryIn 1 name (now (s .entry)))) (now (board .exit)) k rep r) ⌝ }
+    ensures { λ r. ⌜ ((w : ℕ) (k rep : List ℕ) → WellFormed (now (board .entry)) k c → Does w (rows (now (s .entry))) (now (board .entry)) k rep c (variable (envOn (now (s .entry))) name (nodesAt (now (t .entry)) 0 tn) none none (entryIn 1 name (now (s .entry)))) (now (board .exit)) k rep r) ⌝ }
 {
     match find_entry(s, 1, name as u64) {
         sheet::Found::At { line, count } => push_entry(board, c, s, line, count, out, t, tn),
@@ -135,14 +135,14 @@ fn infer_constructor(
 fn infer_on_board(
     board: &mut [u32],
     c: Run,
-    s: &[u8],
+    s: &[u64],
     name: u32,
     out: &mut [u32],
     t: &[u32],
     tn: usize,
 ) -> Run
     requires { ⌜ VarAsk (now board) c (now s) (now out) (now t) tn ⌝ }
-    ensures { λ r. ⌜ ((w : ℕ) (k rep : List ℕ) → WellFormed (now (board .entry)) k c → Does w (triples (now (s .entry))) (now (board .entry)) k rep c (variable (envOn (now (s .entry))) name (nodesAt (now (t .entry)) 0 tn) none (findVar name (entriesOf (triples (now (s .entry))) (now (board .entry)) (c .board .entries))) (entryIn 1 name (now (s .entry)))) (now (board .exit)) k rep r) ⌝ }
+    ensures { λ r. ⌜ ((w : ℕ) (k rep : List ℕ) → WellFormed (now (board .entry)) k c → Does w (rows (now (s .entry))) (now (board .entry)) k rep c (variable (envOn (now (s .entry))) name (nodesAt (now (t .entry)) 0 tn) none (findVar name (entriesOf (rows (now (s .entry))) (now (board .entry)) (c .board .entries))) (entryIn 1 name (now (s .entry)))) (now (board .exit)) k rep r) ⌝ }
 {
     let b = c.board;
     match find_var(board, b, name) {
@@ -159,14 +159,14 @@ fn infer_on_board(
 pub fn infer_variable(
     board: &mut [u32],
     c: Run,
-    s: &[u8],
+    s: &[u64],
     name: u32,
     out: &mut [u32],
     t: &[u32],
     tn: usize,
 ) -> Run
     requires { ⌜ VarAsk (now board) c (now s) (now out) (now t) tn ⌝ }
-    ensures { λ r. ⌜ ((w : ℕ) (k rep : List ℕ) → WellFormed (now (board .entry)) k c → Does w (triples (now (s .entry))) (now (board .entry)) k rep c (inferBy (envOn (now (s .entry))) (nodesAt (now (t .entry)) 0 tn) (isVar name)) (now (board .exit)) k rep r) ⌝ }
+    ensures { λ r. ⌜ ((w : ℕ) (k rep : List ℕ) → WellFormed (now (board .entry)) k c → Does w (rows (now (s .entry))) (now (board .entry)) k rep c (inferBy (envOn (now (s .entry))) (nodesAt (now (t .entry)) 0 tn) (isVar name)) (now (board .exit)) k rep r) ⌝ }
 {
     match find_entry(s, 2, name as u64) {
         sheet::Found::At { line, count } => push_entry(board, c, s, line, count, out, t, tn),

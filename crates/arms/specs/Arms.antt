@@ -31,7 +31,7 @@ pub record Lent (ls : List Triple) (u : ℕ) (w v l r t : List ℕ) (ta tn : ℕ
   pub frames : 6 * length ls + 12 ≤ length w
   pub rows : 6 * length ls + 6 ≤ length v
   pub left : 8192 ≤ length l
-  pub right : 8192 ≤ length r
+  pub right : 2 * length ls + 2 ≤ length r
   pub type : ta + 2 * tn ≤ length t
 
 pub record ArmAsk (b : List ℕ) (c : Run) (ls : List Triple) (first u : ℕ) (w v l r t : List ℕ) (ta tn : ℕ) : Type 0 where
@@ -64,7 +64,7 @@ pub record CaseAsk (b : List ℕ) (c : Run) (ls : List Triple) (line n : ℕ) (w
   pub frames : 6 * length ls + 12 ≤ length w
   pub rows : 6 * length ls + 6 ≤ length v
   pub left : 8192 ≤ length l
-  pub right : 8192 ≤ length r
+  pub right : 2 * length ls + 2 ≤ length r
   pub type : 2 * tn ≤ length t
   pub within : line ≤ length ls
   pub narrow : NarrowArms n (drop line ls)

@@ -4,7 +4,7 @@ ghost use mathlib.Core.List.{List};
 ghost use Prim.Native.Nat.{ℕ, _+_, _*_, _≤_, _<_};
 ghost use lib.ListN.{length, drop};
 ghost use Rattle.nodes.specs.Nodes.{nodesAt};
-ghost use Rattle.sheet.specs.Plan.{triples};
+ghost use Rattle.sheet.specs.Rows.{rows, Ended};
 ghost use Rattle.judgment.specs.Types.{unknown};
 ghost use Rattle.judgment.specs.Terms.{isCase};
 ghost use Rattle.judgment.specs.Rules.{pushVars, checkArms, inferBy};
@@ -25,9 +25,9 @@ use sheet::part_line;
 use tables::get;
 
 // Pushes the Var of each of the n bindings in v. l is scratch.
-fn push_vars(board: &mut [u32], c: Run, s: &[u8], v: &[usize], n: usize, l: &mut [u32]) -> Run
-    requires { ⌜ VarsAsk (now board) c (triples (now s)) (now v) n (now l) ⌝ }
-    ensures { λ r. ⌜ Turn {A = ℕ} (triples (now (s .entry))) (now (board .entry)) c (λ f. pushVars (bindingsAt (triples (now (s .entry))) (now (v .entry)) 0 n) (f 0)) (now (board .exit)) r (λ f. f 0) ⌝ }
+fn push_vars(board: &mut [u32], c: Run, s: &[u64], v: &[usize], n: usize, l: &mut [u32]) -> Run
+    requires { ⌜ VarsAsk (now board) c (rows (now s)) (now v) n (now l) ⌝ }
+    ensures { λ r. ⌜ Turn {A = ℕ} (rows (now (s .entry))) (now (board .entry)) c (λ f. pushVars (bindingsAt (rows (now (s .entry))) (now (v .entry)) 0 n) (f 0)) (now (board .exit)) r (λ f. f 0) ⌝ }
 {
     let mut run = c;
     let mut i: usize = 0;
@@ -53,7 +53,7 @@ pub struct Arm {
 fn check_arm(
     board: &mut [u32],
     c: Run,
-    s: &[u8],
+    s: &[u64],
     first: usize,
     u: u32,
     w: &mut [usize],
@@ -64,8 +64,8 @@ fn check_arm(
     ta: usize,
     tn: usize,
 ) -> Arm
-    requires { ⌜ ArmAsk (now board) c (triples (now s)) first u (now w) (now v) (now l) (now r) (now t) ta tn ⌝ }
-    ensures { λ o. ⌜ Armed (now (board .entry)) c (triples (now (s .entry))) first u (nodesAt (now (t .entry)) ta tn) (now (board .exit)) o ⌝ }
+    requires { ⌜ ArmAsk (now board) c (rows (now s)) first u (now w) (now v) (now l) (now r) (now t) ta tn × Ended (now s) ⌝ }
+    ensures { λ o. ⌜ Armed (now (board .entry)) c (rows (now (s .entry))) first u (nodesAt (now (t .entry)) ta tn) (now (board .exit)) o ⌝ }
 {
     let body = part_line(s, first, 1);
     let lines = body - first;
@@ -81,7 +81,7 @@ fn check_arm(
 pub fn check_arms(
     board: &mut [u32],
     c: Run,
-    s: &[u8],
+    s: &[u64],
     line: usize,
     n: usize,
     u: u32,
@@ -93,8 +93,8 @@ pub fn check_arms(
     ta: usize,
     tn: usize,
 ) -> Run
-    requires { ⌜ ArmsAsk (now board) c (triples (now s)) line n u (now w) (now v) (now l) (now r) (now t) ta tn ⌝ }
-    ensures { λ o. ⌜ ((m : ℕ) (k rep : List ℕ) → WellFormed (now (board .entry)) k c → Does m (triples (now (s .entry))) (now (board .entry)) k rep c (checkArms (envAt (triples (now (s .entry)))) n (drop line (triples (now (s .entry)))) (unknown u) (nodesAt (now (t .entry)) ta tn)) (now (board .exit)) k rep o) ⌝ }
+    requires { ⌜ ArmsAsk (now board) c (rows (now s)) line n u (now w) (now v) (now l) (now r) (now t) ta tn × Ended (now s) ⌝ }
+    ensures { λ o. ⌜ ((m : ℕ) (k rep : List ℕ) → WellFormed (now (board .entry)) k c → Does m (rows (now (s .entry))) (now (board .entry)) k rep c (checkArms (envAt (rows (now (s .entry)))) n (drop line (rows (now (s .entry)))) (unknown u) (nodesAt (now (t .entry)) ta tn)) (now (board .exit)) k rep o) ⌝ }
 {
     let mut run = c;
     let mut at = line;
@@ -112,7 +112,7 @@ pub fn check_arms(
 pub fn infer_case(
     board: &mut [u32],
     c: Run,
-    s: &[u8],
+    s: &[u64],
     e: u32,
     line: usize,
     n: usize,
@@ -123,8 +123,8 @@ pub fn infer_case(
     t: &[u32],
     tn: usize,
 ) -> Run
-    requires { ⌜ CaseAsk (now board) c (triples (now s)) line n (now w) (now v) (now l) (now r) (now t) tn ⌝ }
-    ensures { λ o. ⌜ ((m : ℕ) (k rep : List ℕ) → WellFormed (now (board .entry)) k c → Does m (triples (now (s .entry))) (now (board .entry)) k rep c (inferBy (envAt (triples (now (s .entry)))) (nodesAt (now (t .entry)) 0 tn) (isCase n (termAt (triples (now (s .entry))) e) (drop line (triples (now (s .entry)))))) (now (board .exit)) k rep o) ⌝ }
+    requires { ⌜ CaseAsk (now board) c (rows (now s)) line n (now w) (now v) (now l) (now r) (now t) tn × Ended (now s) ⌝ }
+    ensures { λ o. ⌜ ((m : ℕ) (k rep : List ℕ) → WellFormed (now (board .entry)) k c → Does m (rows (now (s .entry))) (now (board .entry)) k rep c (inferBy (envAt (rows (now (s .entry)))) (nodesAt (now (t .entry)) 0 tn) (isCase n (termAt (rows (now (s .entry))) e) (drop line (rows (now (s .entry)))))) (now (board .exit)) k rep o) ⌝ }
 {
     let a = c.fresh;
     let c1 = fresh_evar(c);

@@ -11,7 +11,7 @@ use lib.ListN.{length}
 use borrow.Author.Tests.{ltb-true, ltb-false}
 use Rattle.nodes.specs.Nodes.{nodesAt}
 use Rattle.spelling.specs.declared.Triple.{Triple}
-use Rattle.sheet.specs.Plan.{triples}
+use Rattle.sheet.specs.Rows.{rows}
 use Rattle.judgment.specs.Solutions.{Solutions}
 use Rattle.judgment.specs.Board.{Entry, Limits, Operation, State, state, Outcome, finished, refused, perform, operations}
 use Rattle.judgment.specs.Board.{Board as Entries}
@@ -77,13 +77,13 @@ module _ (L : Limits) (E : Env) (C : ℕ) where
 -- ---- the loop
 pub record Loop (s : List ℕ) (C : ℕ) (b k rep : List ℕ) (c : Run) : Type 0 where
   pub reached : Reached s b k rep c
-  pub left : leftOf limits (envOn s) C (c .taken) (outcomeOf (triples s) b k rep c) ≡ told 0 (runFrom limits (envOn s) C (startOf (triples s)))
+  pub left : leftOf limits (envOn s) C (c .taken) (outcomeOf (rows s) b k rep c) ≡ told 0 (runFrom limits (envOn s) C (startOf (rows s)))
 
 pub loop-start : {s : List ℕ} (C : ℕ) {b k rep : List ℕ} {c : Run} → Reached s b k rep c → c .taken ≡ 0 → Loop s C b k rep c
 unfolding after
 loop-start {s} C {b} {k} {rep} {c} r z =
     let E = envOn s in
-    let S = startOf (triples s) in
+    let S = startOf (rows s) in
     let y : C - 0 ≡ C = omega arith in
     record {
       reached = r;
@@ -104,7 +104,7 @@ pub loop-turn : {s : List ℕ} {C : ℕ} {b k rep : List ℕ} {c : Run} {b' k' r
 unfolding after
 loop-turn {s} {C} {b} {k} {rep} {c} {b'} {k'} {rep'} {q} f h r =
     let E = envOn s in
-    let ls = triples s in
+    let ls = rows s in
     let S = startOf ls in
     let g = going-is (c .halt) (f .0) in
     let o : outcomeOf ls b' k' rep' q ≡ stepO limits E (outcomeOf ls b k rep c) =
@@ -128,6 +128,6 @@ ended L E C ls b rep Going i m σ n e = end-entries L E C ls b rep i m σ n (λ 
 ended L E C ls b rep (Refused r) i m σ n e = refl
 
 pub loop-end : {s : List ℕ} {C : ℕ} {b k rep : List ℕ} {c : Run} → Loop s C b k rep c → (going (c .halt) && (ltb 0 (c .board .entries) && ltb (c .taken) C)) ≡ false
-    → told 0 (runFrom limits (envOn s) C (startOf (triples s))) ≡ record { end = endOf rep c; taken = c .taken; last = stateOf (triples s) b k c }
+    → told 0 (runFrom limits (envOn s) C (startOf (rows s))) ≡ record { end = endOf rep c; taken = c .taken; last = stateOf (rows s) b k c }
 loop-end {s} {C} {b} {k} {rep} {c} h e =
-    sym (h .left) ∙ ended limits (envOn s) C (triples s) b rep (c .halt) (c .board .entries) (c .taken) (sols k) (c .fresh) e
+    sym (h .left) ∙ ended limits (envOn s) C (rows s) b rep (c .halt) (c .board .entries) (c .taken) (sols k) (c .fresh) e

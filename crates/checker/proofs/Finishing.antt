@@ -13,7 +13,8 @@ use borrow.Author.Tests.{ltb-true, ltb-false, lt-ltb, le-ltb, ne-eqb}
 use Rattle.nodes.specs.Nodes.{Ty, words, nodesAt, zeros}
 use Rattle.nodes.proofs.Laws.{length-words, length-nodesAt, getD-sets-below, getD-sets-in}
 use Rattle.spelling.specs.declared.Triple.{Triple}
-use Rattle.sheet.specs.Plan.{triples, isPlain, planOf}
+use Rattle.sheet.specs.Plan.{isPlain, planOf}
+use Rattle.sheet.specs.Rows.{rows}
 use Rattle.judgment.specs.declared.Answer.{Answer}
 use Rattle.judgment.specs.declared.Details.{Details}
 use Rattle.judgment.specs.declared.TypeError.{TypeError}
@@ -53,16 +54,16 @@ unfolding resultOf
 result-told plain (steps ss e (state Γ σ n)) =
     ap (λ (m : ℕ). resultTold plain (record { end = e; taken = m; last = state Γ σ n })) (sym (zero-add (length ss)))
 
-pub judged : (s : List ℕ) (C : ℕ) (b k rep : List ℕ) (c : Run) → told 0 (runFrom limits (envOn s) C (startOf (triples s))) ≡ record { end = endOf rep c; taken = c .taken; last = stateOf (triples s) b k c }
-    → judge limits C (triples s) ≡ record {
-      answer = answerBy (planOf (triples s) .plain) (endOf rep c) (c .taken) (c .fresh);
+pub judged : (s : List ℕ) (C : ℕ) (b k rep : List ℕ) (c : Run) → told 0 (runFrom limits (envOn s) C (startOf (rows s))) ≡ record { end = endOf rep c; taken = c .taken; last = stateOf (rows s) b k c }
+    → judge limits C (rows s) ≡ record {
+      answer = answerBy (planOf (rows s) .plain) (endOf rep c) (c .taken) (c .fresh);
       report = endReport (endOf rep c);
       solutions = sols k;
     }
 unfolding judge runOf checkType
 judged s C b k rep c e =
-    let p = planOf (triples s) in
-    result-told (p .plain) (runFrom limits (envOn s) C (startOf (triples s))) ∙ ap (resultTold (p .plain)) e
+    let p = planOf (rows s) in
+    result-told (p .plain) (runFrom limits (envOn s) C (startOf (rows s))) ∙ ap (resultTold (p .plain)) e
 
 -- ---- the numbers of an end
 pub going-number : (i : ℕ) (rep : List ℕ) → endNumber (endBy Going i rep) ≡ cond (eqb i 0) 0 21
@@ -163,9 +164,9 @@ end-small (Refused e) = go (ltb (reported e) 2048) refl
 
 -- ---- all of it
 pub ran : (s : List ℕ) (C : ℕ) {b k : List ℕ} (rep : List ℕ) (c : Run) {b' rep' : List ℕ} {a : Answer} {plain : Bool} {n : ℕ}
-    → WellFormed b k c × (told 0 (runFrom limits (envOn s) C (startOf (triples s))) ≡ record { end = endOf rep c; taken = c .taken; last = stateOf (triples s) b k c })
+    → WellFormed b k c × (told 0 (runFrom limits (envOn s) C (startOf (rows s))) ≡ record { end = endOf rep c; taken = c .taken; last = stateOf (rows s) b k c })
     → length k ≡ 10192 → length rep ≡ 4096 → b' ≡ boardWords → n ≡ reportEnd (c .halt) → rep' ≡ sets rep n (zeros (4096 - n))
-    → plain ≡ isPlain (triples s) → ((rep : List ℕ) → a ≡ answerBy plain (endOf rep c) (c .taken) (c .fresh)) → Ran (judge limits C (triples s)) b' k rep' a
+    → plain ≡ isPlain (rows s) → ((rep : List ℕ) → a ≡ answerBy plain (endOf rep c) (c .taken) (c .fresh)) → Ran (judge limits C (rows s)) b' k rep' a
 unfolding planOf
 ran s C {b} {k} rep c h lk lr eb en er ep ea =
     let j = judged s C b k rep c (h .1) in

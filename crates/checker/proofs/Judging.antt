@@ -13,17 +13,10 @@ use Rattle.nodes.specs.Nodes.{node, Ty, words, nodesAt}
 use Rattle.nodes.specs.Parts.{takeParts}
 use Rattle.nodes.proofs.PartLaws.{take-all}
 use Rattle.nodes.proofs.Laws.{length-nodesAt, nodesAt-same}
-use Rattle.spelling.specs.Spelling.{linesOf, firstMisspelt}
 use Rattle.spelling.specs.declared.Triple.{Triple}
 use Rattle.kinds.specs.Kinds.{aTerm, partsOf}
-use Rattle.grammar.specs.declared.Check.{Check}
-use Rattle.grammar.specs.declared.Check.the-variants.{Plan, Length}
-use Rattle.grammar.specs.Check.{check, lengthOk}
-use Rattle.grammar.proofs.Lines.{few-lines}
-use Rattle.sheet.specs.Plan.{triples}
+use Rattle.sheet.specs.Rows.{rows}
 use Rattle.sheet.specs.Form.{IsPart}
-use Rattle.sheet.proofs.Lines.{length-triples}
-use Rattle.sheet.proofs.Formed.{formed}
 use Rattle.judgment.specs.Types.{view}
 use Rattle.judgment.specs.Terms.{termView}
 use Rattle.judgment.specs.Board.{Entry, tvar, var, sub, inf, chk, infApp, Rule, done}
@@ -37,16 +30,7 @@ use Rattle.subtyping.specs.Subtyping.{Sound, SubtypeAsk}
 use Rattle.checking.specs.Checking.{CheckAsk}
 use Rattle.inferring.specs.Inferring.{InferAsk}
 use Rattle.checker.specs.Running.{topEntry, EntrySound, JudgeAsk}
-
--- ---- a sheet that is taken
--- it has at most 2,000 lines
-pub plan-few : (s : List ℕ) → check s ≡ Plan → length (triples s) ≤ 2000
-unfolding check
-plan-few s e = let n = length-triples s in let m = go (lengthOk (length s)) refl _ e in omega arith
-  where
-    go : (b : Bool) → lengthOk (length s) ≡ b → (x : Check) → cond b x Length ≡ Plan → length s / 29 ≤ 2000
-    go true h x q = few-lines (length s) h
-    go false h x q = absurd (let z : _≡_ {A = ℕ} 0 1 = cc in omega arith)
+use Rattle.checker.proofs.Reading.{read-few, read-formed}
 
 -- a part that is there stands on a line
 pub part-stands : (x : ℕ) (ls : List Triple) (p : ℕ) → IsPart x (termAt ls p) → p < length ls
@@ -84,9 +68,9 @@ module _ (ls : List Triple) (n : ℕ) (t u : Ty) where
       go true = refl
       go false = refl
 
-module _ {s b k rep : List ℕ} {c : Run} {o : Top} {t l : List ℕ} (a : JudgeAsk s b k rep c o t l) where
+module _ {s b k rep : List ℕ} {c : Run} {o : Top} {t l r w v : List ℕ} (a : JudgeAsk s b k rep c o t l r w v) where
   abbrev ls : List Triple
-  ls = triples s
+  ls = rows s
 
   pub within-board : o .at + 2 * (o .left + o .right) ≤ length b
   within-board = let x = a .within in let y = a .formed .board .room in omega arith
@@ -118,10 +102,11 @@ module _ {s b k rep : List ℕ} {c : Run} {o : Top} {t l : List ℕ} (a : JudgeA
   pub infer-asks : o .kind ≡ 4 → (t' : List ℕ) → length t' ≡ length t → InferAsk b c s (o .number) t' (o .left) l
   infer-asks e t' q =
       let h = subst (EntrySound (c .fresh)) (is-inf ls (o .number) _ _ (o .kind) e) (a .entry) in
-      let n = plan-few s (a .plan) in
+      let n = read-few (a .plan) in
       record {
         ready = record { board = a .formed .board; numbers = a .formed .numbers };
-        sheet = formed s (a .plan);
+        sheet = read-formed (a .plan);
+        ended = a .plan .ended;
         few = n;
         stands = part-stands aTerm ls (o .number) h;
         term = h;
@@ -132,10 +117,11 @@ module _ {s b k rep : List ℕ} {c : Run} {o : Top} {t l : List ℕ} (a : JudgeA
   pub check-asks : o .kind ≡ 5 → (t' : List ℕ) → length t' ≡ length t → CheckAsk b c s (o .number) t' (o .left) l
   check-asks e t' q =
       let h = subst (EntrySound (c .fresh)) (is-chk ls (o .number) _ _ (o .kind) e) (a .entry) in
-      let n = plan-few s (a .plan) in
+      let n = read-few (a .plan) in
       let g = a .lent .left in
       record {
         board = a .formed .board;
+        ended = a .plan .ended;
         stands = part-stands aTerm ls (o .number) h;
         few = n;
         term = h;

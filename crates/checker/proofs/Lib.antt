@@ -1,3 +1,4 @@
+pub mod Reading
 pub mod Reaching
 pub mod Judging
 pub mod Stepping

@@ -8,9 +8,8 @@ use Rattle.nodes.specs.Nodes.{Ty, nodesAt}
 use Rattle.nodes.specs.Lists.{All}
 use Rattle.nodes.proofs.ListLaws.{all-map}
 use Rattle.spelling.specs.declared.Triple.{Triple}
-use Rattle.grammar.specs.declared.Check.the-variants.{Plan}
-use Rattle.grammar.specs.Check.{check}
-use Rattle.sheet.specs.Plan.{triples, planOf}
+use Rattle.sheet.specs.Plan.{planOf}
+use Rattle.sheet.specs.Rows.{rows}
 use Rattle.judgment.specs.Solutions.{Solution, Solutions, value}
 use Rattle.judgment.specs.Board.{Entry, tvar, var, sub, inf, chk, infApp, Limits, State, state, Outcome, finished, refused, perform}
 use Rattle.judgment.specs.Board.{Board as Entries}
@@ -19,8 +18,8 @@ use Rattle.judgment.specs.Result.{limits, envOf}
 use Rattle.judgment.proofs.Invariant.{OK, EntryOK, SolutionOK, Inv, Kept, perform-kept}
 use Rattle.judgment.proofs.RuleLaws.{EnvOK, Explains, rule-good}
 use Rattle.judgment.proofs.WholeTypes.{IsTy}
-use Rattle.judgment.proofs.WholeRun.{EntryWhole, EnvWhole, OutcomeWhole, perform-whole, rule-whole, plan-whole}
-use Rattle.judgment.proofs.Promised.{plan-env, plan-inv, sheet-plan}
+use Rattle.judgment.proofs.WholeRun.{EntryWhole, EnvWhole, OutcomeWhole, perform-whole, rule-whole}
+use Rattle.judgment.proofs.Promised.{plan-env, plan-inv}
 use Rattle.board.specs.Board.{entriesOf}
 use Rattle.book.specs.Book.{sols}
 use Rattle.operations.specs.declared.Halt.{Halt}
@@ -30,6 +29,7 @@ use Rattle.operations.specs.State.{outcomeBy, outcomeOf, stateOf}
 use Rattle.subtyping.specs.Subtyping.{Made, Sound}
 use Rattle.applying.specs.Applying.{envOn}
 use Rattle.checker.specs.Running.{startOf, stepO, after, EntrySound, Reached}
+use Rattle.checker.proofs.Reading.{read-good, read-whole}
 
 module _ (Plain : Type 0) where
   -- unknowns below the counter, whole types
@@ -86,13 +86,13 @@ module _ (Plain : Type 0) where
 
 -- a plan without quantifiers
 abbrev pub PlainPlan : List ℕ → Type 0
-PlainPlan s = planOf (triples s) .plain ≡ true
+PlainPlan s = planOf (rows s) .plain ≡ true
 
-pub reached-ok : {s b k rep : List ℕ} {c : Run} → Reached s b k rep c → StateOK (PlainPlan s) (entriesOf (triples s) b (c .board .entries)) (sols k) (c .fresh)
+pub reached-ok : {s b k rep : List ℕ} {c : Run} → Reached s b k rep c → StateOK (PlainPlan s) (entriesOf (rows s) b (c .board .entries)) (sols k) (c .fresh)
 reached-ok {s} {b} {k} {rep} {c} q =
-    let p = planOf (triples s) in
-    let g = sheet-plan s (q .plan) in
-    let w = plan-whole s (q .plan) in
-    of-outcome (PlainPlan s) (c .halt) rep (entriesOf (triples s) b (c .board .entries)) (sols k) (c .fresh)
+    let p = planOf (rows s) in
+    let g = read-good (q .plan) in
+    let w = read-whole (q .plan) in
+    of-outcome (PlainPlan s) (c .halt) rep (entriesOf (rows s) b (c .board .entries)) (sols k) (c .fresh)
     (subst⁻¹ (OutcomeOK (PlainPlan s)) (q .outcome)
-    (after-ok (PlainPlan s) limits (envOn s) (plan-env p g) (w .0) (startOf (triples s)) (record { inv = plan-inv p g; entries = (w .1, tt); solutions = tt }) (c .taken)))
+    (after-ok (PlainPlan s) limits (envOn s) (plan-env p g) (w .0) (startOf (rows s)) (record { inv = plan-inv p g; entries = (w .1, tt); solutions = tt }) (c .taken)))

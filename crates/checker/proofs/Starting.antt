@@ -13,16 +13,13 @@ use Rattle.nodes.proofs.Laws.{length-nodesAt}
 use Rattle.nodes.proofs.PartLaws.{take-drop}
 use Rattle.spelling.specs.declared.Triple.{Triple}
 use Rattle.kinds.specs.Kinds.{aType, aTerm, partsOf}
-use Rattle.grammar.specs.declared.Check.the-variants.{Plan}
-use Rattle.grammar.specs.Check.{check}
 use Rattle.grammar.specs.Grammar.{Item, part as item}
 use Rattle.sheet.specs.declared.Places.{Places}
-use Rattle.sheet.specs.Plan.{triples, partLine, nodesOf, Narrow, placesOf, planOf}
+use Rattle.sheet.specs.Plan.{partLine, nodesOf, Narrow, placesOf, planOf}
+use Rattle.sheet.specs.Rows.{rows}
 use Rattle.sheet.specs.Form.{Forms, IsPart}
-use Rattle.sheet.proofs.Lines.{length-triples}
 use Rattle.sheet.proofs.Forming.{split}
 use Rattle.sheet.proofs.TypeLines.{type-narrow}
-use Rattle.sheet.proofs.Formed.{formed}
 use Rattle.judgment.specs.Board.{chk, State, state, Outcome, finished}
 use Rattle.judgment.specs.Result.{bookWords, limits}
 use Rattle.applying.specs.Applying.{envOn}
@@ -38,8 +35,9 @@ use Rattle.inference.proofs.Written.{length-typeOn, copied}
 use Rattle.operations.specs.declared.Halt.the-variants.{Going}
 use Rattle.operations.specs.declared.Run.{Run}
 use Rattle.operations.specs.State.{outcomeOf, WellFormed}
-use Rattle.checker.specs.Running.{startOf, after, StartAsk, Reached}
-use Rattle.checker.proofs.Judging.{plan-few, part-stands}
+use Rattle.checker.specs.Running.{startOf, after, Read, StartAsk, Reached}
+use Rattle.checker.proofs.Judging.{part-stands}
+use Rattle.checker.proofs.Reading.{read-few, read-formed}
 
 -- a part that is all there is
 no-lines : (ts : List Triple) → Forms ts [] → ts ≡ []
@@ -51,23 +49,23 @@ alone x ts f =
     let q = no-lines (dropParts partsOf ts 1) (split ts (item x ∷ []) [] tt f .1) in
     sym (append-nil (takeParts partsOf ts 1)) ∙ ap (λ (ys : List Triple). takeParts partsOf ts 1 ++ ys) (sym q) ∙ take-drop partsOf ts 1
 
-module _ (s : List ℕ) (h : check s ≡ Plan) where
+module _ (s : List ℕ) (h : Read s) where
   abbrev ls : List Triple
-  ls = triples s
+  ls = rows s
 
   abbrev at : ℕ
   at = placesOf ls .expected
 
   expected-part : IsPart aType (termAt ls at)
   unfolding termAt
-  expected-part = formed s h .expected
+  expected-part = read-formed h .expected
 
   -- the expected type stands within the sheet
   pub expected-within : (at ≤ partLine ls at 1) × (partLine ls at 1 ≤ 2000)
   expected-within =
       let l = part-stands aType ls at expected-part in
       let w = part-within ls at 1 (omega arith) in
-      let n = plan-few s h in
+      let n = read-few h in
       let w1 = w .1 in
       (w .0, omega arith)
 
@@ -75,7 +73,7 @@ module _ (s : List ℕ) (h : check s ≡ Plan) where
   copy-start t m =
       let l = part-stands aType ls at expected-part in
       let w = part-within ls at 1 (omega arith) in
-      let n = plan-few s h in
+      let n = read-few h in
       let w0 = w .0 in
       let w1 = w .1 in
       (omega arith, omega arith, type-narrow (take (partLine ls at 1 - at) (drop at ls)) (subst (IsPart aType) (part-lines ls at) expected-part))
@@ -88,7 +86,7 @@ module _ (s : List ℕ) (h : check s ≡ Plan) where
   -- what stands there is the plan's
   term-is : termAt ls (placesOf ls .term) ≡ planOf ls .term
   unfolding termAt planOf
-  term-is = alone aTerm (drop (placesOf ls .term) ls) (formed s h .term)
+  term-is = alone aTerm (drop (placesOf ls .term) ls) (read-formed h .term)
 
   type-is : nodesOf (take (partLine ls at 1 - at) (drop at ls)) ≡ planOf ls .expected
   unfolding planOf termAt
@@ -135,20 +133,20 @@ module _ (s : List ℕ) (h : check s ≡ Plan) where
         rw (laid-entries (new-stacked b lb) 5 (placesOf ls .term) T [] (omega arith) few ls, no-entries ls b, new-sols k lk, term-is, tn, type-is) refl
 
 -- what the code reads and writes, one after the other
-module _ {s b k t : List ℕ} (a : StartAsk s b k t) {p : Places} (ep : p ≡ placesOf (triples s)) {e : ℕ} (ee : e ≡ partLine (triples s) (p .expected) 1) where
-  count-is : e - p .expected ≡ partLine (triples s) (placesOf (triples s) .expected) 1 - placesOf (triples s) .expected
+module _ {s b k t : List ℕ} (a : StartAsk s b k t) {p : Places} (ep : p ≡ placesOf (rows s)) {e : ℕ} (ee : e ≡ partLine (rows s) (p .expected) 1) where
+  count-is : e - p .expected ≡ partLine (rows s) (placesOf (rows s) .expected) 1 - placesOf (rows s) .expected
   count-is = rw (ee, ep) refl
 
   pub begins : p .expected ≤ e
   begins = rw (ee, ep) (expected-within s (a .plan) .0)
 
-  pub copy-asks : (0 + 2 * (e - p .expected) ≤ length t) × (p .expected + (e - p .expected) ≤ length (triples s)) × All Narrow (take (e - p .expected) (drop (p .expected) (triples s)))
+  pub copy-asks : (0 + 2 * (e - p .expected) ≤ length t) × (p .expected + (e - p .expected) ≤ length (rows s)) × All Narrow (take (e - p .expected) (drop (p .expected) (rows s)))
   copy-asks = rw (ee, ep) (copy-start s (a .plan) t (a .type))
 
   pub line-word : p .term < 4294967296
   line-word = rw ep (term-word s (a .plan))
 
-  module _ {t' : List ℕ} (et : t' ≡ sets t 0 (words (nodesOf (take (e - p .expected) (drop (p .expected) (triples s)))))) (m : length t' ≡ length t) {d : Board} (ed : d ≡ record { entries = 0; nodes = 0 }) where
+  module _ {t' : List ℕ} (et : t' ≡ sets t 0 (words (nodesOf (take (e - p .expected) (drop (p .expected) (rows s)))))) (m : length t' ≡ length t) {d : Board} (ed : d ≡ record { entries = 0; nodes = 0 }) where
     pub push-asks : PushAsk b d t' 0 (e - p .expected) t' 0 0
     push-asks =
         let w0 = copy-asks .0 in
@@ -156,28 +154,28 @@ module _ {s b k t : List ℕ} (a : StartAsk s b k t) {p : Places} (ep : p ≡ pl
         let c = count-is in
         rw ed (record { room = a .board; few = omega arith; fits = omega arith; left = omega arith; right = omega arith })
 
-    expected-nodes : nodesAt t' 0 (e - p .expected) ≡ nodesOf (take (partLine (triples s) (placesOf (triples s) .expected) 1 - placesOf (triples s) .expected) (drop (placesOf (triples s) .expected) (triples s)))
+    expected-nodes : nodesAt t' 0 (e - p .expected) ≡ nodesOf (take (partLine (rows s) (placesOf (rows s) .expected) 1 - placesOf (rows s) .expected) (drop (placesOf (rows s) .expected) (rows s)))
     expected-nodes =
-        let T : Ty = nodesOf (take (e - p .expected) (drop (p .expected) (triples s))) in
+        let T : Ty = nodesOf (take (e - p .expected) (drop (p .expected) (rows s))) in
         let w0 = copy-asks .0 in
         let y : nodesAt t' 0 (e - p .expected) ≡ T = copied t T (e - p .expected) (length-typeOn s (p .expected) (e - p .expected) (copy-asks .1)) (omega arith) et in
-        let z : T ≡ nodesOf (take (partLine (triples s) (placesOf (triples s) .expected) 1 - placesOf (triples s) .expected) (drop (placesOf (triples s) .expected) (triples s))) = rw (ee, ep) refl in
+        let z : T ≡ nodesOf (take (partLine (rows s) (placesOf (rows s) .expected) 1 - placesOf (rows s) .expected) (drop (placesOf (rows s) .expected) (rows s))) = rw (ee, ep) refl in
         y ∙ z
 
     pub begun-is : {b' k' : List ℕ} {q : Board} {bk : Book} → (b' ≡ laid b d 5 (p .term) (nodesAt t' 0 (e - p .expected)) (nodesAt t' 0 0)) × (q ≡ grown d (e - p .expected + 0)) → k' ≡ sets k 0 (bookWords []) → bk ≡ record { nodes = 0 }
-        → (let r : Run = record { taken = 0; fresh = 0; board = q; book = bk; halt = Going } in WellFormed b' k' r × (r .taken ≡ 0) × ((rep : List ℕ) → outcomeOf (triples s) b' k' rep r ≡ finished (startOf (triples s))))
+        → (let r : Run = record { taken = 0; fresh = 0; board = q; book = bk; halt = Going } in WellFormed b' k' r × (r .taken ≡ 0) × ((rep : List ℕ) → outcomeOf (rows s) b' k' rep r ≡ finished (startOf (rows s))))
     unfolding nodesAt
     begun-is u ek eb =
         let f = begun-formed s (a .plan) b k t' (a .board) (a .book) (e - p .expected) count-is expected-nodes in
         let o = begun-outcome s (a .plan) b k t' (a .board) (a .book) (e - p .expected) count-is expected-nodes in
-        let pt : p .term ≡ placesOf (triples s) .term = ap (λ (x : Places). x .term) ep in
+        let pt : p .term ≡ placesOf (rows s) .term = ap (λ (x : Places). x .term) ep in
         (rw (u .0, u .1, ek, eb, ed, pt) f, refl, λ rep. rw (u .0, u .1, ek, ed, pt) (o rep))
 
 -- the run has taken nothing yet
-pub reached-start : {s b k : List ℕ} {c : Run} → check s ≡ Plan → WellFormed b k c × (c .taken ≡ 0) × ((rep : List ℕ) → outcomeOf (triples s) b k rep c ≡ finished (startOf (triples s))) → (rep : List ℕ) → Reached s b k rep c
+pub reached-start : {s b k : List ℕ} {c : Run} → Read s → WellFormed b k c × (c .taken ≡ 0) × ((rep : List ℕ) → outcomeOf (rows s) b k rep c ≡ finished (startOf (rows s))) → (rep : List ℕ) → Reached s b k rep c
 unfolding after
 reached-start {s} h q rep = record {
   plan = h;
   formed = q .0;
-  outcome = q .2 rep ∙ ap (after limits (envOn s) (startOf (triples s))) (sym (q .1));
+  outcome = q .2 rep ∙ ap (after limits (envOn s) (startOf (rows s))) (sym (q .1));
 }

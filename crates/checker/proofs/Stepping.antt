@@ -9,7 +9,7 @@ use lib.ListN.{length}
 use Rattle.nodes.specs.Nodes.{nodesAt}
 use Rattle.nodes.specs.Lists.{All}
 use Rattle.spelling.specs.declared.Triple.{Triple}
-use Rattle.sheet.specs.Plan.{triples}
+use Rattle.sheet.specs.Rows.{rows}
 use Rattle.judgment.specs.Board.{Entry, State, state, Outcome, finished, refused, perform}
 use Rattle.judgment.specs.Board.{Board as Entries}
 use Rattle.judgment.specs.Rules.{Env, rule}
@@ -39,9 +39,9 @@ top-few : {b : List ℕ} {d : Board} → Stacked b d → 0 < d .entries → topO
 unfolding topOf
 top-few h l = let x = top-size h l in let y = h .fewNodes in omega arith
 
-module _ {s b k rep : List ℕ} {c : Run} {t l : List ℕ} (a : StepAsk s b k rep c t l) (o : Top) (e : o ≡ topOf b (c .board)) where
+module _ {s b k rep : List ℕ} {c : Run} {t l r w v : List ℕ} (a : StepAsk s b k rep c t l r w v) (o : Top) (e : o ≡ topOf b (c .board)) where
   abbrev ls : List Triple
-  ls = triples s
+  ls = rows s
 
   abbrev below : Entries
   below = entriesOf ls b (o .rest .entries)
@@ -60,7 +60,7 @@ module _ {s b k rep : List ℕ} {c : Run} {t l : List ℕ} (a : StepAsk s b k re
     unmade = a .reached .formed .unmade;
   }
 
-  pub step-asks : JudgeAsk s b k rep (taking c o) o t l
+  pub step-asks : JudgeAsk s b k rep (taking c o) o t l r w v
   step-asks =
       let q = reached-ok (a .reached) in
       record {

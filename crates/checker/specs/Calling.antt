@@ -1,7 +1,7 @@
 -- A whole call: what its contract says. Assumes nothing: these are definitions.
 use mathlib.Core.Path.{_≡_}
 use mathlib.Core.List.{List}
-use Prim.Native.Nat.{ℕ, _≤_}
+use Prim.Native.Nat.{ℕ, _+_, _*_, _/_, _≤_}
 use lib.ListN.{length}
 use lib.Seq.{sets}
 use Rattle.grammar.specs.declared.Check.the-variants.{Plan}
@@ -11,15 +11,30 @@ use Rattle.judgment.specs.declared.Answer.{Answer}
 use Rattle.judgment.specs.Board.{chk}
 use Rattle.judgment.specs.Result.{Result, Buffers, limits, runOf, judge, call, boardWords, bookWords, reportWords}
 use Rattle.judgment.specs.Promise.{Promise}
-use Rattle.checker.specs.Running.{Lent}
+use Rattle.checker.specs.Running.{Read, Lent}
 
--- what the run of a plan asks: the buffers at their own lengths
-pub record PlanAsk (s b k rep t l : List ℕ) : Type 0 where
+-- what the run of a plan that was read asks: the buffers at their own lengths
+pub record PlanAsk (d b k rep t l r w v : List ℕ) : Type 0 where
+  pub plan : Read d
+  pub board : length b ≡ 16384
+  pub book : length k ≡ 10192
+  pub report : length rep ≡ 4096
+  pub lent : Lent d t l r w v
+
+-- the same of a sheet that is still to be read
+pub record RunAsk (s b k rep : List ℕ) : Type 0 where
   pub plan : check s ≡ Plan
   pub board : length b ≡ 16384
   pub book : length k ≡ 10192
   pub report : length rep ≡ 4096
-  pub lent : Lent t l
+
+-- rows for its lines, and the room of a Case
+pub record RowsAsk (s b k rep d r w v : List ℕ) : Type 0 where
+  pub run : RunAsk s b k rep
+  pub rows : length d ≡ 2 * (length s / 29)
+  pub right : 2 * (length s / 29) + 2 ≤ length r
+  pub frames : 6 * (length s / 29) + 12 ≤ length w
+  pub bound : 6 * (length s / 29) + 6 ≤ length v
 
 -- the answer and every word of the buffers
 pub record Ran (o : Result) (b k rep : List ℕ) (a : Answer) : Type 0 where

@@ -12,6 +12,7 @@ use Rattle.kinds.specs.Kinds.{aTerm}
 use Rattle.grammar.specs.declared.Check.the-variants.{Plan}
 use Rattle.grammar.specs.Check.{check}
 use Rattle.sheet.specs.Plan.{triples, planOf}
+use Rattle.sheet.specs.Rows.{rows, Ended}
 use Rattle.sheet.specs.Form.{IsPart}
 use Rattle.judgment.specs.declared.Answer.{Answer}
 use Rattle.judgment.specs.Solutions.{value}
@@ -29,6 +30,7 @@ use Rattle.operations.specs.declared.Run.{Run}
 use Rattle.operations.specs.State.{reported, outcomeOf, WellFormed, going}
 use Rattle.subtyping.specs.Subtyping.{Sound}
 use Rattle.applying.specs.Applying.{envOn}
+use Rattle.inferring.specs.Inferring.{CaseRoom}
 
 -- ---- the definition's run, by steps
 -- where the run of a plan starts
@@ -82,10 +84,18 @@ answerBy plain e taken fresh = record {
 }
 
 -- ---- what a step asks
--- the room that the rules are lent
-pub record Lent (t l : List ℕ) : Type 0 where
+-- the rows of a sheet that is taken
+pub record Read (d : List ℕ) : Type 0 where
+  pub sheet : List ℕ
+  pub plan : check sheet ≡ Plan
+  pub same : rows d ≡ triples sheet
+  pub ended : Ended d
+
+-- the room that the rules are lent: for two types, and for a Case
+pub record Lent (s t l r w v : List ℕ) : Type 0 where
   pub type : 8192 ≤ length t
   pub left : 8192 ≤ length l
+  pub room : CaseRoom s r w v
 
 abbrev pub topEntry : List Triple → List ℕ → Top → Entry
 topEntry ls b o = entryOf ls (o .kind) (o .number) (nodesAt b (o .at) (o .left)) (nodesAt b (o .at + 2 * o .left) (o .right))
@@ -101,32 +111,32 @@ EntrySound n (infApp f e t) = Sound n f × Sound n t
 
 -- the buffers of a sheet that is taken, before its run
 pub record StartAsk (s b k t : List ℕ) : Type 0 where
-  pub plan : check s ≡ Plan
+  pub plan : Read s
   pub board : 12288 ≤ length b
   pub book : 10192 ≤ length k
   pub type : 8192 ≤ length t
 
 -- the entry `o`, taken off the board
-pub record JudgeAsk (s b k rep : List ℕ) (c : Run) (o : Top) (t l : List ℕ) : Type 0 where
-  pub plan : check s ≡ Plan
+pub record JudgeAsk (s b k rep : List ℕ) (c : Run) (o : Top) (t l r w v : List ℕ) : Type 0 where
+  pub plan : Read s
   pub formed : WellFormed b k c
   pub within : o .at + 2 * (o .left + o .right) ≤ 12288
   pub few : o .left + o .right ≤ 4096
   pub report : 4096 ≤ length rep
-  pub lent : Lent t l
-  pub entry : EntrySound (c .fresh) (topEntry (triples s) b o)
+  pub lent : Lent s t l r w v
+  pub entry : EntrySound (c .fresh) (topEntry (rows s) b o)
   pub solutions : All (λ x. Sound (c .fresh) (value x)) (sols k)
 
 -- what stands in the words is what the definition's run of the sheet has come to
 pub record Reached (s b k rep : List ℕ) (c : Run) : Type 0 where
-  pub plan : check s ≡ Plan
+  pub plan : Read s
   pub formed : WellFormed b k c
-  pub outcome : outcomeOf (triples s) b k rep c ≡ after limits (envOn s) (startOf (triples s)) (c .taken)
+  pub outcome : outcomeOf (rows s) b k rep c ≡ after limits (envOn s) (startOf (rows s)) (c .taken)
 
-pub record StepAsk (s b k rep : List ℕ) (c : Run) (t l : List ℕ) : Type 0 where
+pub record StepAsk (s b k rep : List ℕ) (c : Run) (t l r w v : List ℕ) : Type 0 where
   pub reached : Reached s b k rep c
   pub goes : going (c .halt) ≡ true
   pub more : 0 < c .board .entries
   pub counts : c .taken < 4294967295
   pub report : 4096 ≤ length rep
-  pub lent : Lent t l
+  pub lent : Lent s t l r w v

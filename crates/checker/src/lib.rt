@@ -2,12 +2,13 @@
 ghost use mathlib.Core.Path.{_≡_};
 ghost use mathlib.Core.Bool.{true, cond, _&&_};
 ghost use mathlib.Core.List.{List};
-ghost use Prim.Native.Nat.{ℕ, _+_, _<_, _≤_};
+ghost use Prim.Native.Nat.{ℕ, _+_, _/_, _<_, _≤_};
 ghost use lib.Dec.{ltb};
 ghost use lib.ListN.{length};
 ghost use Rattle.grammar.specs.declared.Check.the-variants.{Plan};
 ghost use Rattle.grammar.specs.Check.{check};
 ghost use Rattle.sheet.specs.Plan.{triples, planOf};
+ghost use Rattle.sheet.specs.Rows.{rows};
 ghost use Rattle.judgment.specs.Rules.{rule};
 ghost use Rattle.judgment.specs.Run.{runFrom};
 ghost use Rattle.judgment.specs.Result.{endNumber, endDetails, limits, judge, refusedAt, tooShort};
@@ -15,7 +16,7 @@ ghost use Rattle.operations.specs.State.{outcomeOf, stateOf, reported, WellForm
 ghost use Rattle.applying.specs.Applying.{envOn};
 ghost use Rattle.judgment.specs.Board.{finished};
 ghost use Rattle.checker.specs.Running.{startOf, told, endBy, endOf, reportEnd, answerBy, topEntry, StartAsk, JudgeAsk, Reached, StepAsk, Lent};
-ghost use Rattle.checker.specs.Calling.{PlanAsk, Ran, FrontAsk, Fronted, Answered};
+ghost use Rattle.checker.specs.Calling.{PlanAsk, RunAsk, RowsAsk, Ran, FrontAsk, Fronted, Answered};
 use applying::solve_inf_app;
 use board::Board;
 use board::Top;
@@ -42,6 +43,7 @@ use sheet::copy_type;
 use sheet::find_places;
 use sheet::is_plain;
 use sheet::part_line;
+use sheet::read_rows;
 use subtyping::solve_subtype;
 
 // Performs the rule of an entry that was taken off the board. A type is copied where the rule's pushes would write over it; a TVar or a Var is dropped.
@@ -51,12 +53,15 @@ fn solve_judgment(
     report: &mut [u32],
     c: Run,
     o: Top,
-    s: &[u8],
+    s: &[u64],
     t: &mut [u32],
     l: &mut [u32],
+    r: &mut [u32],
+    w: &mut [usize],
+    v: &mut [usize],
 ) -> Run
-    requires { ⌜ JudgeAsk (now s) (now board) (now book) (now report) c o (now t) (now l) ⌝ }
-    ensures { λ q. ⌜ Does 1024 (triples (now (s .entry))) (now (board .entry)) (now (book .entry)) (now (report .entry)) c (rule (envOn (now (s .entry))) (topEntry (triples (now (s .entry))) (now (board .entry)) o)) (now (board .exit)) (now (book .exit)) (now (report .exit)) q ⌝ }
+    requires { ⌜ JudgeAsk (now s) (now board) (now book) (now report) c o (now t) (now l) (now r) (now w) (now v) ⌝ }
+    ensures { λ q. ⌜ Does 1024 (rows (now (s .entry))) (now (board .entry)) (now (book .entry)) (now (report .entry)) c (rule (envOn (now (s .entry))) (topEntry (rows (now (s .entry))) (now (board .entry)) o)) (now (board .exit)) (now (book .exit)) (now (report .exit)) q ⌝ }
 {
     let kind = o.kind;
     let line = o.number;
@@ -67,7 +72,7 @@ fn solve_judgment(
     }
     if kind == 4 {
         copy_nodes(t, 0, board, at, n);
-        return solve_inference(board, c, s, line, t, n, l);
+        return solve_inference(board, c, s, line, t, n, l, r, w, v);
     }
     if kind == 5 {
         copy_nodes(t, 0, board, at, n);
@@ -85,11 +90,14 @@ fn solve_step(
     book: &mut [u32],
     report: &mut [u32],
     c: Run,
-    s: &[u8],
+    s: &[u64],
     t: &mut [u32],
     l: &mut [u32],
+    r: &mut [u32],
+    w: &mut [usize],
+    v: &mut [usize],
 ) -> Run
-    requires { ⌜ StepAsk (now s) (now board) (now book) (now report) c (now t) (now l) ⌝ }
+    requires { ⌜ StepAsk (now s) (now board) (now book) (now report) c (now t) (now l) (now r) (now w) (now v) ⌝ }
     ensures { λ q. ⌜ Reached (now (s .entry)) (now (board .exit)) (now (book .exit)) (now (report .exit)) q × (q .taken ≡ c .taken + 1) ⌝ }
 {
     let b = c.board;
@@ -104,7 +112,7 @@ fn solve_step(
         book: kept,
         halt,
     };
-    solve_judgment(board, book, report, taken, o, s, t, l)
+    solve_judgment(board, book, report, taken, o, s, t, l, r, w, v)
 }
 
 // An entry is to be taken: the run was not refused, one remains, and the ceiling is not reached.
@@ -127,25 +135,28 @@ fn solve(
     book: &mut [u32],
     report: &mut [u32],
     c: Run,
-    s: &[u8],
+    s: &[u64],
     ceiling: u32,
     t: &mut [u32],
     l: &mut [u32],
+    r: &mut [u32],
+    w: &mut [usize],
+    v: &mut [usize],
 ) -> Run
-    requires { ⌜ Reached (now s) (now board) (now book) (now report) c × (c .taken ≡ 0) × (4096 ≤ length (now report)) × Lent (now t) (now l) ⌝ }
-    ensures { λ q. ⌜ WellFormed (now (board .exit)) (now (book .exit)) q × (told 0 (runFrom limits (envOn (now (s .entry))) ceiling (startOf (triples (now (s .entry))))) ≡ record { end = endOf (now (report .exit)) q; taken = q .taken; last = stateOf (triples (now (s .entry))) (now (board .exit)) (now (book .exit)) q }) ⌝ }
+    requires { ⌜ Reached (now s) (now board) (now book) (now report) c × (c .taken ≡ 0) × (4096 ≤ length (now report)) × Lent (now s) (now t) (now l) (now r) (now w) (now v) ⌝ }
+    ensures { λ q. ⌜ WellFormed (now (board .exit)) (now (book .exit)) q × (told 0 (runFrom limits (envOn (now (s .entry))) ceiling (startOf (rows (now (s .entry))))) ≡ record { end = endOf (now (report .exit)) q; taken = q .taken; last = stateOf (rows (now (s .entry))) (now (board .exit)) (now (book .exit)) q }) ⌝ }
 {
     let mut run = c;
     while takes_more(run, ceiling) {
-        run = solve_step(board, book, report, run, s, t, l);
+        run = solve_step(board, book, report, run, s, t, l, r, w, v);
     }
     run
 }
 
 // The Chk of term and expected type on the board, and no solution.
-fn start(board: &mut [u32], book: &mut [u32], s: &[u8], t: &mut [u32]) -> Run
+fn start(board: &mut [u32], book: &mut [u32], s: &[u64], t: &mut [u32]) -> Run
     requires { ⌜ StartAsk (now s) (now board) (now book) (now t) ⌝ }
-    ensures { λ r. ⌜ WellFormed (now (board .exit)) (now (book .exit)) r × (r .taken ≡ 0) × ((rep : List ℕ) → outcomeOf (triples (now (s .entry))) (now (board .exit)) (now (book .exit)) rep r ≡ finished (startOf (triples (now (s .entry))))) ⌝ }
+    ensures { λ r. ⌜ WellFormed (now (board .exit)) (now (book .exit)) r × (r .taken ≡ 0) × ((rep : List ℕ) → outcomeOf (rows (now (s .entry))) (now (board .exit)) (now (book .exit)) rep r ≡ finished (startOf (rows (now (s .entry))))) ⌝ }
 {
     clear_book(book);
     let places = find_places(s);
@@ -252,19 +263,22 @@ fn answer(c: Run, plain: bool) -> Answer
 
 // The run of a plan, and the buffers after it.
 fn check_plan(
-    s: &[u8],
+    s: &[u64],
     ceiling: u32,
     board: &mut [u32],
     book: &mut [u32],
     report: &mut [u32],
     t: &mut [u32],
     l: &mut [u32],
+    r: &mut [u32],
+    w: &mut [usize],
+    v: &mut [usize],
 ) -> Answer
-    requires { ⌜ PlanAsk (now s) (now board) (now book) (now report) (now t) (now l) ⌝ }
-    ensures { λ o. ⌜ Ran (judge limits ceiling (triples (now (s .entry)))) (now (board .exit)) (now (book .exit)) (now (report .exit)) o ⌝ }
+    requires { ⌜ PlanAsk (now s) (now board) (now book) (now report) (now t) (now l) (now r) (now w) (now v) ⌝ }
+    ensures { λ o. ⌜ Ran (judge limits ceiling (rows (now (s .entry)))) (now (board .exit)) (now (book .exit)) (now (report .exit)) o ⌝ }
 {
     let c = start(board, book, s, t);
-    let o = solve(board, book, report, c, s, ceiling, t, l);
+    let o = solve(board, book, report, c, s, ceiling, t, l, r, w, v);
     clear_board(board);
     let halt = o.halt;
     let end = report_end(halt);
@@ -272,7 +286,111 @@ fn check_plan(
     answer(o, is_plain(s))
 }
 
-// Lends the rules their room.
+// Reads the sheet, and lends the rules its rows and their room.
+fn run_rows(
+    s: &[u8],
+    ceiling: u32,
+    board: &mut [u32],
+    book: &mut [u32],
+    report: &mut [u32],
+    d: &mut [u64],
+    r: &mut [u32],
+    w: &mut [usize],
+    v: &mut [usize],
+) -> Answer
+    requires { ⌜ RowsAsk (now s) (now board) (now book) (now report) (now d) (now r) (now w) (now v) ⌝ }
+    ensures { λ o. ⌜ Ran (judge limits ceiling (triples (now (s .entry)))) (now (board .exit)) (now (book .exit)) (now (report .exit)) o ⌝ }
+{
+    read_rows(d, s);
+    let mut t = [0u32; 8192];
+    let mut l = [0u32; 8192];
+    check_plan(d, ceiling, board, book, report, &mut t, &mut l, r, w, v)
+}
+
+// A sheet of at most 64 lines. A room is cleared before it is lent, so it is no larger than the sheet asks.
+fn run_short(
+    s: &[u8],
+    ceiling: u32,
+    board: &mut [u32],
+    book: &mut [u32],
+    report: &mut [u32],
+) -> Answer
+    requires { ⌜ RunAsk (now s) (now board) (now book) (now report) × (length (now s) / 29 ≤ 64) ⌝ }
+    ensures { λ o. ⌜ Ran (judge limits ceiling (triples (now (s .entry)))) (now (board .exit)) (now (book .exit)) (now (report .exit)) o ⌝ }
+{
+    let mut d = [0u64; 128];
+    let mut r = [0u32; 130];
+    let mut w = [0usize; 396];
+    let mut v = [0usize; 390];
+    run_rows(
+        s,
+        ceiling,
+        board,
+        book,
+        report,
+        &mut d[..2 * (s.len() / 29)],
+        &mut r,
+        &mut w,
+        &mut v,
+    )
+}
+
+// A sheet of at most 256 lines.
+fn run_middle(
+    s: &[u8],
+    ceiling: u32,
+    board: &mut [u32],
+    book: &mut [u32],
+    report: &mut [u32],
+) -> Answer
+    requires { ⌜ RunAsk (now s) (now board) (now book) (now report) × (length (now s) / 29 ≤ 256) ⌝ }
+    ensures { λ o. ⌜ Ran (judge limits ceiling (triples (now (s .entry)))) (now (board .exit)) (now (book .exit)) (now (report .exit)) o ⌝ }
+{
+    let mut d = [0u64; 512];
+    let mut r = [0u32; 514];
+    let mut w = [0usize; 1548];
+    let mut v = [0usize; 1542];
+    run_rows(
+        s,
+        ceiling,
+        board,
+        book,
+        report,
+        &mut d[..2 * (s.len() / 29)],
+        &mut r,
+        &mut w,
+        &mut v,
+    )
+}
+
+// A sheet of any length.
+fn run_long(
+    s: &[u8],
+    ceiling: u32,
+    board: &mut [u32],
+    book: &mut [u32],
+    report: &mut [u32],
+) -> Answer
+    requires { ⌜ RunAsk (now s) (now board) (now book) (now report) ⌝ }
+    ensures { λ o. ⌜ Ran (judge limits ceiling (triples (now (s .entry)))) (now (board .exit)) (now (book .exit)) (now (report .exit)) o ⌝ }
+{
+    let mut d = [0u64; 4000];
+    let mut r = [0u32; 4002];
+    let mut w = [0usize; 12012];
+    let mut v = [0usize; 12006];
+    run_rows(
+        s,
+        ceiling,
+        board,
+        book,
+        report,
+        &mut d[..2 * (s.len() / 29)],
+        &mut r,
+        &mut w,
+        &mut v,
+    )
+}
+
 fn run_plan(
     s: &[u8],
     ceiling: u32,
@@ -280,12 +398,16 @@ fn run_plan(
     book: &mut [u32],
     report: &mut [u32],
 ) -> Answer
-    requires { ⌜ (check (now s) ≡ Plan) × (length (now board) ≡ 16384) × (length (now book) ≡ 10192) × (length (now report) ≡ 4096) ⌝ }
+    requires { ⌜ RunAsk (now s) (now board) (now book) (now report) ⌝ }
     ensures { λ o. ⌜ Ran (judge limits ceiling (triples (now (s .entry)))) (now (board .exit)) (now (book .exit)) (now (report .exit)) o ⌝ }
 {
-    let mut t = [0u32; 8192];
-    let mut l = [0u32; 8192];
-    check_plan(s, ceiling, board, book, report, &mut t, &mut l)
+    if s.len() / 29 <= 64 {
+        return run_short(s, ceiling, board, book, report);
+    }
+    if s.len() / 29 <= 256 {
+        return run_middle(s, ceiling, board, book, report);
+    }
+    run_long(s, ceiling, board, book, report)
 }
 
 // Lends the words that a buffer must have: a longer one keeps its tail.

@@ -10,7 +10,8 @@ use lib.ListN.{length, getD}
 use borrow.Author.Tests.{eq-eqb, ne-eqb}
 use Rattle.nodes.specs.Nodes.{Ty}
 use Rattle.spelling.specs.declared.Triple.{Triple}
-use Rattle.sheet.specs.Plan.{noTriple, triples, partLine, nodesOf, Narrow}
+use Rattle.sheet.specs.Plan.{noTriple, partLine, nodesOf, Narrow}
+use Rattle.sheet.specs.Rows.{rows}
 use Rattle.judgment.specs.Types.{View, isArrow, isApp, isForall, isUnknown, isOther}
 use Rattle.judgment.specs.Terms.{Term, part, Lambda, lambdaOf}
 use Rattle.judgment.specs.Rules.{Env, synthesize, checkBy}
@@ -29,9 +30,9 @@ check-other E e t (isForall x b) f g = absurd (g refl)
 check-other E e t (isUnknown k) f g = refl
 check-other E e t isOther f g = refl
 
-module _ (s : List ℕ) (p : ℕ) (h : p < length (triples s)) where
+module _ (s : List ℕ) (p : ℕ) (h : p < length (rows s)) where
   abbrev ls : List Triple
-  ls = triples s
+  ls = rows s
 
   pub no-lambda : lineOf ls p .kind ≢ 23 → lambdaOf (termAt ls p) ≡ none
   unfolding lambdaOf
@@ -52,12 +53,12 @@ module _ (s : List ℕ) (p : ℕ) (h : p < length (triples s)) where
         (part-at ls p 1 (let z = two-parts (lineOf ls p) e in omega arith))
 
 -- ---- what the code reads
-pub head-is : (s : List ℕ) (line i : ℕ) (h : Triple) → i ≡ line → h ≡ getD (triples s) i noTriple → h ≡ lineOf (triples s) line
-head-is s line i h e q = q ∙ ap (lineOf (triples s)) e
+pub head-is : (s : List ℕ) (line i : ℕ) (h : Triple) → i ≡ line → h ≡ getD (rows s) i noTriple → h ≡ lineOf (rows s) line
+head-is s line i h e q = q ∙ ap (lineOf (rows s)) e
 
 module _ {b : List ℕ} {c : Run} {s : List ℕ} {line : ℕ} {t : List ℕ} {tn : ℕ} {out : List ℕ} (a : CheckAsk b c s line t tn out) where
   abbrev L : List Triple
-  L = triples s
+  L = rows s
 
   pub name-narrow : {h : Triple} → h ≡ lineOf L line → h .kind ≡ 23 → h .value < 4294967296
   name-narrow {h} e k = subst⁻¹ Narrow e (head-narrow s line (a .stands) (a .term) (λ z. (let y = sym (ap (λ (x : Triple). x .kind) e) ∙ k in omega arith)))
@@ -71,7 +72,7 @@ module _ {b : List ℕ} {c : Run} {s : List ℕ} {line : ℕ} {t : List ℕ} {tn
       (w .0, omega arith)
 
 -- the Lambda that the code puts together
-pub lambda-read : (s : List ℕ) (line i pl : ℕ) (h : Triple) → line < length (triples s) → i ≡ line → h ≡ lineOf (triples s) line → pl ≡ partLine (triples s) (i + 1) 1 → h .kind ≡ 23
-    → some (lambdaOn s (h .value) (i + 1) (pl - (i + 1)) pl) ≡ lambdaOf (termAt (triples s) line)
+pub lambda-read : (s : List ℕ) (line i pl : ℕ) (h : Triple) → line < length (rows s) → i ≡ line → h ≡ lineOf (rows s) line → pl ≡ partLine (rows s) (i + 1) 1 → h .kind ≡ 23
+    → some (lambdaOn s (h .value) (i + 1) (pl - (i + 1)) pl) ≡ lambdaOf (termAt (rows s) line)
 lambda-read s line i pl h l e q z k =
     rw (z, e, q) (sym (a-lambda s line l (sym (ap (λ (x : Triple). x .kind) q) ∙ k)))

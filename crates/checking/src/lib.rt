@@ -2,7 +2,7 @@
 ghost use mathlib.Core.List.{List};
 ghost use Prim.Native.Nat.{ℕ, _+_, _*_, _-_, _<_};
 ghost use Rattle.nodes.specs.Nodes.{nodesAt};
-ghost use Rattle.sheet.specs.Plan.{triples};
+ghost use Rattle.sheet.specs.Rows.{rows};
 ghost use Rattle.judgment.specs.Types.{first, rest, view};
 ghost use Rattle.judgment.specs.Terms.{lambdaOf};
 ghost use Rattle.judgment.specs.Rules.{Env, checkArrow, checkBy};
@@ -25,14 +25,14 @@ use subtyping::shape;
 fn check_arrow(
     board: &mut [u32],
     c: Run,
-    s: &[u8],
+    s: &[u64],
     line: u32,
     t: &[u32],
     tn: usize,
     out: &mut [u32],
 ) -> Run
     requires { ⌜ CheckAsk (now board) c (now s) line (now t) tn (now out) × (0 < tn) ⌝ }
-    ensures { λ r. ⌜ ((w : ℕ) (E : Env) (k rep : List ℕ) → WellFormed (now (board .entry)) k c → Does w (triples (now (s .entry))) (now (board .entry)) k rep c (checkArrow E (termAt (triples (now (s .entry))) line) (nodesAt (now (t .entry)) 0 tn) (first (nodesAt (now (t .entry)) 2 (tn - 1))) (rest (nodesAt (now (t .entry)) 2 (tn - 1))) (lambdaOf (termAt (triples (now (s .entry))) line))) (now (board .exit)) k rep r) ⌝ }
+    ensures { λ r. ⌜ ((w : ℕ) (E : Env) (k rep : List ℕ) → WellFormed (now (board .entry)) k c → Does w (rows (now (s .entry))) (now (board .entry)) k rep c (checkArrow E (termAt (rows (now (s .entry))) line) (nodesAt (now (t .entry)) 0 tn) (first (nodesAt (now (t .entry)) 2 (tn - 1))) (rest (nodesAt (now (t .entry)) 2 (tn - 1))) (lambdaOf (termAt (rows (now (s .entry))) line))) (now (board .exit)) k rep r) ⌝ }
 {
     let at = wide(line);
     let head = triple_at(s, at);
@@ -54,14 +54,14 @@ fn check_arrow(
 pub fn solve_checking(
     board: &mut [u32],
     c: Run,
-    s: &[u8],
+    s: &[u64],
     line: u32,
     t: &mut [u32],
     tn: usize,
     out: &mut [u32],
 ) -> Run
     requires { ⌜ CheckAsk (now board) c (now s) line (now t) tn (now out) ⌝ }
-    ensures { λ r. ⌜ ((w : ℕ) (E : Env) (k rep : List ℕ) → WellFormed (now (board .entry)) k c → Does w (triples (now (s .entry))) (now (board .entry)) k rep c (checkBy E (termAt (triples (now (s .entry))) line) (nodesAt (now (t .entry)) 0 tn) (view (nodesAt (now (t .entry)) 0 tn))) (now (board .exit)) k rep r) ⌝ }
+    ensures { λ r. ⌜ ((w : ℕ) (E : Env) (k rep : List ℕ) → WellFormed (now (board .entry)) k c → Does w (rows (now (s .entry))) (now (board .entry)) k rep c (checkBy E (termAt (rows (now (s .entry))) line) (nodesAt (now (t .entry)) 0 tn) (view (nodesAt (now (t .entry)) 0 tn))) (now (board .exit)) k rep r) ⌝ }
 {
     let k = shape(t, 0, tn);
     if k == ARROW {

@@ -3,7 +3,8 @@ ghost use mathlib.Core.Option.{some};
 ghost use Prim.Native.Nat.{ℕ, _+_, _*_, _≤_};
 ghost use lib.ListN.{length, take, drop};
 ghost use Rattle.nodes.specs.Nodes.{nodesAt};
-ghost use Rattle.sheet.specs.Plan.{triples, nodesOf};
+ghost use Rattle.sheet.specs.Plan.{nodesOf};
+ghost use Rattle.sheet.specs.Rows.{rows};
 ghost use Rattle.judgment.specs.Rules.{Env, constructor};
 ghost use Rattle.board.specs.Board.{Stacked};
 ghost use Rattle.operations.specs.State.{PerformsOnBoard};
@@ -36,9 +37,9 @@ fn open_names(board: &mut [u32], c: Run, n: usize) -> Run
 
 // Copies the type of n lines from line `first` on to the front of `out`, with the unknowns from `base` on for the names that the quantifiers at its front bind. They stay
 // in front; the answer is how many there are.
-pub fn copy_opened(out: &mut [u32], s: &[u8], first: usize, n: usize, base: u32) -> usize
-    requires { ⌜ (2 * n ≤ length (now out)) × (n ≤ 4096) × (base ≤ 1000) × (first + n ≤ length (triples (now s))) × All Narrow (take n (drop first (triples (now s)))) ⌝ }
-    ensures { λ q. ⌜ Copied (nodesOf (take n (drop first (triples (now (s .entry)))))) n base (now (out .entry)) (now (out .exit)) q ⌝ }
+pub fn copy_opened(out: &mut [u32], s: &[u64], first: usize, n: usize, base: u32) -> usize
+    requires { ⌜ (2 * n ≤ length (now out)) × (n ≤ 4096) × (base ≤ 1000) × (first + n ≤ length (rows (now s))) × All Narrow (take n (drop first (rows (now s)))) ⌝ }
+    ensures { λ q. ⌜ Copied (nodesOf (take n (drop first (rows (now (s .entry)))))) n base (now (out .entry)) (now (out .exit)) q ⌝ }
 {
     copy_type(out, 0, s, first, n);
     let q = front_count(out, n);
@@ -57,13 +58,13 @@ pub struct Opened {
 pub fn instantiate_constructor_type(
     board: &mut [u32],
     c: Run,
-    s: &[u8],
+    s: &[u64],
     first: usize,
     n: usize,
     out: &mut [u32],
 ) -> Opened
-    requires { ⌜ OpenAsk (now board) c (triples (now s)) first n (now out) ⌝ }
-    ensures { λ o. ⌜ Opens (now (board .entry)) c (nodesOf (take n (drop first (triples (now (s .entry)))))) n (now (out .entry)) (now (board .exit)) (now (out .exit)) o ⌝ }
+    requires { ⌜ OpenAsk (now board) c (rows (now s)) first n (now out) ⌝ }
+    ensures { λ o. ⌜ Opens (now (board .entry)) c (nodesOf (take n (drop first (rows (now (s .entry)))))) n (now (out .entry)) (now (board .exit)) (now (out .exit)) o ⌝ }
 {
     let q = copy_opened(out, s, first, n, c.fresh);
     let run = open_names(board, c, q);
@@ -79,7 +80,7 @@ pub fn instantiate_constructor_type(
 pub fn infer_constructor(
     board: &mut [u32],
     c: Run,
-    s: &[u8],
+    s: &[u64],
     first: usize,
     n: usize,
     out: &mut [u32],
@@ -87,8 +88,8 @@ pub fn infer_constructor(
     ta: usize,
     tn: usize,
 ) -> Run
-    requires { ⌜ OpenAsk (now board) c (triples (now s)) first n (now out) × (ta + 2 * tn ≤ length (now t)) ⌝ }
-    ensures { λ r. ⌜ ((E : Env) (x : ℕ) → PerformsOnBoard (now (board .entry)) c (λ ls. constructor E x (nodesAt (now (t .entry)) ta tn) (some (nodesOf (take n (drop first (triples (now (s .entry)))))))) (now (board .exit)) r) ⌝ }
+    requires { ⌜ OpenAsk (now board) c (rows (now s)) first n (now out) × (ta + 2 * tn ≤ length (now t)) ⌝ }
+    ensures { λ r. ⌜ ((E : Env) (x : ℕ) → PerformsOnBoard (now (board .entry)) c (λ ls. constructor E x (nodesAt (now (t .entry)) ta tn) (some (nodesOf (take n (drop first (rows (now (s .entry)))))))) (now (board .exit)) r) ⌝ }
 {
     let o = instantiate_constructor_type(board, c, s, first, n, out);
     let run = o.run;

@@ -9,7 +9,8 @@ use Rattle.nodes.proofs.PartLaws.{length-take}
 use Rattle.spelling.specs.declared.Triple.{Triple}
 use Rattle.kinds.specs.Kinds.{aType, aTerm, partsOf, rowOf, table}
 use Rattle.kinds.specs.Kinds.{find as findRow}
-use Rattle.sheet.specs.Plan.{triples, partLine}
+use Rattle.sheet.specs.Plan.{partLine}
+use Rattle.sheet.specs.Rows.{rows}
 use Rattle.sheet.specs.Form.{IsPart}
 use Rattle.sheet.proofs.Lines.{line-none}
 use Rattle.sheet.proofs.TypeLines.{type-narrow, term-narrow}
@@ -31,9 +32,9 @@ pub two-parts : (t : Triple) → t .kind ≡ 23 → partsOf t ≡ 2
 unfolding partsOf rowOf findRow table
 two-parts t e = rw e
 
-module _ (s : List ℕ) (p : ℕ) (h : p < length (triples s)) where
+module _ (s : List ℕ) (p : ℕ) (h : p < length (rows s)) where
   abbrev ls : List Triple
-  ls = triples s
+  ls = rows s
 
   -- the type of a Lambda's parameter
   pub first-lines : lineOf ls p .kind ≡ 23 → part 0 (bodyAt ls p) ≡ take (partLine ls (p + 1) 1 - (p + 1)) (drop (p + 1) ls)

@@ -8,7 +8,8 @@ use lib.Seq.{sets, take-append-seam, drop-append-seam}
 use Rattle.nodes.specs.Nodes.{Ty, words, nodesAt}
 use Rattle.nodes.proofs.Laws.{length-words, length-nodesAt, two-more, nodesAt-same, take-nodesAt, drop-nodesAt}
 use Rattle.spelling.specs.declared.Triple.{Triple}
-use Rattle.sheet.specs.Plan.{triples, nodesOf}
+use Rattle.sheet.specs.Plan.{nodesOf}
+use Rattle.sheet.specs.Rows.{rows}
 use Rattle.judgment.specs.Types.{unknown, arrow}
 use Rattle.inference.specs.Inference.{typeOn}
 
@@ -17,11 +18,11 @@ length-nodesOf : (ts : List Triple) → length (nodesOf ts) ≡ length ts
 length-nodesOf [] = refl
 length-nodesOf (t ∷ ts) = ap suc (length-nodesOf ts)
 
-pub length-typeOn : (s : List ℕ) (at n : ℕ) → at + n ≤ length (triples s) → length (typeOn s at n) ≡ n
+pub length-typeOn : (s : List ℕ) (at n : ℕ) → at + n ≤ length (rows s) → length (typeOn s at n) ≡ n
 length-typeOn s at n h =
-    let e = length-nodesOf (take n (drop at (triples s))) in
-    let p = length-take n (drop at (triples s)) in
-    let q = length-drop at (triples s) in
+    let e = length-nodesOf (take n (drop at (rows s))) in
+    let p = length-take n (drop at (rows s)) in
+    let q = length-drop at (rows s) in
     omega arith
 
 -- ---- a type alone

@@ -5,7 +5,8 @@ use Prim.Native.Nat.{ℕ, _+_, _≤_, _<_}
 use lib.ListN.{length, take, drop}
 use Rattle.nodes.specs.Nodes.{node, Ty}
 use Rattle.nodes.specs.Lists.{All}
-use Rattle.sheet.specs.Plan.{triples, nodesOf, Narrow}
+use Rattle.sheet.specs.Plan.{nodesOf, Narrow}
+use Rattle.sheet.specs.Rows.{rows}
 use Rattle.judgment.specs.Terms.{Lambda}
 use Rattle.judgment.specs.Solutions.{Free, keys}
 use Rattle.board.specs.Board.{termAt}
@@ -15,16 +16,16 @@ use Rattle.operations.specs.declared.Run.{Run}
 
 -- the type on the n lines of a sheet from line `at` on
 abbrev pub typeOn : List ℕ → ℕ → ℕ → Ty
-typeOn s at n = nodesOf (take n (drop at (triples s)))
+typeOn s at n = nodesOf (take n (drop at (rows s)))
 
 -- a Lambda by its name, the lines of its type, and the first line of its body
 abbrev pub lambdaOn : List ℕ → ℕ → ℕ → ℕ → ℕ → Lambda
-lambdaOn s name at n body = record { param = name; type = typeOn s at n; body = termAt (triples s) body }
+lambdaOn s name at n body = record { param = name; type = typeOn s at n; body = termAt (rows s) body }
 
 -- lines of a type that words can hold
 pub record LinesAsk (s : List ℕ) (at n : ℕ) : Type 0 where
-  pub within : at + n ≤ length (triples s)
-  pub narrow : All Narrow (take n (drop at (triples s)))
+  pub within : at + n ≤ length (rows s)
+  pub narrow : All Narrow (take n (drop at (rows s)))
 
 -- an unknown that was made and is not solved, in a run that goes on
 abbrev pub Open : List ℕ → Run → ℕ → Type 0

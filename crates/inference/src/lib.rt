@@ -11,7 +11,7 @@ ghost use lib.ListN.{length};
 ghost use lib.Seq.{sets};
 ghost use Rattle.nodes.specs.Nodes.{node, Ty, words, nodesAt};
 ghost use Rattle.spelling.specs.declared.Triple.{Triple};
-ghost use Rattle.sheet.specs.Plan.{triples};
+ghost use Rattle.sheet.specs.Rows.{rows};
 ghost use Rattle.judgment.specs.Types.{unknown, arrow, isArrow, isForall, isUnknown, substitute};
 ghost use Rattle.judgment.specs.Terms.{Term, isLitInt, isLambda, isApply, isTypeLambda, isBinOp, isIf, isIntrinsic};
 ghost use Rattle.judgment.specs.Board.{done};
@@ -152,7 +152,7 @@ pub fn infer_intrinsic(
 }
 
 // Writes the Arrow from the type on the n lines at line `first` to the unknown b, to the front of out.
-fn write_arrow(out: &mut [u32], s: &[u8], first: usize, n: usize, b: u32)
+fn write_arrow(out: &mut [u32], s: &[u64], first: usize, n: usize, b: u32)
     requires { ⌜ (2 * n + 4 ≤ length (now out)) × LinesAsk (now s) first n ⌝ }
     ensures { λ _. ⌜ now (out .exit) ≡ sets (now (out .entry)) 0 (words (arrow (typeOn (now (s .entry)) first n) (unknown b))) ⌝ }
 {
@@ -168,7 +168,7 @@ fn write_arrow(out: &mut [u32], s: &[u8], first: usize, n: usize, b: u32)
 pub fn infer_lambda(
     board: &mut [u32],
     c: Run,
-    s: &[u8],
+    s: &[u64],
     name: u32,
     first: usize,
     n: usize,
@@ -178,7 +178,7 @@ pub fn infer_lambda(
     tn: usize,
 ) -> Run
     requires { ⌜ Stacked (now board) (c .board) × (2 * tn ≤ length (now t)) × (2 * n + 4 ≤ length (now out)) × LinesAsk (now s) first n ⌝ }
-    ensures { λ r. ⌜ (now (out .exit) ≡ sets (now (out .entry)) 0 (words (arrow (typeOn (now (s .entry)) first n) (unknown (c .fresh))))) × ((w : ℕ) (E : Env) (k rep : List ℕ) → WellFormed (now (board .entry)) k c → Does w (triples (now (s .entry))) (now (board .entry)) k rep c (inferBy E (nodesAt (now (t .entry)) 0 tn) (isLambda name (typeOn (now (s .entry)) first n) (termAt (triples (now (s .entry))) body))) (now (board .exit)) k rep r) ⌝ }
+    ensures { λ r. ⌜ (now (out .exit) ≡ sets (now (out .entry)) 0 (words (arrow (typeOn (now (s .entry)) first n) (unknown (c .fresh))))) × ((w : ℕ) (E : Env) (k rep : List ℕ) → WellFormed (now (board .entry)) k c → Does w (rows (now (s .entry))) (now (board .entry)) k rep c (inferBy E (nodesAt (now (t .entry)) 0 tn) (isLambda name (typeOn (now (s .entry)) first n) (termAt (rows (now (s .entry))) body))) (now (board .exit)) k rep r) ⌝ }
 {
     let b = c.fresh;
     let nodes = n + 2;
@@ -194,7 +194,7 @@ pub fn infer_lambda(
 pub fn check_lambda(
     board: &mut [u32],
     c: Run,
-    s: &[u8],
+    s: &[u64],
     name: u32,
     first: usize,
     n: usize,
@@ -206,7 +206,7 @@ pub fn check_lambda(
     bn: usize,
 ) -> Run
     requires { ⌜ Stacked (now board) (c .board) × (a + 2 * an + 2 * bn ≤ length (now t)) × (2 * n ≤ length (now out)) × LinesAsk (now s) first n ⌝ }
-    ensures { λ r. ⌜ (now (out .exit) ≡ sets (now (out .entry)) 0 (words (typeOn (now (s .entry)) first n))) × ((w : ℕ) (E : Env) (e : Term) (T : Ty) (k rep : List ℕ) → WellFormed (now (board .entry)) k c → Does w (triples (now (s .entry))) (now (board .entry)) k rep c (checkArrow E e T (nodesAt (now (t .entry)) a an) (nodesAt (now (t .entry)) (a + 2 * an) bn) (some (lambdaOn (now (s .entry)) name first n body))) (now (board .exit)) k rep r) ⌝ }
+    ensures { λ r. ⌜ (now (out .exit) ≡ sets (now (out .entry)) 0 (words (typeOn (now (s .entry)) first n))) × ((w : ℕ) (E : Env) (e : Term) (T : Ty) (k rep : List ℕ) → WellFormed (now (board .entry)) k c → Does w (rows (now (s .entry))) (now (board .entry)) k rep c (checkArrow E e T (nodesAt (now (t .entry)) a an) (nodesAt (now (t .entry)) (a + 2 * an) bn) (some (lambdaOn (now (s .entry)) name first n body))) (now (board .exit)) k rep r) ⌝ }
 {
     let b = a + 2 * an;
     copy_type(out, 0, s, first, n);

@@ -17,7 +17,8 @@ use Rattle.grammar.specs.Grammar.{ok}
 use Rattle.grammar.specs.Grammar.{part as item}
 use Rattle.sheet.specs.declared.Found.{Found}
 use Rattle.sheet.specs.declared.Found.the-variants.{At}
-use Rattle.sheet.specs.Plan.{triples, partLine, nodesOf, findEntry, typeAt}
+use Rattle.sheet.specs.Plan.{partLine, nodesOf, findEntry, typeAt}
+use Rattle.sheet.specs.Rows.{rows, Ended}
 use Rattle.sheet.proofs.Lines.{line-none}
 use Rattle.sheet.proofs.Forming.{due-following}
 use Rattle.sheet.proofs.TypeLines.{begun-row, sort-is}
@@ -60,7 +61,7 @@ one-argument E T x n e e' h = go (eqb n 1) refl
 
 module _ {K : ℕ} {b : List ℕ} {c : Run} {s : List ℕ} {p : ℕ} {t : List ℕ} {tn : ℕ} (a : TermAsk K b c s p t tn) where
   abbrev ls : List Triple
-  ls = triples s
+  ls = rows s
 
   abbrev head : Triple
   head = lineOf ls p
@@ -179,27 +180,29 @@ module _ {K : ℕ} {b : List ℕ} {c : Run} {s : List ℕ} {p : ℕ} {t : List �
 -- ---- the asks of the terms
 module _ {b : List ℕ} {c : Run} {s : List ℕ} {p : ℕ} {t : List ℕ} {tn : ℕ} {l : List ℕ} (a : InferAsk b c s p t tn l) where
   -- its first line is h
-  pub term-asks : {h : Triple} {K : ℕ} → h ≡ lineOf (triples s) p → h .kind ≡ K → TermAsk K b c s p t tn
-  term-asks q e = record { ready = a .ready; sheet = a .sheet; few = a .few; stands = a .stands; term = a .term; within = a .within; kind = ap (λ (t : Triple). t .kind) (sym q) ∙ e }
+  pub term-asks : {h : Triple} {K : ℕ} → h ≡ lineOf (rows s) p → h .kind ≡ K → TermAsk K b c s p t tn
+  term-asks q e = record { ready = a .ready; sheet = a .sheet; ended = a .ended; few = a .few; stands = a .stands; term = a .term; within = a .within; kind = ap (λ (t : Triple). t .kind) (sym q) ∙ e }
 
   pub kinds : (21 ≤ kindAt s p) × (kindAt s p ≤ 30)
-  kinds = term-kind (lineOf (triples s) p) (head-ok s p (a .stands) (a .term) .0)
+  kinds = term-kind (lineOf (rows s) p) (head-ok s p (a .stands) (a .term) .0)
 
-  pub case-asks : {r w v : List ℕ} → CaseRoom r w v → kindAt s p ≡ 27 → {n j : ℕ} → n ≡ lineOf (triples s) p .count → j ≡ partLine (triples s) (p + 1) 1 → CaseAsk b c (triples s) j n w v l r t tn
+  pub case-asks : {r w v : List ℕ} → CaseRoom s r w v → kindAt s p ≡ 27 → {n j : ℕ} → n ≡ lineOf (rows s) p .count → j ≡ partLine (rows s) (p + 1) 1 → CaseAsk b c (rows s) j n w v l r t tn × Ended s
   case-asks room e qn q =
       let f = a .few in
       let x = room .frames in
-      let y = room .rows in
+      let y = room .bound in
       let h = a .stands in
-      let i = part-within (triples s) (p + 1) 1 (omega arith) .1 in
-      record {
-        ready = a .ready;
-        sheet = record { formed = a .sheet; few = omega arith };
-        frames = omega arith;
-        rows = omega arith;
-        left = a .left;
-        right = room .right;
-        type = a .within;
-        within = rw q i;
-        narrow = rw (qn, q) (case-narrow (triples s) p h e (a .term));
-      }
+      let i = part-within (rows s) (p + 1) 1 (omega arith) .1 in (
+        record {
+          ready = a .ready;
+          sheet = record { formed = a .sheet; few = omega arith };
+          frames = omega arith;
+          rows = omega arith;
+          left = a .left;
+          right = room .right;
+          type = a .within;
+          within = rw q i;
+          narrow = rw (qn, q) (case-narrow (rows s) p h e (a .term));
+        },
+        a .ended,
+      )

@@ -5,7 +5,8 @@ use Prim.Native.Nat.{ℕ, _+_, _*_, _≤_, _<_}
 use lib.ListN.{length, getD}
 use Rattle.nodes.specs.Nodes.{nodesAt}
 use Rattle.kinds.specs.Kinds.{aTerm}
-use Rattle.sheet.specs.Plan.{noTriple, triples}
+use Rattle.sheet.specs.Plan.{noTriple}
+use Rattle.sheet.specs.Rows.{rows, Ended}
 use Rattle.sheet.specs.Form.{IsPart, Formed}
 use Rattle.judgment.specs.Terms.{termView}
 use Rattle.judgment.specs.Rules.{inferBy}
@@ -18,34 +19,36 @@ use Rattle.applying.specs.Applying.{envOn}
 -- A whole term from this line of the sheet on, the taken type at the front of t, room for a type.
 pub record InferAsk (b : List ℕ) (c : Run) (s : List ℕ) (line : ℕ) (t : List ℕ) (tn : ℕ) (l : List ℕ) : Type 0 where
   pub ready : Ready b c
-  pub sheet : Formed (triples s)
-  pub few : length (triples s) ≤ 2000
-  pub stands : line < length (triples s)
-  pub term : IsPart aTerm (termAt (triples s) line)
+  pub sheet : Formed (rows s)
+  pub ended : Ended s
+  pub few : length (rows s) ≤ 2000
+  pub stands : line < length (rows s)
+  pub term : IsPart aTerm (termAt (rows s) line)
   pub within : 2 * tn ≤ length t
   pub left : 8192 ≤ length l
 
 -- room for a second type, and for the frames and bindings of a Case's patterns
-pub record CaseRoom (r w v : List ℕ) : Type 0 where
-  pub right : 8192 ≤ length r
-  pub frames : 12012 ≤ length w
-  pub rows : 12012 ≤ length v
+pub record CaseRoom (s r w v : List ℕ) : Type 0 where
+  pub right : 2 * length (rows s) + 2 ≤ length r
+  pub frames : 6 * length (rows s) + 12 ≤ length w
+  pub bound : 6 * length (rows s) + 6 ≤ length v
 
 -- the kind of a line
 abbrev pub kindAt : List ℕ → ℕ → ℕ
-kindAt s at = getD (triples s) at noTriple .kind
+kindAt s at = getD (rows s) at noTriple .kind
 
 -- the same of a term of kind k, without the scratch
 pub record TermAsk (k : ℕ) (b : List ℕ) (c : Run) (s : List ℕ) (at : ℕ) (t : List ℕ) (tn : ℕ) : Type 0 where
   pub ready : Ready b c
-  pub sheet : Formed (triples s)
-  pub few : length (triples s) ≤ 2000
-  pub stands : at < length (triples s)
-  pub term : IsPart aTerm (termAt (triples s) at)
+  pub sheet : Formed (rows s)
+  pub ended : Ended s
+  pub few : length (rows s) ≤ 2000
+  pub stands : at < length (rows s)
+  pub term : IsPart aTerm (termAt (rows s) at)
   pub within : 2 * tn ≤ length t
   pub kind : kindAt s at ≡ k
 
 -- Inf of the term that starts at line `at`, on a board that was b
 abbrev pub Infers : List ℕ → Run → List ℕ → ℕ → List ℕ → ℕ → List ℕ → Run → Type 0
 Infers b c s at t tn b' o =
-    (m : ℕ) (k rep : List ℕ) → WellFormed b k c → Does m (triples s) b k rep c (inferBy (envOn s) (nodesAt t 0 tn) (termView (termAt (triples s) at))) b' k rep o
+    (m : ℕ) (k rep : List ℕ) → WellFormed b k c → Does m (rows s) b k rep c (inferBy (envOn s) (nodesAt t 0 tn) (termView (termAt (rows s) at))) b' k rep o

@@ -5,7 +5,8 @@ ghost use mathlib.Core.List.{List};
 ghost use Prim.Native.Nat.{ℕ, _+_, _≤_, _<_};
 ghost use lib.ListN.{length, getD};
 ghost use Rattle.nodes.specs.Nodes.{nodesAt};
-ghost use Rattle.sheet.specs.Plan.{noTriple, triples, partLine};
+ghost use Rattle.sheet.specs.Plan.{noTriple, partLine};
+ghost use Rattle.sheet.specs.Rows.{rows, Ended};
 ghost use Rattle.judgment.specs.Terms.{termView};
 ghost use Rattle.judgment.specs.Rules.{inferBy};
 ghost use Rattle.board.specs.Board.{termAt};
@@ -32,17 +33,17 @@ use sheet::part_line;
 use sheet::triple_at;
 
 // The value of a line, a name or an operator.
-fn value_at(s: &[u8], at: usize) -> u32
-    requires { ⌜ getD (triples (now s)) at noTriple .value < 4294967296 ⌝ }
-    ensures { λ r. ⌜ r ≡ getD (triples (now (s .entry))) at noTriple .value ⌝ }
+fn value_at(s: &[u64], at: usize) -> u32
+    requires { ⌜ getD (rows (now s)) at noTriple .value < 4294967296 ⌝ }
+    ensures { λ r. ⌜ r ≡ getD (rows (now (s .entry))) at noTriple .value ⌝ }
 {
     triple_at(s, at).value as u32
 }
 
 // The line at which part i of the term at line `at` starts.
-fn part_at(s: &[u8], at: usize, i: usize) -> u32
-    requires { ⌜ (at < length (triples (now s))) × (length (triples (now s)) ≤ 2000) ⌝ }
-    ensures { λ r. ⌜ r ≡ partLine (triples (now (s .entry))) (at + 1) i ⌝ }
+fn part_at(s: &[u64], at: usize, i: usize) -> u32
+    requires { ⌜ (at < length (rows (now s))) × (length (rows (now s)) ≤ 2000) × Ended (now s) ⌝ }
+    ensures { λ r. ⌜ r ≡ partLine (rows (now (s .entry))) (at + 1) i ⌝ }
 {
     part_line(s, at + 1, i) as u32
 }
@@ -51,7 +52,7 @@ fn part_at(s: &[u8], at: usize, i: usize) -> u32
 fn variable_term(
     board: &mut [u32],
     c: Run,
-    s: &[u8],
+    s: &[u64],
     at: usize,
     t: &[u32],
     tn: usize,
@@ -68,7 +69,7 @@ fn variable_term(
 fn lambda_term(
     board: &mut [u32],
     c: Run,
-    s: &[u8],
+    s: &[u64],
     at: usize,
     t: &[u32],
     tn: usize,
@@ -85,7 +86,7 @@ fn lambda_term(
 }
 
 // App (function, argument).
-fn apply_term(board: &mut [u32], c: Run, s: &[u8], at: usize, t: &[u32], tn: usize) -> Run
+fn apply_term(board: &mut [u32], c: Run, s: &[u64], at: usize, t: &[u32], tn: usize) -> Run
     requires { ⌜ TermAsk 24 (now board) c (now s) at (now t) tn ⌝ }
     ensures { λ o. ⌜ Infers (now (board .entry)) c (now (s .entry)) at (now (t .entry)) tn (now (board .exit)) o ⌝ }
 {
@@ -95,7 +96,7 @@ fn apply_term(board: &mut [u32], c: Run, s: &[u8], at: usize, t: &[u32], tn: usi
 }
 
 // TypeLambda (name, body).
-fn type_lambda_term(board: &mut [u32], c: Run, s: &[u8], at: usize, t: &[u32], tn: usize) -> Run
+fn type_lambda_term(board: &mut [u32], c: Run, s: &[u64], at: usize, t: &[u32], tn: usize) -> Run
     requires { ⌜ TermAsk 25 (now board) c (now s) at (now t) tn ⌝ }
     ensures { λ o. ⌜ Infers (now (board .entry)) c (now (s .entry)) at (now (t .entry)) tn (now (board .exit)) o ⌝ }
 {
@@ -108,7 +109,7 @@ fn type_lambda_term(board: &mut [u32], c: Run, s: &[u8], at: usize, t: &[u32], t
 fn constructor_term(
     board: &mut [u32],
     c: Run,
-    s: &[u8],
+    s: &[u64],
     at: usize,
     t: &[u32],
     tn: usize,
@@ -128,7 +129,7 @@ fn constructor_term(
 fn case_term(
     board: &mut [u32],
     c: Run,
-    s: &[u8],
+    s: &[u64],
     at: usize,
     t: &[u32],
     tn: usize,
@@ -137,7 +138,7 @@ fn case_term(
     w: &mut [usize],
     v: &mut [usize],
 ) -> Run
-    requires { ⌜ InferAsk (now board) c (now s) at (now t) tn (now l) × CaseRoom (now r) (now w) (now v) × (kindAt (now s) at ≡ 27) ⌝ }
+    requires { ⌜ InferAsk (now board) c (now s) at (now t) tn (now l) × CaseRoom (now s) (now r) (now w) (now v) × (kindAt (now s) at ≡ 27) ⌝ }
     ensures { λ o. ⌜ Infers (now (board .entry)) c (now (s .entry)) at (now (t .entry)) tn (now (board .exit)) o ⌝ }
 {
     let n = triple_at(s, at).count as usize;
@@ -146,27 +147,8 @@ fn case_term(
     infer_case(board, c, s, e, arm, n, w, v, l, r, t, tn)
 }
 
-// Lends a Case its room, which no other rule needs.
-fn case_with_room(
-    board: &mut [u32],
-    c: Run,
-    s: &[u8],
-    at: usize,
-    t: &[u32],
-    tn: usize,
-    l: &mut [u32],
-) -> Run
-    requires { ⌜ InferAsk (now board) c (now s) at (now t) tn (now l) × (kindAt (now s) at ≡ 27) ⌝ }
-    ensures { λ o. ⌜ Infers (now (board .entry)) c (now (s .entry)) at (now (t .entry)) tn (now (board .exit)) o ⌝ }
-{
-    let mut r = [0u32; 8192];
-    let mut w = [0usize; 12012];
-    let mut v = [0usize; 12012];
-    case_term(board, c, s, at, t, tn, l, &mut r, &mut w, &mut v)
-}
-
 // BinOp (operator, two operands).
-fn bin_op_term(board: &mut [u32], c: Run, s: &[u8], at: usize, t: &[u32], tn: usize) -> Run
+fn bin_op_term(board: &mut [u32], c: Run, s: &[u64], at: usize, t: &[u32], tn: usize) -> Run
     requires { ⌜ TermAsk 28 (now board) c (now s) at (now t) tn ⌝ }
     ensures { λ o. ⌜ Infers (now (board .entry)) c (now (s .entry)) at (now (t .entry)) tn (now (board .exit)) o ⌝ }
 {
@@ -177,7 +159,7 @@ fn bin_op_term(board: &mut [u32], c: Run, s: &[u8], at: usize, t: &[u32], tn: us
 }
 
 // If (condition, two branches).
-fn if_term(board: &mut [u32], c: Run, s: &[u8], at: usize, t: &[u32], tn: usize) -> Run
+fn if_term(board: &mut [u32], c: Run, s: &[u64], at: usize, t: &[u32], tn: usize) -> Run
     requires { ⌜ TermAsk 29 (now board) c (now s) at (now t) tn ⌝ }
     ensures { λ o. ⌜ Infers (now (board .entry)) c (now (s .entry)) at (now (t .entry)) tn (now (board .exit)) o ⌝ }
 {
@@ -188,7 +170,7 @@ fn if_term(board: &mut [u32], c: Run, s: &[u8], at: usize, t: &[u32], tn: usize)
 }
 
 // IntrinsicCall (name, count, arguments): the rule looks at the first only, and only where the count is 1.
-fn intrinsic_term(board: &mut [u32], c: Run, s: &[u8], at: usize, t: &[u32], tn: usize) -> Run
+fn intrinsic_term(board: &mut [u32], c: Run, s: &[u64], at: usize, t: &[u32], tn: usize) -> Run
     requires { ⌜ TermAsk 30 (now board) c (now s) at (now t) tn ⌝ }
     ensures { λ o. ⌜ Infers (now (board .entry)) c (now (s .entry)) at (now (t .entry)) tn (now (board .exit)) o ⌝ }
 {
@@ -202,13 +184,16 @@ fn intrinsic_term(board: &mut [u32], c: Run, s: &[u8], at: usize, t: &[u32], tn:
 fn infer_other(
     board: &mut [u32],
     c: Run,
-    s: &[u8],
+    s: &[u64],
     at: usize,
     t: &[u32],
     tn: usize,
     l: &mut [u32],
+    r: &mut [u32],
+    w: &mut [usize],
+    v: &mut [usize],
 ) -> Run
-    requires { ⌜ InferAsk (now board) c (now s) at (now t) tn (now l) × (25 ≤ kindAt (now s) at) ⌝ }
+    requires { ⌜ InferAsk (now board) c (now s) at (now t) tn (now l) × CaseRoom (now s) (now r) (now w) (now v) × (25 ≤ kindAt (now s) at) ⌝ }
     ensures { λ o. ⌜ Infers (now (board .entry)) c (now (s .entry)) at (now (t .entry)) tn (now (board .exit)) o ⌝ }
 {
     let kind = triple_at(s, at).kind;
@@ -219,7 +204,7 @@ fn infer_other(
         return constructor_term(board, c, s, at, t, tn, l);
     }
     if kind == 27 {
-        return case_with_room(board, c, s, at, t, tn, l);
+        return case_term(board, c, s, at, t, tn, l, r, w, v);
     }
     if kind == 28 {
         return bin_op_term(board, c, s, at, t, tn);
@@ -234,13 +219,16 @@ fn infer_other(
 fn infer_term(
     board: &mut [u32],
     c: Run,
-    s: &[u8],
+    s: &[u64],
     at: usize,
     t: &[u32],
     tn: usize,
     l: &mut [u32],
+    r: &mut [u32],
+    w: &mut [usize],
+    v: &mut [usize],
 ) -> Run
-    requires { ⌜ InferAsk (now board) c (now s) at (now t) tn (now l) ⌝ }
+    requires { ⌜ InferAsk (now board) c (now s) at (now t) tn (now l) × CaseRoom (now s) (now r) (now w) (now v) ⌝ }
     ensures { λ o. ⌜ Infers (now (board .entry)) c (now (s .entry)) at (now (t .entry)) tn (now (board .exit)) o ⌝ }
 {
     let kind = triple_at(s, at).kind;
@@ -256,21 +244,24 @@ fn infer_term(
     if kind == 24 {
         return apply_term(board, c, s, at, t, tn);
     }
-    infer_other(board, c, s, at, t, tn, l)
+    infer_other(board, c, s, at, t, tn, l, r, w, v)
 }
 
 // Inf of the term that starts at a line.
 pub fn solve_inference(
     board: &mut [u32],
     c: Run,
-    s: &[u8],
+    s: &[u64],
     line: u32,
     t: &[u32],
     tn: usize,
     l: &mut [u32],
+    r: &mut [u32],
+    w: &mut [usize],
+    v: &mut [usize],
 ) -> Run
-    requires { ⌜ InferAsk (now board) c (now s) line (now t) tn (now l) ⌝ }
-    ensures { λ o. ⌜ ((m : ℕ) (k rep : List ℕ) → WellFormed (now (board .entry)) k c → Does m (triples (now (s .entry))) (now (board .entry)) k rep c (inferBy (envOn (now (s .entry))) (nodesAt (now (t .entry)) 0 tn) (termView (termAt (triples (now (s .entry))) line))) (now (board .exit)) k rep o) ⌝ }
+    requires { ⌜ InferAsk (now board) c (now s) line (now t) tn (now l) × CaseRoom (now s) (now r) (now w) (now v) ⌝ }
+    ensures { λ o. ⌜ ((m : ℕ) (k rep : List ℕ) → WellFormed (now (board .entry)) k c → Does m (rows (now (s .entry))) (now (board .entry)) k rep c (inferBy (envOn (now (s .entry))) (nodesAt (now (t .entry)) 0 tn) (termView (termAt (rows (now (s .entry))) line))) (now (board .exit)) k rep o) ⌝ }
 {
-    infer_term(board, c, s, wide(line), t, tn, l)
+    infer_term(board, c, s, wide(line), t, tn, l, r, w, v)
 }

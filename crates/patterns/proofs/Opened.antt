@@ -31,12 +31,16 @@ use Rattle.patterns.specs.Turns.{Ready, Turn}
 use Rattle.patterns.specs.Readings.{Arity, bodyOf, PartsAsk, Parting}
 
 -- a reference fits a scratch buffer
-pub good-fits : {ls : List Triple} {r : TypeRef} → Good ls r → r .at + r .count ≤ 4096
-good-fits {ls} {r} g = by (r .lines) refl
+-- what is meant ends within the type's lines; an unknown alone is one node
+pub good-within : {ls : List Triple} {r : TypeRef} → Good ls r → (r .at + r .count ≤ r .lines + 1) × (r .at + r .count ≤ 4096)
+good-within {ls} {r} g = by (r .lines) refl
   where
-    by : (n : ℕ) → r .lines ≡ n → r .at + r .count ≤ 4096
-    by zero e = let a = g .alone e in omega arith
-    by (suc n) e = let w = g .within (omega arith) in let f = g .few in omega arith
+    by : (n : ℕ) → r .lines ≡ n → (r .at + r .count ≤ r .lines + 1) × (r .at + r .count ≤ 4096)
+    by zero e = let a = g .alone e in (omega arith, omega arith)
+    by (suc n) e = let w = g .within (omega arith) in let f = g .few in (omega arith, omega arith)
+
+pub good-fits : {ls : List Triple} {r : TypeRef} → Good ls r → r .at + r .count ≤ 4096
+good-fits g = good-within g .1
 
 module _ {b : List ℕ} {c : Run} (ls : List Triple) (first n count : ℕ) (want : TypeRef) {l₀ r₀ : List ℕ} (ask : PartsAsk b c ls first n count want l₀ r₀)
     {b₁ l : List ℕ} {o : Opened} (O : Opens b c (nodesOf (take n (drop first ls))) n l₀ b₁ l o) where

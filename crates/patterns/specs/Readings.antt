@@ -44,10 +44,10 @@ pub record PartsAsk (b : List ℕ) (c : Run) (ls : List Triple) (first n count :
   pub few : n ≤ 4096
   pub lines : first + n ≤ length ls
   pub narrow : All Narrow (take n (drop first ls))
-  pub small : count < 100000
+  pub small : count < 131072
   pub good : Good ls want
   pub left : 8192 ≤ length l
-  pub right : 8192 ≤ length r
+  pub right : 2 * length ls + 2 ≤ length r
 
 -- the reference to the opened type, of that many nodes
 abbrev pub bodyOf : ℕ → ℕ → ℕ → ℕ → TypeRef
@@ -70,12 +70,12 @@ pub record NameAsk (b : List ℕ) (c : Run) (ls : List Triple) (x count : ℕ) (
   pub ready : Ready b c
   pub sheet : Sheet ls
   pub name : x < 4294967296
-  pub small : count < 100000
+  pub small : count < 131072
   pub good : Good ls want
   pub frames : Frames ls w n
   pub deep : 6 * n + 6 ≤ length w
   pub left : 8192 ≤ length l
-  pub right : 8192 ≤ length r
+  pub right : 2 * length ls + 2 ≤ length r
 
 pub record Naming (b : List ℕ) (c : Run) (ls : List Triple) (x count : ℕ) (t : Ty) (w : List ℕ) (n : ℕ) (b' w' : List ℕ) (o : Named) : Type 0 where
   pub depth : o .depth ≤ n + 1
@@ -94,7 +94,7 @@ pub record LineAsk (b : List ℕ) (c : Run) (ls : List Triple) (p : ℕ) (w : Li
   pub sound : Sound ls v j
   pub rows : 6 * j + 6 ≤ length v
   pub left : 8192 ≤ length l
-  pub right : 8192 ≤ length r
+  pub right : 2 * length ls + 2 ≤ length r
 
 -- what is left of the pattern is the lines after it
 pub record Lining (b : List ℕ) (c : Run) (ls : List Triple) (p : ℕ) (w : List ℕ) (n : ℕ) (v : List ℕ) (j : ℕ) (b' w' v' : List ℕ) (o : Lined) : Type 0 where
@@ -116,7 +116,7 @@ pub record CheckAsk (b : List ℕ) (c : Run) (ls : List Triple) (first lines u :
   pub frames : 6 * lines + 12 ≤ length w
   pub rows : 6 * lines + 6 ≤ length v
   pub left : 8192 ≤ length l
-  pub right : 8192 ≤ length r
+  pub right : 2 * length ls + 2 ≤ length r
 
 module _ (b : List ℕ) (c : Run) (ls : List Triple) (first lines u : ℕ) where
   -- i lines were read

@@ -4,7 +4,7 @@ ghost use mathlib.Core.List.{List};
 ghost use Prim.Native.Nat.{ℕ, _+_, _*_, _≤_, _<_};
 ghost use lib.ListN.{length};
 ghost use Rattle.spelling.specs.declared.Triple.{Triple};
-ghost use Rattle.sheet.specs.Plan.{triples};
+ghost use Rattle.sheet.specs.Rows.{rows, Ended};
 ghost use Rattle.references.specs.References.{typeOf};
 ghost use Rattle.patterns.specs.Turns.{Ready};
 ghost use Rattle.patterns.specs.Readings.{Arity, PartsAsk, Parting, Adds, NameAsk, Naming, LineAsk, Lining, CheckAsk, Checking};
@@ -26,7 +26,7 @@ use tables::put;
 
 // Refuses, unless the counts agree.
 fn check_arity(c: Run, arity: usize, count: usize) -> Run
-    requires { ⌜ (arity ≤ 4096) × (count < 100000) ⌝ }
+    requires { ⌜ (arity ≤ 4096) × (count < 131072) ⌝ }
     ensures { λ r. ⌜ ((ls : List Triple) (b : List ℕ) → Ready b c → Arity ls b c arity count r) ⌝ }
 {
     if count == arity {
@@ -46,7 +46,7 @@ pub struct Parts {
 fn pattern_parts(
     board: &mut [u32],
     c: Run,
-    s: &[u8],
+    s: &[u64],
     first: usize,
     n: usize,
     count: usize,
@@ -54,8 +54,8 @@ fn pattern_parts(
     l: &mut [u32],
     r: &mut [u32],
 ) -> Parts
-    requires { ⌜ PartsAsk (now board) c (triples (now s)) first n count want (now l) (now r) ⌝ }
-    ensures { λ o. ⌜ Parting (now (board .entry)) c (triples (now (s .entry))) first n count (typeOf (triples (now (s .entry))) want) (now (board .exit)) o ⌝ }
+    requires { ⌜ PartsAsk (now board) c (rows (now s)) first n count want (now l) (now r) ⌝ }
+    ensures { λ o. ⌜ Parting (now (board .entry)) c (rows (now (s .entry))) first n count (typeOf (rows (now (s .entry))) want) (now (board .exit)) o ⌝ }
 {
     let ra = 2 * want.at;
     let rn = want.count;
@@ -94,7 +94,7 @@ pub struct Named {
 fn constructor_line(
     board: &mut [u32],
     c: Run,
-    s: &[u8],
+    s: &[u64],
     name: u64,
     count: u64,
     want: TypeRef,
@@ -103,8 +103,8 @@ fn constructor_line(
     l: &mut [u32],
     r: &mut [u32],
 ) -> Named
-    requires { ⌜ NameAsk (now board) c (triples (now s)) name count want (now w) n (now l) (now r) ⌝ }
-    ensures { λ o. ⌜ Naming (now (board .entry)) c (triples (now (s .entry))) name count (typeOf (triples (now (s .entry))) want) (now (w .entry)) n (now (board .exit)) (now (w .exit)) o ⌝ }
+    requires { ⌜ NameAsk (now board) c (rows (now s)) name count want (now w) n (now l) (now r) × Ended (now s) ⌝ }
+    ensures { λ o. ⌜ Naming (now (board .entry)) c (rows (now (s .entry))) name count (typeOf (rows (now (s .entry))) want) (now (w .entry)) n (now (board .exit)) (now (w .exit)) o ⌝ }
 {
     match find_entry(s, 1, name) {
         Found::At { line, count: lines } => {
@@ -141,7 +141,7 @@ pub struct Lined {
 fn pattern_line(
     board: &mut [u32],
     c: Run,
-    s: &[u8],
+    s: &[u64],
     p: usize,
     w: &mut [usize],
     n: usize,
@@ -150,8 +150,8 @@ fn pattern_line(
     l: &mut [u32],
     r: &mut [u32],
 ) -> Lined
-    requires { ⌜ LineAsk (now board) c (triples (now s)) p (now w) n (now v) j (now l) (now r) ⌝ }
-    ensures { λ o. ⌜ Lining (now (board .entry)) c (triples (now (s .entry))) p (now (w .entry)) n (now (v .entry)) j (now (board .exit)) (now (w .exit)) (now (v .exit)) o ⌝ }
+    requires { ⌜ LineAsk (now board) c (rows (now s)) p (now w) n (now v) j (now l) (now r) × Ended (now s) ⌝ }
+    ensures { λ o. ⌜ Lining (now (board .entry)) c (rows (now (s .entry))) p (now (w .entry)) n (now (v .entry)) j (now (board .exit)) (now (w .exit)) (now (v .exit)) o ⌝ }
 {
     let t = triple_at(s, p);
     let name = t.value;
@@ -193,7 +193,7 @@ pub struct Checked {
 pub fn check_pattern(
     board: &mut [u32],
     c: Run,
-    s: &[u8],
+    s: &[u64],
     first: usize,
     lines: usize,
     u: u32,
@@ -202,8 +202,8 @@ pub fn check_pattern(
     l: &mut [u32],
     r: &mut [u32],
 ) -> Checked
-    requires { ⌜ CheckAsk (now board) c (triples (now s)) first lines u (now w) (now v) (now l) (now r) ⌝ }
-    ensures { λ o. ⌜ Checking (now (board .entry)) c (triples (now (s .entry))) first lines u (now (board .exit)) (now (v .exit)) o ⌝ }
+    requires { ⌜ CheckAsk (now board) c (rows (now s)) first lines u (now w) (now v) (now l) (now r) × Ended (now s) ⌝ }
+    ensures { λ o. ⌜ Checking (now (board .entry)) c (rows (now (s .entry))) first lines u (now (board .exit)) (now (v .exit)) o ⌝ }
 {
     let base = wide(u);
     put(

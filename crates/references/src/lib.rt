@@ -3,7 +3,7 @@ ghost use mathlib.Core.Path.{_≡_};
 ghost use Prim.Native.Nat.{_+_, _*_, _-_, _≤_, _<_};
 ghost use lib.ListN.{length};
 ghost use Rattle.nodes.specs.Nodes.{node, nodesAt};
-ghost use Rattle.sheet.specs.Plan.{triples};
+ghost use Rattle.sheet.specs.Rows.{rows};
 ghost use Rattle.references.specs.Signatures.{arrowHead, params, result};
 ghost use Rattle.references.specs.References.{typeOf, Good, Frame, Halved};
 use constructors::copy_opened;
@@ -54,9 +54,9 @@ pub fn signature(k: &[u32], at: usize, n: usize) -> Ending
 }
 
 // Writes the whole type, opened, to the front of `out`: the part that is meant stands at its own place in it.
-pub fn instance(out: &mut [u32], s: &[u8], r: TypeRef)
-    requires { ⌜ Good (triples (now s)) r × (8192 ≤ length (now out)) ⌝ }
-    ensures { λ _. ⌜ nodesAt (now (out .exit)) (2 * r .at) (r .count) ≡ typeOf (triples (now (s .entry))) r ⌝ }
+pub fn instance(out: &mut [u32], s: &[u64], r: TypeRef)
+    requires { ⌜ Good (rows (now s)) r × (2 * r .lines ≤ length (now out)) × (2 ≤ length (now out)) ⌝ }
+    ensures { λ _. ⌜ nodesAt (now (out .exit)) (2 * r .at) (r .count) ≡ typeOf (rows (now (s .entry))) r ⌝ }
 {
     let base = r.base as u32;
     let lines = r.lines;
@@ -75,9 +75,9 @@ pub struct Split {
 }
 
 // Takes apart the parameters that a reference stands for.
-pub fn split_frame(out: &mut [u32], s: &[u8], r: TypeRef) -> Split
-    requires { ⌜ Frame (triples (now s)) r × (0 < r .lines) × (8192 ≤ length (now out)) ⌝ }
-    ensures { λ h. ⌜ Halved (triples (now (s .entry))) r h ⌝ }
+pub fn split_frame(out: &mut [u32], s: &[u64], r: TypeRef) -> Split
+    requires { ⌜ Frame (rows (now s)) r × (0 < r .lines) × (8192 ≤ length (now out)) ⌝ }
+    ensures { λ h. ⌜ Halved (rows (now (s .entry))) r h ⌝ }
 {
     let at = r.at;
     let count = r.count;

@@ -37,5 +37,5 @@ unfolding words
 copy-end ls line left d p e = rw e
 
 -- a node's number is a word
-pub number-small : (t : Triple) → t .count < 100000 → Narrow t → number (lineNode t) < 4294967296
+pub number-small : (t : Triple) → t .count < 131072 → Narrow t → number (lineNode t) < 4294967296
 number-small t c v = cond-ind (λ (x : ℕ). x < 4294967296) (eqb (t .kind) 16) (λ _. omega arith) (λ _. v)

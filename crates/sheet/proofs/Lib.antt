@@ -1,4 +1,5 @@
 pub mod Lines
+pub mod RowLaws
 pub mod Declarations
 pub mod Marks
 pub mod Forming

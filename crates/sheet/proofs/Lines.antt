@@ -1,14 +1,14 @@
 -- Laws of `triples` and `partLine`. Assumes nothing.
-use mathlib.Core.Path.{_≡_, refl, sym, ap, _∙_}
-use mathlib.Core.List.{List, [], _∷_, map}
+use mathlib.Core.Path.{_≡_, refl, sym, ap, ap₂, _∙_}
+use mathlib.Core.List.{List, [], _∷_, _++_, map}
 use Prim.Native.Nat.{ℕ, zero, suc, _+_, _-_, _/_, _≤_, _<_}
 use native.Mathlib.Nat.{add-zero}
 use native.Mathlib.Numerals.{add-one}
 use native.Mathlib.Omega.{arith}
-use lib.ListN.{length, getD, drop, length-map, length-drop, List·getD-map, drop-of-length-le}
+use lib.ListN.{length, getD, drop, length-map, length-append, length-drop, List·getD-map, drop-of-length-le}
 use lib.Seq.{drop-cons, drop-drop}
 use Rattle.nodes.specs.Parts.{takeParts, dropParts}
-use Rattle.nodes.proofs.PartLaws.{take-none, take-turn, take-all, length-take, is-drop}
+use Rattle.nodes.proofs.PartLaws.{take-none, take-turn, take-all, take-take, drop-take, take-drop, length-take, is-drop}
 use Rattle.spelling.specs.declared.Triple.{Triple}
 use Rattle.spelling.specs.declared.Line.{Line}
 use Rattle.spelling.specs.declared.Line.the-variants.{Spelt, Misspelt}
@@ -64,6 +64,19 @@ module _ (ls : List Triple) (at n : ℕ) where
       let e : takeParts partsOf (drop at ls) n ≡ getD ls at noTriple ∷ takeParts partsOf (drop (at + 1) ls) m =
       rw (drop-cons ls at noTriple h) (take-turn partsOf (getD ls at noTriple) (drop (suc at) ls) n k ∙ rw add-one) in
       rw e (omega arith)
+
+  -- past one part, and then the others
+  pub line-hop : 0 < n → partLine ls (partLine ls at 1) (n - 1) ≡ partLine ls at n
+  unfolding partLine
+  line-hop k =
+      let xs = drop at ls in
+      let e : 1 + (n - 1) ≡ n = omega arith in
+      let s : takeParts partsOf xs 1 ++ takeParts partsOf (dropParts partsOf xs 1) (n - 1) ≡ takeParts partsOf xs (1 + (n - 1)) =
+      ap₂ (λ (x y : List Triple). x ++ y) (sym (take-take partsOf xs 1 (n - 1))) (sym (drop-take partsOf xs 1 (n - 1))) ∙ take-drop partsOf (takeParts partsOf xs (1 + (n - 1))) 1 in
+      let m : length (takeParts partsOf xs 1) + length (takeParts partsOf (dropParts partsOf xs 1) (n - 1)) ≡ length (takeParts partsOf xs n) =
+      sym (length-append (takeParts partsOf xs 1) _) ∙ ap length s ∙ ap (λ (j : ℕ). length (takeParts partsOf xs j)) e in
+      let d : drop (at + length (takeParts partsOf xs 1)) ls ≡ dropParts partsOf xs 1 = sym (is-drop partsOf xs 1 ∙ drop-drop (length (takeParts partsOf xs 1)) at ls) in
+      rw d (omega arith)
 
   pub line-from : at ≤ partLine ls at n
   unfolding partLine

@@ -1,27 +1,90 @@
 // The plan on a sheet: its lines, where a part starts, its entries, where its expected type and its term start, the plain mark.
-// Every function takes any bytes; what they mean as a plan is for a sheet that `grammar::check_sheet` takes.
+// A sheet is read once into rows, and the rules read those. Every function takes any words; what they mean as a plan is for a sheet that `grammar::check_sheet` takes.
 use kinds::parts_of;
 use spelling::Line;
 use spelling::Triple;
 use spelling::line_at;
 ghost use mathlib.Core.Path.{_≡_};
-ghost use Prim.Native.Nat.{ℕ, _+_, _*_, _≤_};
+ghost use mathlib.Core.Bool.{cond};
+ghost use mathlib.Core.List.{List};
+ghost use Prim.Native.Nat.{ℕ, _+_, _*_, _/_, _≤_, _<_};
 ghost use lib.ListN.{length, getD, take, drop};
 ghost use lib.Seq.{sets};
 ghost use Rattle.nodes.specs.Nodes.{number, words};
 ghost use Rattle.nodes.specs.Lists.{All};
 ghost use Rattle.kinds.specs.Kinds.{partsOf};
 ghost use Rattle.sheet.specs.Plan.{noTriple, triples, partLine, lineNode, nodesOf, Narrow, isEntry, named, findEntry, entriesEnd, placesOf, isPlain as plainMark};
+ghost use Rattle.sheet.specs.Rows.{packed, rowTriple, rows, endAt, EndsFrom, Ended, setRow, RowAsk};
 
-// How many lines the sheet has.
-pub fn line_count(s: &[u8]) -> usize
-    ensures { λ r. ⌜ r ≡ length (triples (now (s .entry))) ⌝ }
+// How many lines there are.
+pub fn line_count(s: &[u64]) -> usize
+    ensures { λ r. ⌜ r ≡ length (rows (now (s .entry))) ⌝ }
 {
-    s.len() / 29
+    s.len() / 2
+}
+
+// A row's two words as a line.
+fn row_triple(value: u64, word: u64) -> Triple
+    ensures { λ r. ⌜ r ≡ rowTriple value word ⌝ }
+{
+    Triple {
+        kind: word % 1024,
+        negative: word / 1024 % 2 == 1,
+        value,
+        count: word / 2048 % 131072,
+    }
 }
 
 // Kind, value and count of a line; all 0 where there is none.
-pub fn triple_at(s: &[u8], i: usize) -> Triple
+pub fn triple_at(s: &[u64], i: usize) -> Triple
+    ensures { λ r. ⌜ r ≡ getD (rows (now (s .entry))) i noTriple ⌝ }
+{
+    if i < s.len() / 2 {
+        return row_triple(s[2 * i], s[2 * i + 1]);
+    }
+    Triple {
+        kind: 0,
+        negative: false,
+        value: 0,
+        count: 0,
+    }
+}
+
+// The line after the part that starts at line i.
+fn end_at(s: &[u64], i: usize) -> usize
+    requires { ⌜ 2 * i + 1 < length (now s) ⌝ }
+    ensures { λ r. ⌜ r ≡ endAt (now (s .entry)) i ⌝ }
+{
+    (s[2 * i + 1] / 268435456) as usize
+}
+
+// The line after n whole parts that start at line `first` of so many lines, or the line count if they don't end; from `first` on the ends stand in the rows.
+fn after_parts(s: &[u64], lines: usize, first: usize, n: usize) -> usize
+    requires { ⌜ 2 * lines ≤ length (now s) ⌝ }
+    ensures { λ r. ⌜ ((ls : List Triple) → length ls ≡ lines → EndsFrom ls (now (s .entry)) first → r ≡ partLine ls first n) ⌝ }
+{
+    let mut at = first;
+    let mut due = n;
+    while 0 < due {
+        if lines <= at {
+            return at;
+        }
+        at = end_at(s, at);
+        due -= 1;
+    }
+    at
+}
+
+// The line after n whole parts that start at line `first`, or the line count if they don't end.
+pub fn part_line(s: &[u64], first: usize, n: usize) -> usize
+    requires { ⌜ Ended (now s) ⌝ }
+    ensures { λ r. ⌜ r ≡ partLine (rows (now (s .entry))) first n ⌝ }
+{
+    after_parts(s, line_count(s), first, n)
+}
+
+// What a line of the sheet itself says; all 0 where it is misspelt or there is none.
+fn read_line(s: &[u8], i: usize) -> Triple
     ensures { λ r. ⌜ r ≡ getD (triples (now (s .entry))) i noTriple ⌝ }
 {
     match line_at(s, i) {
@@ -35,31 +98,42 @@ pub fn triple_at(s: &[u8], i: usize) -> Triple
     }
 }
 
-// How many parts follow a line.
-pub fn parts_at(s: &[u8], i: usize) -> usize
-    ensures { λ r. ⌜ r ≡ partsOf (getD (triples (now (s .entry))) i noTriple) ⌝ }
+fn sign_bit(negative: bool) -> u64
+    ensures { λ r. ⌜ r ≡ cond negative 1 0 ⌝ }
 {
-    parts_of(triple_at(s, i)) as usize
+    if negative { 1 } else { 0 }
 }
 
-// The line after n whole parts that start at line `first`, or the line count if they don't end.
-pub fn part_line(s: &[u8], first: usize, n: usize) -> usize
-    ensures { λ r. ⌜ r ≡ partLine (triples (now (s .entry))) first n ⌝ }
+fn pack(t: Triple, end: usize) -> u64
+    requires { ⌜ (t .kind < 1000) × (t .count < 100000) × (end ≤ 2001) ⌝ }
+    ensures { λ r. ⌜ r ≡ packed t end ⌝ }
 {
-    let lines = line_count(s);
-    let mut at = first;
-    let mut due = n;
-    while at < lines {
-        if due == 0 {
-            return at;
-        }
-        if lines - at <= due {
-            return lines;
-        }
-        due = due - 1 + parts_at(s, at);
-        at += 1;
+    let sign = sign_bit(t.negative);
+    t.kind + 1024 * (sign + 2 * (t.count + 131072 * (end as u64)))
+}
+
+// Reads line i to its row; those after it are read. A part ends where its own parts end.
+fn read_row(d: &mut [u64], s: &[u8], i: usize)
+    requires { ⌜ RowAsk (now d) (now s) i ⌝ }
+    ensures { λ _. ⌜ now (d .exit) ≡ setRow (now (d .entry)) i (getD (triples (now (s .entry))) i noTriple) (partLine (triples (now (s .entry))) i 1) ⌝ }
+{
+    let t = read_line(s, i);
+    let parts = parts_of(t) as usize;
+    let end = after_parts(d, s.len() / 29, i + 1, parts);
+    d[2 * i] = t.value;
+    d[2 * i + 1] = pack(t, end);
+}
+
+// Reads a sheet, the last line first.
+pub fn read_rows(d: &mut [u64], s: &[u8])
+    requires { ⌜ (length (now d) ≡ 2 * (length (now s) / 29)) × (length (now s) / 29 ≤ 2000) ⌝ }
+    ensures { λ _. ⌜ (rows (now (d .exit)) ≡ triples (now (s .entry))) × Ended (now (d .exit)) ⌝ }
+{
+    let mut i = s.len() / 29;
+    while 0 < i {
+        i -= 1;
+        read_row(d, s, i);
     }
-    at
 }
 
 // Where the type of an entry stands: its first line, and how many lines it has.
@@ -85,8 +159,9 @@ fn is_named(t: Triple, kind: u64, name: u64) -> bool
 }
 
 // The type of the entry of kind `kind`, 1 or 2, and that name.
-pub fn find_entry(s: &[u8], kind: u64, name: u64) -> Found
-    ensures { λ r. ⌜ r ≡ findEntry kind name (triples (now (s .entry))) ⌝ }
+pub fn find_entry(s: &[u64], kind: u64, name: u64) -> Found
+    requires { ⌜ Ended (now s) ⌝ }
+    ensures { λ r. ⌜ r ≡ findEntry kind name (rows (now (s .entry))) ⌝ }
 {
     let lines = line_count(s);
     let mut at = 0;
@@ -110,8 +185,9 @@ pub fn find_entry(s: &[u8], kind: u64, name: u64) -> Found
 }
 
 // The line after the entries.
-fn entries_end(s: &[u8]) -> usize
-    ensures { λ r. ⌜ r ≡ entriesEnd (triples (now (s .entry))) ⌝ }
+fn entries_end(s: &[u64]) -> usize
+    requires { ⌜ Ended (now s) ⌝ }
+    ensures { λ r. ⌜ r ≡ entriesEnd (rows (now (s .entry))) ⌝ }
 {
     let lines = line_count(s);
     let mut at = 0;
@@ -131,8 +207,9 @@ pub struct Places {
     pub term: usize,
 }
 
-pub fn find_places(s: &[u8]) -> Places
-    ensures { λ r. ⌜ r ≡ placesOf (triples (now (s .entry))) ⌝ }
+pub fn find_places(s: &[u64]) -> Places
+    requires { ⌜ Ended (now s) ⌝ }
+    ensures { λ r. ⌜ r ≡ placesOf (rows (now (s .entry))) ⌝ }
 {
     let expected = entries_end(s) + 1;
     let term = part_line(s, expected, 1) + 1;
@@ -140,8 +217,8 @@ pub fn find_places(s: &[u8]) -> Places
 }
 
 // No line has kind 14 or 25.
-pub fn is_plain(s: &[u8]) -> bool
-    ensures { λ r. ⌜ r ≡ plainMark (triples (now (s .entry))) ⌝ }
+pub fn is_plain(s: &[u64]) -> bool
+    ensures { λ r. ⌜ r ≡ plainMark (rows (now (s .entry))) ⌝ }
 {
     let lines = line_count(s);
     let mut i = 0;
@@ -169,9 +246,9 @@ fn node_number(t: Triple) -> u64
 }
 
 // Copies a type of n lines from line `first` on, as nodes, to word `at` of dst.
-pub fn copy_type(dst: &mut [u32], at: usize, s: &[u8], first: usize, n: usize)
-    requires { ⌜ (at + 2 * n ≤ length (now dst)) × (first + n ≤ length (triples (now s))) × All Narrow (take n (drop first (triples (now s)))) ⌝ }
-    ensures { λ _. ⌜ now (dst .exit) ≡ sets (now (dst .entry)) at (words (nodesOf (take n (drop first (triples (now (s .entry))))))) ⌝ }
+pub fn copy_type(dst: &mut [u32], at: usize, s: &[u64], first: usize, n: usize)
+    requires { ⌜ (at + 2 * n ≤ length (now dst)) × (first + n ≤ length (rows (now s))) × All Narrow (take n (drop first (rows (now s)))) ⌝ }
+    ensures { λ _. ⌜ now (dst .exit) ≡ sets (now (dst .entry)) at (words (nodesOf (take n (drop first (rows (now (s .entry))))))) ⌝ }
 {
     let mut p = at;
     let mut line = first;

@@ -8,7 +8,7 @@ ghost use lib.ListN.{length};
 ghost use lib.Seq.{sets};
 ghost use Rattle.nodes.specs.Nodes.{Ty};
 ghost use Rattle.spelling.specs.declared.Triple.{Triple};
-ghost use Rattle.sheet.specs.Plan.{triples};
+ghost use Rattle.sheet.specs.Rows.{rows};
 ghost use Rattle.judgment.specs.Rules.{insert as inserted};
 ghost use Rattle.tables.specs.Rows.{nameAt, refAt, row, Same, Moved, Frames, bindingsAt, Inserts, Taken};
 use references::TypeRef;
@@ -106,9 +106,9 @@ pub struct Upcoming {
 }
 
 // Takes the first pending type off the stack of frames. `scratch` is for the nodes of a type.
-pub fn next(s: &[u8], w: &mut [usize], depth: usize, scratch: &mut [u32]) -> Upcoming
-    requires { ⌜ Frames (triples (now s)) (now w) depth × (0 < depth) × (6 * depth ≤ length (now w)) × (8192 ≤ length (now scratch)) ⌝ }
-    ensures { λ n. ⌜ Taken (triples (now (s .entry))) (now (w .entry)) depth (now (w .exit)) n ⌝ }
+pub fn next(s: &[u64], w: &mut [usize], depth: usize, scratch: &mut [u32]) -> Upcoming
+    requires { ⌜ Frames (rows (now s)) (now w) depth × (0 < depth) × (6 * depth ≤ length (now w)) × (8192 ≤ length (now scratch)) ⌝ }
+    ensures { λ n. ⌜ Taken (rows (now (s .entry))) (now (w .entry)) depth (now (w .exit)) n ⌝ }
 {
     let i = depth - 1;
     let top = get(w, i);

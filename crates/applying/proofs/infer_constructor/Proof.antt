@@ -2,7 +2,7 @@ use mathlib.Core.Path.{ap}
 use mathlib.Core.Option.{none}
 use denote.Ref.{now}
 use Rattle.nodes.specs.Nodes.{nodesAt}
-use Rattle.sheet.specs.Plan.{triples}
+use Rattle.sheet.specs.Rows.{rows}
 use Rattle.judgment.specs.Rules.{variable}
 use Rattle.operations.proofs.Then.{does-as}
 use Rattle.applying.specs.Applying.{envOn}
@@ -27,7 +27,7 @@ returns-2 c =
     λ w k rep f.
     let a = c .before .before .before .before .before .before .before .before .args in
     let e = entry-is 1 (a .name) (now (a .s)) (c .before .before .before .find-entry .ensures) (c .before .enum-told .given .1) in
-    does-as (λ _. ap (variable (envOn (now (a .s))) (a .name) (nodesAt (now (a .t)) 0 (a .tn)) none none) e) (c .refuse .ensures .1 w (triples (now (a .s))) _ k rep f)
+    does-as (λ _. ap (variable (envOn (now (a .s))) (a .name) (nodesAt (now (a .t)) 0 (a .tn)) none none) e) (c .refuse .ensures .1 w (rows (now (a .s))) _ k rep f)
 
 pub infer-constructor-spec : {M : Type 1} → statement M
 infer-constructor-spec =

@@ -5,7 +5,7 @@ use denote.Ref.{now}
 use lib.ListN.{length}
 use Rattle.nodes.specs.Nodes.{Ty, nodesAt}
 use Rattle.nodes.proofs.Laws.{length-nodesAt}
-use Rattle.sheet.specs.Plan.{triples}
+use Rattle.sheet.specs.Rows.{rows}
 use Rattle.judgment.specs.Board.{sub, push, done}
 use Rattle.judgment.specs.Rules.{variable}
 use Rattle.operations.proofs.Then.{does-as}
@@ -49,16 +49,16 @@ returns c =
     let n = v .1 in
     let x : Ty = nodesAt (now (a .board)) (c .before .before .before .before .before .before .before .before .before .before .before .place .given .0 .0 .start) (c .before .before .before .before .before .before .before .before .before .before .before .place .given .0 .0 .count) in
     let e = copied (now (a .out)) x (c .before .before .before .before .before .before .before .before .before .before .before .place .given .0 .0 .count) (length-nodesAt (now (a .board)) (c .before .before .before .before .before .before .before .before .before .before .before .place .given .0 .0 .start) (c .before .before .before .before .before .before .before .before .before .before .before .place .given .0 .0 .count)) (omega arith) (c .before .before .before .before .before .before .before .copy-nodes .ensures) in
-    let q = var-is (a .name) (now (a .board)) (p .board) (c .before .before .before .before .before .before .before .before .before .before .before .before .before .find-var .ensures) (triples (now (a .s))) (c .before .before .before .before .before .before .before .before .before .before .before .place .given .1) in
+    let q = var-is (a .name) (now (a .board)) (p .board) (c .before .before .before .before .before .before .before .before .before .before .before .before .before .find-var .ensures) (rows (now (a .s))) (c .before .before .before .before .before .before .before .before .before .before .before .place .given .1) in
     let T : Ty = nodesAt (now (a .t)) 0 (a .tn) in
     does-as (λ _. ap (λ (u : Ty). push (sub u T) done) e ∙ ap (λ (o : Option Ty). variable (envOn (now (a .s))) (a .name) T none o (entryIn 1 (a .name) (now (a .s)))) q)
-    (c .before .before .push-sub .ensures .2 w (triples (now (a .s))) k rep f)
+    (c .before .before .push-sub .ensures .2 w (rows (now (a .s))) k rep f)
 
 returns-2 : tie.Need-returns-2
 returns-2 c =
     λ w k rep f.
     let a = c .before .before .before .before .before .before .before .before .before .before .before .before .before .before .before .before .args in
-    let q = var-is (a .name) (now (a .board)) (c .before .before .before .before .before .before .before .before .before .before .before .before .before .before .before .before .pre .board) (c .before .before .before .before .before .before .before .before .before .find-var .ensures) (triples (now (a .s))) (c .before .before .before .before .before .before .before .enum-told .given .1) in
+    let q = var-is (a .name) (now (a .board)) (c .before .before .before .before .before .before .before .before .before .before .before .before .before .before .before .before .pre .board) (c .before .before .before .before .before .before .before .before .before .find-var .ensures) (rows (now (a .s))) (c .before .before .before .before .before .before .before .enum-told .given .1) in
     let T : Ty = nodesAt (now (a .t)) 0 (a .tn) in
     does-as (λ _. ap (λ (o : Option Ty). variable (envOn (now (a .s))) (a .name) T none o (entryIn 1 (a .name) (now (a .s)))) q)
     (c .before .before .before .before .infer-constructor .ensures w k rep f)

@@ -2,7 +2,7 @@ use mathlib.Core.Path.{ap}
 use mathlib.Core.Option.{Option}
 use denote.Ref.{now}
 use Rattle.nodes.specs.Nodes.{Ty, nodesAt}
-use Rattle.sheet.specs.Plan.{triples}
+use Rattle.sheet.specs.Rows.{rows}
 use Rattle.judgment.specs.Board.{findVar}
 use Rattle.judgment.specs.Rules.{variable}
 use Rattle.board.specs.Board.{entriesOf}
@@ -24,7 +24,7 @@ returns c =
     λ w k rep f.
     let a = c .before .before .before .before .before .before .before .before .before .before .before .before .before .before .before .args in
     let T : Ty = nodesAt (now (a .t)) 0 (a .tn) in
-    let B : Option Ty = findVar (a .name) (entriesOf (triples (now (a .s))) (now (a .board)) (a .c .board .entries)) in
+    let B : Option Ty = findVar (a .name) (entriesOf (rows (now (a .s))) (now (a .board)) (a .c .board .entries)) in
     let e = entry-is 2 (a .name) (now (a .s)) (c .before .before .before .before .before .before .before .before .before .before .find-entry .ensures) (c .before .before .before .before .before .before .before .before .line .given .1) in
     looked (now (a .s)) (a .name) T (does-as (λ _. ap (λ (o : Option Ty). variable (envOn (now (a .s))) (a .name) T o B (entryIn 1 (a .name) (now (a .s)))) e) (c .before .before .before .before .push-entry .ensures w k rep f))
 
@@ -33,7 +33,7 @@ returns-2 c =
     λ w k rep f.
     let a = c .before .before .before .before .before .before .before .before .before .before .before .before .before .before .args in
     let T : Ty = nodesAt (now (a .t)) 0 (a .tn) in
-    let B : Option Ty = findVar (a .name) (entriesOf (triples (now (a .s))) (now (a .board)) (a .c .board .entries)) in
+    let B : Option Ty = findVar (a .name) (entriesOf (rows (now (a .s))) (now (a .board)) (a .c .board .entries)) in
     let e = entry-is 2 (a .name) (now (a .s)) (c .before .before .before .before .before .before .before .before .before .find-entry .ensures) (c .before .before .before .before .before .before .before .enum-told .given .1) in
     looked (now (a .s)) (a .name) T (does-as (λ _. ap (λ (o : Option Ty). variable (envOn (now (a .s))) (a .name) T o B (entryIn 1 (a .name) (now (a .s)))) e) (c .before .before .before .before .infer-on-board .ensures w k rep f))
 

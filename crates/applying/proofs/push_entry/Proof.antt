@@ -2,7 +2,7 @@ use mathlib.Core.Path.{_≡_}
 use denote.Ref.{now}
 use lib.ListN.{length}
 use Rattle.nodes.specs.Nodes.{Ty}
-use Rattle.sheet.specs.Plan.{triples}
+use Rattle.sheet.specs.Rows.{rows}
 use Rattle.operations.proofs.Then.{does-as}
 use Rattle.inference.specs.Inference.{typeOn}
 use Rattle.inference.proofs.Written.{length-typeOn, copied}
@@ -18,7 +18,7 @@ returns c =
     let T : Ty = typeOn (now (a .s)) (a .first) (a .n) in
     let l : length T ≡ a .n = length-typeOn (now (a .s)) (a .first) (a .n) (p .3 .within) in
     let e = copied (now (a .out)) T (a .n) l (p .2) (c .before .before .before .before .before .before .before .copy-type .ensures) in
-    does-as (λ _. rw e) (c .before .before .push-sub .ensures .2 w (triples (now (a .s))) k rep f)
+    does-as (λ _. rw e) (c .before .before .push-sub .ensures .2 w (rows (now (a .s))) k rep f)
 
 pub push-entry-spec : {M : Type 1} → statement M
 push-entry-spec =

@@ -7,7 +7,8 @@ use lib.ListN.{length, take, drop}
 use Rattle.nodes.specs.Nodes.{nodesAt}
 use Rattle.nodes.specs.Lists.{All}
 use Rattle.spelling.specs.declared.Triple.{Triple}
-use Rattle.sheet.specs.Plan.{triples, Narrow}
+use Rattle.sheet.specs.Plan.{Narrow}
+use Rattle.sheet.specs.Rows.{rows}
 use Rattle.arms.proofs.Bodies.{body-within, pattern-lines, armed}
 use borrow.Author.Needs.{needs}
 use Rattle.arms.proofs.check_arm.Statement.{statement}
@@ -16,8 +17,8 @@ use Rattle.arms.proofs.check_arm.Tie as tie
 sub-lines : tie.Need-sub-lines
 sub-lines c =
     let a = c .before .before .before .before .before .before .before .before .args in
-    let p = c .before .before .before .before .before .before .before .before .pre in
-    let ls = triples (now (a .s)) in
+    let p = c .before .before .before .before .before .before .before .before .pre .0 in
+    let ls = rows (now (a .s)) in
     let body : ℕ = c .part-line .result in
     let B : (a .first ≤ body) × (body ≤ length ls) = body-within ls (a .first) (p .within) body (c .part-line .ensures) in
     let few : length ls ≤ 4096 = p .lent .sheet .few in
@@ -26,30 +27,32 @@ sub-lines c =
 check-pattern-requires : tie.Need-check-pattern-requires
 check-pattern-requires c κs =
     let a = c .before .before .before .before .before .before .before .before .before .before .before .before .before .args in
-    let p = c .before .before .before .before .before .before .before .before .before .before .before .before .before .pre in
-    let ls = triples (now (a .s)) in
+    let p = c .before .before .before .before .before .before .before .before .before .before .before .before .before .pre .0 in
+    let ls = rows (now (a .s)) in
     let body : ℕ = c .before .before .before .before .before .part-line .result in
     let B : (a .first ≤ body) × (body ≤ length ls) = body-within ls (a .first) (p .within) body (c .before .before .before .before .before .part-line .ensures) in
     let few : length ls ≤ 4096 = p .lent .sheet .few in
     let f = p .lent .frames in
-    let g = p .lent .rows in
-    record {
-      ready = p .ready;
-      sheet = p .lent .sheet;
-      stands = omega arith;
-      narrow = subst⁻¹ (All Narrow) (pattern-lines ls (a .first) (p .within) body (c .before .before .before .before .before .part-line .ensures)) (p .narrow);
-      low = p .lent .low;
-      frames = omega arith;
-      rows = omega arith;
-      left = p .lent .left;
-      right = p .lent .right;
-    }
+    let g = p .lent .rows in (
+      record {
+        ready = p .ready;
+        sheet = p .lent .sheet;
+        stands = omega arith;
+        narrow = subst⁻¹ (All Narrow) (pattern-lines ls (a .first) (p .within) body (c .before .before .before .before .before .part-line .ensures)) (p .narrow);
+        low = p .lent .low;
+        frames = omega arith;
+        rows = omega arith;
+        left = p .lent .left;
+        right = p .lent .right;
+      },
+      c .before .before .before .before .before .before .before .before .before .before .before .before .before .pre .1,
+    )
 
 push-vars-requires : tie.Need-push-vars-requires
 push-vars-requires c κs =
     let a = c .before .before .before .before .before .before .before .before .before .before .before .before .before .before .before .before .before .before .before .before .before .before .before .before .before .before .before .before .args in
-    let p = c .before .before .before .before .before .before .before .before .before .before .before .before .before .before .before .before .before .before .before .before .before .before .before .before .before .before .before .before .pre in
-    let ls = triples (now (a .s)) in
+    let p = c .before .before .before .before .before .before .before .before .before .before .before .before .before .before .before .before .before .before .before .before .before .before .before .before .before .before .before .before .pre .0 in
+    let ls = rows (now (a .s)) in
     let body : ℕ = c .before .before .before .before .before .before .before .before .before .before .before .before .before .before .before .before .before .before .before .before .part-line .result in
     let B : (a .first ≤ body) × (body ≤ length ls) = body-within ls (a .first) (p .within) body (c .before .before .before .before .before .before .before .before .before .before .before .before .before .before .before .before .before .before .before .before .part-line .ensures) in
     let few : length ls ≤ 4096 = p .lent .sheet .few in
@@ -64,15 +67,18 @@ push-vars-requires c κs =
 cast-push-chk : tie.Need-cast-push-chk
 cast-push-chk c =
     let a = c .before .before .before .before .before .before .before .before .before .before .before .before .before .before .before .before .before .before .before .before .before .before .before .before .before .before .before .before .before .before .before .before .before .before .args in
-    let p = c .before .before .before .before .before .before .before .before .before .before .before .before .before .before .before .before .before .before .before .before .before .before .before .before .before .before .before .before .before .before .before .before .before .before .pre in
-    let ls = triples (now (a .s)) in
+    let p = c .before .before .before .before .before .before .before .before .before .before .before .before .before .before .before .before .before .before .before .before .before .before .before .before .before .before .before .before .before .before .before .before .before .before .pre .0 in
+    let ls = rows (now (a .s)) in
     let body : ℕ = c .before .before .before .before .before .before .before .before .before .before .before .before .before .before .before .before .before .before .before .before .before .before .before .before .before .before .part-line .result in
     let B : (a .first ≤ body) × (body ≤ length ls) = body-within ls (a .first) (p .within) body (c .before .before .before .before .before .before .before .before .before .before .before .before .before .before .before .before .before .before .before .before .before .before .before .before .before .before .part-line .ensures) in
     let few : length ls ≤ 4096 = p .lent .sheet .few in
     omega arith
 
 push-chk-requires : tie.Need-push-chk-requires
-push-chk-requires c κs = (c .before .before .before .before .before .push-vars .ensures .ready .board, c .before .before .before .before .before .before .before .before .before .before .before .before .before .before .before .before .before .before .before .before .before .before .before .before .before .before .before .before .before .before .before .before .before .before .pre .lent .type)
+push-chk-requires c κs = (c .before .before .before .before .before .push-vars .ensures .ready .board, c .before .before .before .before .before .before .before .before .before .before .before .before .before .before .before .before .before .before .before .before .before .before .before .before .before .before .before .before .before .before .before .before .before .before .pre .0 .lent .type)
+
+part-line-requires-2 : tie.Need-part-line-requires-2
+part-line-requires-2 c κs = c .before .before .before .before .before .before .before .before .before .before .before .before .before .before .before .before .before .before .before .before .before .before .before .before .before .before .before .before .before .before .before .before .before .before .before .before .before .pre .1
 
 same-length : tie.Need-same-length
 same-length c = c .before .before .before .push-chk .kept .0 ∙ c .before .before .before .before .before .before .before .before .before .push-vars .kept .0 ∙ c .before .before .before .before .before .before .before .before .before .before .before .before .before .before .before .before .before .before .before .before .before .before .before .before .check-pattern .kept .0
@@ -92,8 +98,8 @@ same-length-5 c = c .before .before .before .before .before .before .before .bef
 returns : tie.Need-returns
 returns c =
     let a = c .before .before .before .before .before .before .before .before .before .before .before .before .before .before .before .before .before .before .before .before .before .before .before .before .before .before .before .before .before .before .before .before .before .before .before .before .before .before .args in
-    let p = c .before .before .before .before .before .before .before .before .before .before .before .before .before .before .before .before .before .before .before .before .before .before .before .before .before .before .before .before .before .before .before .before .before .before .before .before .before .before .pre in
-    let ls = triples (now (a .s)) in
+    let p = c .before .before .before .before .before .before .before .before .before .before .before .before .before .before .before .before .before .before .before .before .before .before .before .before .before .before .before .before .before .before .before .before .before .before .before .before .before .before .pre .0 in
+    let ls = rows (now (a .s)) in
     let body : ℕ = c .before .before .before .before .before .before .before .before .before .before .before .before .before .before .before .before .before .before .before .before .before .before .before .before .before .before .before .before .before .before .part-line .result in
     let B : (a .first ≤ body) × (body ≤ length ls) = body-within ls (a .first) (p .within) body (c .before .before .before .before .before .before .before .before .before .before .before .before .before .before .before .before .before .before .before .before .before .before .before .before .before .before .before .before .before .before .part-line .ensures) in
     let few : length ls ≤ 4096 = p .lent .sheet .few in
@@ -102,4 +108,4 @@ returns c =
 
 pub check-arm-spec : {M : Type 1} → statement M
 check-arm-spec =
-    tie.close (tie.spec (λ c κs. search needs) sub-lines check-pattern-requires push-vars-requires cast-push-chk push-chk-requires (λ c κs. search needs) same-length same-length-2 same-length-3 same-length-4 same-length-5 returns)
+    tie.close (tie.spec (λ c κs. search needs) sub-lines check-pattern-requires push-vars-requires cast-push-chk push-chk-requires part-line-requires-2 same-length same-length-2 same-length-3 same-length-4 same-length-5 returns)

@@ -6,14 +6,14 @@ use native.Mathlib.Omega.{arith}
 use denote.Ref.{now}
 use lib.ListN.{length, drop}
 use Rattle.nodes.specs.Nodes.{Ty, nodesAt}
-use Rattle.sheet.specs.Plan.{triples}
+use Rattle.sheet.specs.Rows.{rows}
 use Rattle.arms.specs.Arms.{NarrowArms}
 use Rattle.arms.proofs.Bodies.{Arms, arms-start, arms-turn, arms-does, narrow-arms}
 use Rattle.arms.proofs.check_arms.Statement.{statement}
 use Rattle.arms.proofs.check_arms.Tie as tie
 
 abbrev Inv-loop : tie.InvT-loop
-Inv-loop board₀ s line n u w₀ v₀ l₀ r₀ t ta tn run₀ at₀ left₀ board w v l r run at left = Arms (triples s) u (nodesAt t ta tn) board₀ run₀ n (drop line (triples s)) board run left at × (at ≤ length (triples s)) × NarrowArms left (drop at (triples s)) × (length board ≡ length board₀) × (length w ≡ length w₀) × (length v ≡ length v₀) × (length l ≡ length l₀) × (length r ≡ length r₀)
+Inv-loop board₀ s line n u w₀ v₀ l₀ r₀ t ta tn run₀ at₀ left₀ board w v l r run at left = Arms (rows s) u (nodesAt t ta tn) board₀ run₀ n (drop line (rows s)) board run left at × (at ≤ length (rows s)) × NarrowArms left (drop at (rows s)) × (length board ≡ length board₀) × (length w ≡ length w₀) × (length v ≡ length v₀) × (length l ≡ length l₀) × (length r ≡ length r₀)
 
 abbrev μ-loop : tie.MeasureT-loop
 μ-loop board₀ s line n u w₀ v₀ l₀ r₀ t ta tn run₀ at₀ left₀ board w v l r run at left = left
@@ -21,14 +21,14 @@ abbrev μ-loop : tie.MeasureT-loop
 loop-holds : tie.Need-loop-holds Inv-loop μ-loop
 loop-holds c =
     let a = c .before .before .before .before .before .before .before .args in
-    let p = c .before .before .before .before .before .before .before .pre in
-    (arms-start (triples (now (a .s))) (a .u) (nodesAt (now (a .t)) (a .ta) (a .tn)) (a .n) (a .line) (p .ready), p .within, p .narrow, refl, refl, refl, refl, refl)
+    let p = c .before .before .before .before .before .before .before .pre .0 in
+    (arms-start (rows (now (a .s))) (a .u) (nodesAt (now (a .t)) (a .ta) (a .tn)) (a .n) (a .line) (p .ready), p .within, p .narrow, refl, refl, refl, refl, refl)
 
 check-arm-requires : tie.Need-check-arm-requires Inv-loop μ-loop
 check-arm-requires c κs =
     let a = c .before .before .before .before .before .before .before .before .before .before .before .before .before .before .args in
-    let p = c .before .before .before .before .before .before .before .before .before .before .before .before .before .before .pre in
-    let ls = triples (now (a .s)) in
+    let p = c .before .before .before .before .before .before .before .before .before .before .before .before .before .before .pre .0 in
+    let ls = rows (now (a .s)) in
     let T : Ty = nodesAt (now (a .t)) (a .ta) (a .tn) in
     let L = c .before .before .before .before .before .before .loop in
     let h = L .inv in
@@ -36,19 +36,21 @@ check-arm-requires c κs =
     let f = q .frames in
     let g = q .rows in
     let x = q .left in
-    let y = q .right in
-    record {
-      ready = h .0 .ready;
-      lent = record { sheet = q .sheet; low = q .low; frames = omega arith; rows = omega arith; left = omega arith; right = omega arith; type = q .type };
-      within = h .1;
-      narrow = narrow-arms (L .left) (drop (L .at) ls) (c .before .before .before .before .before .loop-test .taken) (h .2) .0;
-    }
+    let y = q .right in (
+      record {
+        ready = h .0 .ready;
+        lent = record { sheet = q .sheet; low = q .low; frames = omega arith; rows = omega arith; left = omega arith; right = omega arith; type = q .type };
+        within = h .1;
+        narrow = narrow-arms (L .left) (drop (L .at) ls) (c .before .before .before .before .before .loop-test .taken) (h .2) .0;
+      },
+      c .before .before .before .before .before .before .before .before .before .before .before .before .before .before .pre .1,
+    )
 
 loop-again : tie.Need-loop-again Inv-loop μ-loop
 loop-again c =
     let a = c .before .before .before .before .before .before .before .before .before .before .before .before .before .before .before .before .before .before .before .before .before .before .before .before .before .before .args in
-    let p = c .before .before .before .before .before .before .before .before .before .before .before .before .before .before .before .before .before .before .before .before .before .before .before .before .before .before .pre in
-    let ls = triples (now (a .s)) in
+    let p = c .before .before .before .before .before .before .before .before .before .before .before .before .before .before .before .before .before .before .before .before .before .before .before .before .before .before .pre .0 in
+    let ls = rows (now (a .s)) in
     let T : Ty = nodesAt (now (a .t)) (a .ta) (a .tn) in
     let L = c .before .before .before .before .before .before .before .before .before .before .before .before .before .before .before .before .before .before .loop in
     let h = L .inv in
@@ -74,8 +76,8 @@ same-length-5 c = c .before .loop .inv .7
 returns : tie.Need-returns Inv-loop μ-loop
 returns c =
     let a = c .before .before .before .before .before .before .before .before .before .args in
-    let p = c .before .before .before .before .before .before .before .before .before .pre in
-    let ls = triples (now (a .s)) in
+    let p = c .before .before .before .before .before .before .before .before .before .pre .0 in
+    let ls = rows (now (a .s)) in
     let T : Ty = nodesAt (now (a .t)) (a .ta) (a .tn) in
     let L = c .before .loop in
     let h = L .inv in

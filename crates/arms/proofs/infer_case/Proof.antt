@@ -1,7 +1,7 @@
 use native.Mathlib.Omega.{arith}
 use denote.Ref.{now}
 use Rattle.nodes.specs.Nodes.{nodesAt}
-use Rattle.sheet.specs.Plan.{triples}
+use Rattle.sheet.specs.Rows.{rows}
 use Rattle.operations.proofs.Then.{fresh-then, push-then}
 use Rattle.arms.proofs.Cases.{fresh-ready, tvar-ready, chk-ready}
 use borrow.Author.Needs.{needs}
@@ -10,28 +10,30 @@ use Rattle.arms.proofs.infer_case.Tie as tie
 
 push-tvar-requires : tie.Need-push-tvar-requires
 push-tvar-requires c κs =
-    (fresh-ready (c .before .before .before .before .before .before .before .before .before .args .c) (c .before .before .before .before .before .before .before .before .before .pre .ready) (c .before .fresh-evar .ensures .0) .board, omega arith)
+    (fresh-ready (c .before .before .before .before .before .before .before .before .before .args .c) (c .before .before .before .before .before .before .before .before .before .pre .0 .ready) (c .before .fresh-evar .ensures .0) .board, omega arith)
 
 push-chk-requires : tie.Need-push-chk-requires
 push-chk-requires c κs =
-    (tvar-ready (fresh-ready (c .before .before .before .before .before .before .before .before .before .before .before .before .before .before .args .c) (c .before .before .before .before .before .before .before .before .before .before .before .before .before .before .pre .ready) (c .before .before .before .before .before .before .fresh-evar .ensures .0)) (c .before .before .before .before .push-tvar .ensures) .board, search needs)
+    (tvar-ready (fresh-ready (c .before .before .before .before .before .before .before .before .before .before .before .before .before .before .args .c) (c .before .before .before .before .before .before .before .before .before .before .before .before .before .before .pre .0 .ready) (c .before .before .before .before .before .before .fresh-evar .ensures .0)) (c .before .before .before .before .push-tvar .ensures) .board, search needs)
 
 check-arms-requires : tie.Need-check-arms-requires
 check-arms-requires c κs =
-    let p = c .before .before .before .before .before .before .before .before .before .before .before .before .before .before .before .before .before .before .before .before .before .before .pre in
-    let R1 = fresh-ready (c .before .before .before .before .before .before .before .before .before .before .before .before .before .before .before .before .before .before .before .before .before .before .args .c) (p .ready) (c .before .before .before .before .before .before .before .before .before .before .before .before .before .before .fresh-evar .ensures .0) in
-    record {
-      ready = chk-ready (c .before .before .before .before .before .before .before .before .before .before .before .before .before .before .before .before .before .before .before .before .before .before .args .e) _ (tvar-ready R1 (c .before .before .before .before .before .before .before .before .before .before .before .before .push-tvar .ensures)) (c .before .before .before .before .before .before .before .push-chk .ensures);
-      lent = record { sheet = p .sheet; low = p .ready .numbers; frames = p .frames; rows = p .rows; left = p .left; right = p .right; type = let h = p .type in omega arith };
-      within = p .within;
-      narrow = p .narrow;
-    }
+    let p = c .before .before .before .before .before .before .before .before .before .before .before .before .before .before .before .before .before .before .before .before .before .before .pre .0 in
+    let R1 = fresh-ready (c .before .before .before .before .before .before .before .before .before .before .before .before .before .before .before .before .before .before .before .before .before .before .args .c) (p .ready) (c .before .before .before .before .before .before .before .before .before .before .before .before .before .before .fresh-evar .ensures .0) in (
+      record {
+        ready = chk-ready (c .before .before .before .before .before .before .before .before .before .before .before .before .before .before .before .before .before .before .before .before .before .before .args .e) _ (tvar-ready R1 (c .before .before .before .before .before .before .before .before .before .before .before .before .push-tvar .ensures)) (c .before .before .before .before .before .before .before .push-chk .ensures);
+        lent = record { sheet = p .sheet; low = p .ready .numbers; frames = p .frames; rows = p .rows; left = p .left; right = p .right; type = let h = p .type in omega arith };
+        within = p .within;
+        narrow = p .narrow;
+      },
+      c .before .before .before .before .before .before .before .before .before .before .before .before .before .before .before .before .before .before .before .before .before .before .pre .1,
+    )
 
 returns : tie.Need-returns
 unfolding nodesAt
 returns c =
     λ m k rep f.
-    let ls = triples (now (c .before .before .before .before .before .before .before .before .before .before .before .before .before .before .before .before .before .before .before .before .before .before .before .before .before .before .before .before .before .before .before .before .before .args .s)) in
+    let ls = rows (now (c .before .before .before .before .before .before .before .before .before .before .before .before .before .before .before .before .before .before .before .before .before .before .before .before .before .before .before .before .before .before .before .before .before .args .s)) in
     let D1 = c .before .before .before .before .before .before .before .before .before .before .before .before .before .before .before .before .before .before .before .before .before .before .before .before .before .fresh-evar .ensures .1 m ls _ k rep f in
     let D2 = c .before .before .before .before .before .before .before .before .before .before .before .before .before .before .before .before .before .before .before .before .before .before .before .push-tvar .ensures .2 m ls k rep (D1 .kept) in
     let D3 = c .before .before .before .before .before .before .before .before .before .before .before .before .before .before .before .before .before .before .push-chk .ensures .2 m ls k rep (D2 .kept) in

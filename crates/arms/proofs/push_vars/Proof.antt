@@ -4,7 +4,7 @@ use Prim.Native.Nat.{ℕ, _+_, _*_, _-_, _≤_, _<_}
 use native.Mathlib.Omega.{arith}
 use denote.Ref.{now}
 use lib.ListN.{length, getD}
-use Rattle.sheet.specs.Plan.{triples}
+use Rattle.sheet.specs.Rows.{rows}
 use Rattle.judgment.specs.Rules.{pushVars}
 use Rattle.tables.specs.Rows.{refAt, bindingsAt}
 use Rattle.references.specs.declared.TypeRef.{TypeRef}
@@ -16,19 +16,19 @@ use Rattle.arms.proofs.push_vars.Statement.{statement}
 use Rattle.arms.proofs.push_vars.Tie as tie
 
 abbrev Inv-loop : tie.InvT-loop
-Inv-loop board₀ s v n l₀ run₀ i₀ board l run i = Turn {A = ℕ} (triples s) board₀ run₀ (λ f. pushVars (bindingsAt (triples s) v 0 n) (f 0)) board run (Left (triples s) v n i) × (length board ≡ length board₀) × (length l ≡ length l₀)
+Inv-loop board₀ s v n l₀ run₀ i₀ board l run i = Turn {A = ℕ} (rows s) board₀ run₀ (λ f. pushVars (bindingsAt (rows s) v 0 n) (f 0)) board run (Left (rows s) v n i) × (length board ≡ length board₀) × (length l ≡ length l₀)
 
 abbrev μ-loop : tie.MeasureT-loop
 μ-loop board₀ s v n l₀ run₀ i₀ board l run i = n - i
 
 loop-holds : tie.Need-loop-holds Inv-loop μ-loop
-loop-holds c = (vars-start (triples (now (c .before .before .before .before .args .s))) (now (c .before .before .before .before .args .v)) (c .before .before .before .before .args .n) (c .before .before .before .before .pre .ready), refl, refl)
+loop-holds c = (vars-start (rows (now (c .before .before .before .before .args .s))) (now (c .before .before .before .before .args .v)) (c .before .before .before .before .args .n) (c .before .before .before .before .pre .ready), refl, refl)
 
 get-requires : tie.Need-get-requires Inv-loop μ-loop
 get-requires c κs =
     let a = c .before .before .before .before .before .before .args in
     let p = c .before .before .before .before .before .before .pre in
-    let ls = triples (now (a .s)) in
+    let ls = rows (now (a .s)) in
     let L = c .before .loop in
     let t : L .i < a .n = c .loop-test .taken in
     let rows : 6 * a .n ≤ length (now (a .v)) = p .rows in
@@ -47,7 +47,7 @@ cast-name : tie.Need-cast-name Inv-loop μ-loop
 cast-name c =
     let a = c .before .before .before .before .before .before .before .before .args in
     let p = c .before .before .before .before .before .before .before .before .pre in
-    let ls = triples (now (a .s)) in
+    let ls = rows (now (a .s)) in
     let L = c .before .before .before .loop in
     let t : L .i < a .n = c .before .before .loop-test .taken in
     let rows : 6 * a .n ≤ length (now (a .v)) = p .rows in
@@ -58,7 +58,7 @@ mul-at : tie.Need-mul-at Inv-loop μ-loop
 mul-at c =
     let a = c .before .before .before .before .before .before .before .before .before .args in
     let p = c .before .before .before .before .before .before .before .before .before .pre in
-    let ls = triples (now (a .s)) in
+    let ls = rows (now (a .s)) in
     let L = c .before .before .before .before .loop in
     let t : L .i < a .n = c .before .before .before .loop-test .taken in
     let rows : 6 * a .n ≤ length (now (a .v)) = p .rows in
@@ -70,7 +70,7 @@ instance-requires : tie.Need-instance-requires Inv-loop μ-loop
 instance-requires c κs =
     let a = c .before .before .before .before .before .before .before .before .before .before .args in
     let p = c .before .before .before .before .before .before .before .before .before .before .pre in
-    let ls = triples (now (a .s)) in
+    let ls = rows (now (a .s)) in
     let L = c .before .before .before .before .before .loop in
     let t : L .i < a .n = c .before .before .before .before .loop-test .taken in
     let rows : 6 * a .n ≤ length (now (a .v)) = p .rows in
@@ -78,13 +78,14 @@ instance-requires c κs =
     let f : c .before .before .before .get .result .at + c .before .before .before .get .result .count ≤ 4096 = good-fits g in
     let x = p .left in
     let y = L .inv .2 in
-    (g, omega arith)
+    let m = g .few in
+    (g, omega arith, omega arith)
 
 push-var-requires : tie.Need-push-var-requires Inv-loop μ-loop
 push-var-requires c κs =
     let a = c .before .before .before .before .before .before .before .before .before .before .before .before .before .before .before .args in
     let p = c .before .before .before .before .before .before .before .before .before .before .before .before .before .before .before .pre in
-    let ls = triples (now (a .s)) in
+    let ls = rows (now (a .s)) in
     let L = c .before .before .before .before .before .before .before .before .before .before .loop in
     let t : L .i < a .n = c .before .before .before .before .before .before .before .before .before .loop-test .taken in
     let rows : 6 * a .n ≤ length (now (a .v)) = p .rows in
@@ -99,7 +100,7 @@ add-i : tie.Need-add-i Inv-loop μ-loop
 add-i c =
     let a = c .before .before .before .before .before .before .before .before .before .before .before .before .before .before .before .before .before .before .args in
     let p = c .before .before .before .before .before .before .before .before .before .before .before .before .before .before .before .before .before .before .pre in
-    let ls = triples (now (a .s)) in
+    let ls = rows (now (a .s)) in
     let L = c .before .before .before .before .before .before .before .before .before .before .before .before .before .loop in
     let t : L .i < a .n = c .before .before .before .before .before .before .before .before .before .before .before .before .loop-test .taken in
     let rows : 6 * a .n ≤ length (now (a .v)) = p .rows in
@@ -110,7 +111,7 @@ loop-less : tie.Need-loop-less Inv-loop μ-loop
 loop-less c =
     let a = c .before .before .before .before .before .before .before .before .before .before .before .before .before .before .before .before .before .before .args in
     let p = c .before .before .before .before .before .before .before .before .before .before .before .before .before .before .before .before .before .before .pre in
-    let ls = triples (now (a .s)) in
+    let ls = rows (now (a .s)) in
     let L = c .before .before .before .before .before .before .before .before .before .before .before .before .before .loop in
     let t : L .i < a .n = c .before .before .before .before .before .before .before .before .before .before .before .before .loop-test .taken in
     let rows : 6 * a .n ≤ length (now (a .v)) = p .rows in
@@ -120,7 +121,7 @@ loop-again : tie.Need-loop-again Inv-loop μ-loop
 loop-again c =
     let a = c .before .before .before .before .before .before .before .before .before .before .before .before .before .before .before .before .before .before .args in
     let p = c .before .before .before .before .before .before .before .before .before .before .before .before .before .before .before .before .before .before .pre in
-    let ls = triples (now (a .s)) in
+    let ls = rows (now (a .s)) in
     let L = c .before .before .before .before .before .before .before .before .before .before .before .before .before .loop in
     let t : L .i < a .n = c .before .before .before .before .before .before .before .before .before .before .before .before .loop-test .taken in
     let rows : 6 * a .n ≤ length (now (a .v)) = p .rows in
@@ -133,7 +134,7 @@ same-length-2 : tie.Need-same-length-2 Inv-loop μ-loop
 same-length-2 c = c .before .loop .inv .2
 
 returns : tie.Need-returns Inv-loop μ-loop
-returns c = vars-end (triples (now (c .before .before .before .before .before .before .args .s))) (now (c .before .before .before .before .before .before .args .v)) (c .before .before .before .before .before .before .args .n) (c .before .loop .i) (c .before .loop .inv .0) (let z = c .loop-test .left in omega arith)
+returns c = vars-end (rows (now (c .before .before .before .before .before .before .args .s))) (now (c .before .before .before .before .before .before .args .v)) (c .before .before .before .before .before .before .args .n) (c .before .loop .i) (c .before .loop .inv .0) (let z = c .loop-test .left in omega arith)
 
 pub push-vars-spec : {M : Type 1} → statement M
 push-vars-spec =

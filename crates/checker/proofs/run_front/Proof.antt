@@ -35,7 +35,7 @@ slice-aggregate-run-plan-3 c =
 run-plan-requires : tie.Need-run-plan-requires
 run-plan-requires c κs =
     let p = c .before .before .before .before .before .before .before .pre in
-    (p .plan, length-take-le 16384 (now (c .before .before .before .before .before .before .before .args .board)) (p .board), length-take-le 10192 (now (c .before .before .before .before .before .before .before .args .book)) (p .book), length-take-le 4096 (now (c .before .before .before .before .before .before .before .args .report)) (p .report))
+    record { plan = p .plan; board = length-take-le 16384 (now (c .before .before .before .before .before .before .before .args .board)) (p .board); book = length-take-le 10192 (now (c .before .before .before .before .before .before .before .args .book)) (p .book); report = length-take-le 4096 (now (c .before .before .before .before .before .before .before .args .report)) (p .report) }
 
 same-length : tie.Need-same-length
 same-length c =

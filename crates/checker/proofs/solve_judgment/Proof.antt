@@ -5,7 +5,7 @@ use native.Mathlib.Omega.{arith}
 use denote.Ref.{now}
 use lib.ListN.{length}
 use Rattle.nodes.specs.Nodes.{Ty, nodesAt}
-use Rattle.sheet.specs.Plan.{triples}
+use Rattle.sheet.specs.Rows.{rows}
 use Rattle.judgment.specs.Types.{view}
 use Rattle.judgment.specs.Terms.{termView}
 use Rattle.judgment.specs.Rules.{rule, inferBy, checkBy}
@@ -20,13 +20,12 @@ use Rattle.checker.proofs.solve_judgment.Statement.{statement}
 use Rattle.checker.proofs.solve_judgment.Tie as tie
 
 solve-subtype-requires : tie.Need-solve-subtype-requires
-solve-subtype-requires c κs =
-    subtype-asks (c .before .before .before .before .before .before .before .before .before .before .pre) (c .before .before .before .if1 .taken)
+solve-subtype-requires c κs = subtype-asks (c .before .before .before .before .before .before .before .before .before .before .before .before .before .pre) (c .before .before .before .if1 .taken)
 
 returns : tie.Need-returns
 returns c =
-    let a = c .before .before .before .before .before .before .before .before .before .before .before .before .before .before .before .before .before .args in
-    let ls = triples (now (a .s)) in
+    let a = c .before .before .before .before .before .before .before .before .before .before .before .before .before .before .before .before .before .before .before .before .args in
+    let ls = rows (now (a .s)) in
     let E = envOn (now (a .s)) in
     let B = now (a .board) in
     let T : Ty = nodesAt B (a .o .at) (a .o .left) in
@@ -34,55 +33,50 @@ returns c =
     does-as (λ _. ap (rule E) (sym (is-sub ls (a .o .number) T U (a .o .kind) (c .before .before .before .before .before .before .before .before .before .before .if1 .taken)))) (c .before .before .before .before .before .before .solve-subtype .ensures ls)
 
 copy-nodes-requires : tie.Need-copy-nodes-requires
-copy-nodes-requires c κs =
-    copy-asks (c .before .before .before .before .before .before .before .before .before .before .pre)
+copy-nodes-requires c κs = copy-asks (c .before .before .before .before .before .before .before .before .before .before .before .before .before .pre)
 
 solve-inference-requires : tie.Need-solve-inference-requires
-solve-inference-requires c κs =
-    infer-asks (c .before .before .before .before .before .before .before .before .before .before .before .before .before .before .before .before .pre) (c .before .before .before .before .before .before .before .before .if2 .taken) _ (c .before .before .before .before .before .copy-nodes .kept .0)
+solve-inference-requires c κs = (infer-asks (c .before .before .before .before .before .before .before .before .before .before .before .before .before .before .before .before .before .before .before .before .before .before .pre) (c .before .before .before .before .before .before .before .before .before .before .before .if2 .taken) _ (c .before .before .before .before .before .before .before .before .copy-nodes .kept .0), c .before .before .before .before .before .before .before .before .before .before .before .before .before .before .before .before .before .before .before .before .before .before .pre .lent .room)
 
 returns-2 : tie.Need-returns-2
 returns-2 c =
-    let a = c .before .before .before .before .before .before .before .before .before .before .before .before .before .before .before .before .before .before .before .before .before .args in
-    let ls = triples (now (a .s)) in
+    let a = c .before .before .before .before .before .before .before .before .before .before .before .before .before .before .before .before .before .before .before .before .before .before .before .before .before .before .before .before .before .before .before .before .before .args in
+    let ls = rows (now (a .s)) in
     let E = envOn (now (a .s)) in
     let B = now (a .board) in
     let T : Ty = nodesAt B (a .o .at) (a .o .left) in
     let U : Ty = nodesAt B (a .o .at + 2 * a .o .left) (a .o .right) in
     let k = now (a .book) in
     let rep = now (a .report) in
-    let e = copied (now (a .t)) T (a .o .left) (length-nodesAt B (a .o .at) (a .o .left)) (let x = copy-asks (c .before .before .before .before .before .before .before .before .before .before .before .before .before .before .before .before .before .before .before .before .before .pre) .0 in omega arith) (c .before .before .before .before .before .before .before .before .before .before .copy-nodes .ensures) in
-    does-as (λ _. ap (λ (X : Ty). inferBy E X (termView (termAt ls (a .o .number)))) e ∙ ap (rule E) (sym (is-inf ls (a .o .number) T U (a .o .kind) (c .before .before .before .before .before .before .before .before .before .before .before .before .before .if2 .taken)))) (c .before .before .before .before .solve-inference .ensures 1024 k rep (c .before .before .before .before .before .before .before .before .before .before .before .before .before .before .before .before .before .before .before .before .before .pre .formed))
+    let e = copied (now (a .t)) T (a .o .left) (length-nodesAt B (a .o .at) (a .o .left)) (let x = copy-asks (c .before .before .before .before .before .before .before .before .before .before .before .before .before .before .before .before .before .before .before .before .before .before .before .before .before .before .before .before .before .before .before .before .before .pre) .0 in omega arith) (c .before .before .before .before .before .before .before .before .before .before .before .before .before .before .before .before .before .before .before .copy-nodes .ensures) in
+    does-as (λ _. ap (λ (X : Ty). inferBy E X (termView (termAt ls (a .o .number)))) e ∙ ap (rule E) (sym (is-inf ls (a .o .number) T U (a .o .kind) (c .before .before .before .before .before .before .before .before .before .before .before .before .before .before .before .before .before .before .before .before .before .before .if2 .taken)))) (c .before .before .before .before .before .before .before .before .before .before .solve-inference .ensures 1024 k rep (c .before .before .before .before .before .before .before .before .before .before .before .before .before .before .before .before .before .before .before .before .before .before .before .before .before .before .before .before .before .before .before .before .before .pre .formed))
 
 copy-nodes-requires-2 : tie.Need-copy-nodes-requires-2
-copy-nodes-requires-2 c κs =
-    copy-asks (c .before .before .before .before .before .before .before .before .before .before .before .pre)
+copy-nodes-requires-2 c κs = copy-asks (c .before .before .before .before .before .before .before .before .before .before .before .before .before .before .pre)
 
 solve-checking-requires : tie.Need-solve-checking-requires
-solve-checking-requires c κs =
-    check-asks (c .before .before .before .before .before .before .before .before .before .before .before .before .before .before .before .before .before .pre) (c .before .before .before .before .before .before .before .before .if3 .taken) _ (c .before .before .before .before .before .copy-nodes2 .kept .0)
+solve-checking-requires c κs = check-asks (c .before .before .before .before .before .before .before .before .before .before .before .before .before .before .before .before .before .before .before .before .pre) (c .before .before .before .before .before .before .before .before .if3 .taken) _ (c .before .before .before .before .before .copy-nodes2 .kept .0)
 
 returns-3 : tie.Need-returns-3
 returns-3 c =
-    let a = c .before .before .before .before .before .before .before .before .before .before .before .before .before .before .before .before .before .before .before .before .before .before .before .before .args in
-    let ls = triples (now (a .s)) in
+    let a = c .before .before .before .before .before .before .before .before .before .before .before .before .before .before .before .before .before .before .before .before .before .before .before .before .before .before .before .args in
+    let ls = rows (now (a .s)) in
     let E = envOn (now (a .s)) in
     let B = now (a .board) in
     let T : Ty = nodesAt B (a .o .at) (a .o .left) in
     let U : Ty = nodesAt B (a .o .at + 2 * a .o .left) (a .o .right) in
     let k = now (a .book) in
     let rep = now (a .report) in
-    let e = copied (now (a .t)) T (a .o .left) (length-nodesAt B (a .o .at) (a .o .left)) (let x = copy-asks (c .before .before .before .before .before .before .before .before .before .before .before .before .before .before .before .before .before .before .before .before .before .before .before .before .pre) .0 in omega arith) (c .before .before .before .before .before .before .before .before .before .before .before .before .copy-nodes2 .ensures) in
-    does-as (λ _. ap (λ (X : Ty). checkBy E (termAt ls (a .o .number)) X (view X)) e ∙ ap (rule E) (sym (is-chk ls (a .o .number) T U (a .o .kind) (c .before .before .before .before .before .before .before .before .before .before .before .before .before .before .before .if3 .taken)))) (c .before .before .before .before .before .before .solve-checking .ensures 1024 E k rep (c .before .before .before .before .before .before .before .before .before .before .before .before .before .before .before .before .before .before .before .before .before .before .before .before .pre .formed))
+    let e = copied (now (a .t)) T (a .o .left) (length-nodesAt B (a .o .at) (a .o .left)) (let x = copy-asks (c .before .before .before .before .before .before .before .before .before .before .before .before .before .before .before .before .before .before .before .before .before .before .before .before .before .before .before .pre) .0 in omega arith) (c .before .before .before .before .before .before .before .before .before .before .before .before .copy-nodes2 .ensures) in
+    does-as (λ _. ap (λ (X : Ty). checkBy E (termAt ls (a .o .number)) X (view X)) e ∙ ap (rule E) (sym (is-chk ls (a .o .number) T U (a .o .kind) (c .before .before .before .before .before .before .before .before .before .before .before .before .before .before .before .if3 .taken)))) (c .before .before .before .before .before .before .solve-checking .ensures 1024 E k rep (c .before .before .before .before .before .before .before .before .before .before .before .before .before .before .before .before .before .before .before .before .before .before .before .before .before .before .before .pre .formed))
 
 solve-inf-app-requires : tie.Need-solve-inf-app-requires
-solve-inf-app-requires c κs =
-    app-asks (c .before .before .before .before .before .before .before .before .before .before .before .before .before .pre) (c .before .before .before .if4 .taken)
+solve-inf-app-requires c κs = app-asks (c .before .before .before .before .before .before .before .before .before .before .before .before .before .before .before .before .pre) (c .before .before .before .if4 .taken)
 
 returns-4 : tie.Need-returns-4
 returns-4 c =
-    let a = c .before .before .before .before .before .before .before .before .before .before .before .before .before .before .before .before .before .before .before .before .args in
-    let ls = triples (now (a .s)) in
+    let a = c .before .before .before .before .before .before .before .before .before .before .before .before .before .before .before .before .before .before .before .before .before .before .before .args in
+    let ls = rows (now (a .s)) in
     let E = envOn (now (a .s)) in
     let B = now (a .board) in
     let T : Ty = nodesAt B (a .o .at) (a .o .left) in
@@ -91,14 +85,14 @@ returns-4 c =
 
 returns-5 : tie.Need-returns-5
 returns-5 c =
-    let a = c .before .before .before .before .before .before .before .before .before .before .args in
-    let ls = triples (now (a .s)) in
+    let a = c .before .before .before .before .before .before .before .before .before .before .before .before .before .args in
+    let ls = rows (now (a .s)) in
     let E = envOn (now (a .s)) in
     let B = now (a .board) in
     let T : Ty = nodesAt B (a .o .at) (a .o .left) in
     let U : Ty = nodesAt B (a .o .at + 2 * a .o .left) (a .o .right) in
-    does-as (λ _. is-other ls (a .o .number) T U E (a .o .kind) (c .before .before .before .if1 .left) (c .before .before .if2 .left) (c .before .if3 .left) (c .if4 .left)) (done-does (c .before .before .before .before .before .before .before .before .before .before .pre .formed))
+    does-as (λ _. is-other ls (a .o .number) T U E (a .o .kind) (c .before .before .before .if1 .left) (c .before .before .if2 .left) (c .before .if3 .left) (c .if4 .left)) (done-does (c .before .before .before .before .before .before .before .before .before .before .before .before .before .pre .formed))
 
 pub solve-judgment-spec : {M : Type 1} → statement M
 solve-judgment-spec =
-    tie.close (tie.spec solve-subtype-requires (λ c. search needs) (λ c. search needs) (λ c. search needs) returns copy-nodes-requires solve-inference-requires (λ c. search needs) (λ c. search needs) (λ c. search needs) returns-2 copy-nodes-requires-2 solve-checking-requires (λ c. search needs) (λ c. search needs) (λ c. search needs) returns-3 solve-inf-app-requires (λ c. search needs) (λ c. search needs) (λ c. search needs) returns-4 returns-5)
+    tie.close (tie.spec solve-subtype-requires (λ c. search needs) (λ c. search needs) (λ c. search needs) returns copy-nodes-requires solve-inference-requires (λ c. search needs) (λ c. search needs) (λ c. search needs) (λ c. search needs) (λ c. search needs) (λ c. search needs) returns-2 copy-nodes-requires-2 solve-checking-requires (λ c. search needs) (λ c. search needs) (λ c. search needs) returns-3 solve-inf-app-requires (λ c. search needs) (λ c. search needs) (λ c. search needs) returns-4 returns-5)

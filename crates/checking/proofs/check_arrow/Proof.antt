@@ -13,7 +13,8 @@ use Rattle.judgment.specs.Board.{Rule}
 use Rattle.judgment.specs.Rules.{Env, checkArrow}
 use Rattle.board.specs.Board.{termAt}
 use Rattle.board.proofs.Terms.{lineOf}
-use Rattle.sheet.specs.Plan.{triples, partLine}
+use Rattle.sheet.specs.Plan.{partLine}
+use Rattle.sheet.specs.Rows.{rows}
 use Rattle.inference.specs.Inference.{LinesAsk}
 use Rattle.inference.proofs.Heads.{lines-asks}
 use Rattle.operations.specs.State.{WellFormed}
@@ -29,7 +30,7 @@ cast-name c =
     let a = c .before .before .before .before .before .before .before .before .before .args in
     let p = c .before .before .before .before .before .before .before .before .before .pre .0 in
     let W = c .before .before .before .before .wide .ensures in
-    let e : c .before .before .before .triple-at .result ≡ lineOf (triples (now (a .s))) (a .line) = head-is (now (a .s)) (a .line) (c .before .before .before .before .wide .result) (c .before .before .before .triple-at .result) (c .before .before .before .before .wide .ensures) (c .before .before .before .triple-at .ensures) in
+    let e : c .before .before .before .triple-at .result ≡ lineOf (rows (now (a .s))) (a .line) = head-is (now (a .s)) (a .line) (c .before .before .before .before .wide .result) (c .before .before .before .triple-at .result) (c .before .before .before .before .wide .ensures) (c .before .before .before .triple-at .ensures) in
     let v : c .before .before .before .triple-at .result .value < 4294967296 = name-narrow p e (c .before .if1 .taken) in search needs
 
 add-start : tie.Need-add-start
@@ -38,7 +39,7 @@ add-start c = let x = c .before .before .before .before .before .before .before 
 sub-n : tie.Need-sub-n
 sub-n c =
     let a = c .before .before .before .before .before .before .before .before .before .before .args in
-    let q : c .part-line .result ≡ partLine (triples (now (a .s))) (a .line + 1) 1 = c .part-line .ensures ∙ ap (λ (i : ℕ). partLine (triples (now (a .s))) (i + 1) 1) (c .before .before .before .before .before .wide .ensures) in
+    let q : c .part-line .result ≡ partLine (rows (now (a .s))) (a .line + 1) 1 = c .part-line .ensures ∙ ap (λ (i : ℕ). partLine (rows (now (a .s))) (i + 1) 1) (c .before .before .before .before .before .wide .ensures) in
     let x = bounds (c .before .before .before .before .before .before .before .before .before .before .pre .0) .0 in
     let y = bounds (c .before .before .before .before .before .before .before .before .before .before .pre .0) .1 in
     let z = c .before .before .before .before .before .wide .ensures in
@@ -56,7 +57,7 @@ sub-more c = first-within (now (c .before .before .before .before .before .befor
 cast-next : tie.Need-cast-next
 cast-next c =
     let a = c .before .before .before .before .before .before .before .before .before .before .before .args in
-    let q : c .before .part-line .result ≡ partLine (triples (now (a .s))) (a .line + 1) 1 = c .before .part-line .ensures ∙ ap (λ (i : ℕ). partLine (triples (now (a .s))) (i + 1) 1) (c .before .before .before .before .before .before .wide .ensures) in
+    let q : c .before .part-line .result ≡ partLine (rows (now (a .s))) (a .line + 1) 1 = c .before .part-line .ensures ∙ ap (λ (i : ℕ). partLine (rows (now (a .s))) (i + 1) 1) (c .before .before .before .before .before .before .wide .ensures) in
     let x = bounds (c .before .before .before .before .before .before .before .before .before .before .before .pre .0) .0 in
     let y = bounds (c .before .before .before .before .before .before .before .before .before .before .before .pre .0) .1 in
     let z = c .before .before .before .before .before .before .wide .ensures in
@@ -67,7 +68,7 @@ check-lambda-requires c κs =
     let a = c .before .before .before .before .before .before .before .before .before .before .before .before .before .args in
     let p = c .before .before .before .before .before .before .before .before .before .before .before .before .before .pre .0 in
     let W = c .before .before .before .before .before .before .before .before .wide .ensures in
-    let e : c .before .before .before .before .before .before .before .triple-at .result ≡ lineOf (triples (now (a .s))) (a .line) = head-is (now (a .s)) (a .line) (c .before .before .before .before .before .before .before .before .wide .result) (c .before .before .before .before .before .before .before .triple-at .result) (c .before .before .before .before .before .before .before .before .wide .ensures) (c .before .before .before .before .before .before .before .triple-at .ensures) in
+    let e : c .before .before .before .before .before .before .before .triple-at .result ≡ lineOf (rows (now (a .s))) (a .line) = head-is (now (a .s)) (a .line) (c .before .before .before .before .before .before .before .before .wide .result) (c .before .before .before .before .before .before .before .triple-at .result) (c .before .before .before .before .before .before .before .before .wide .ensures) (c .before .before .before .before .before .before .before .triple-at .ensures) in
     let q = c .before .before .before .part-line .ensures in
     let m = first-within (now (a .t)) 2 (a .tn - 1) (c .before .before .first-part .result) (c .before .before .first-part .ensures) in
     let x = p .within in
@@ -83,8 +84,8 @@ returns c =
     let a = c .before .before .before .before .before .before .before .before .before .before .before .before .before .before .before .before .before .before .args in
     let p = c .before .before .before .before .before .before .before .before .before .before .before .before .before .before .before .before .before .before .pre .0 in
     let W = c .before .before .before .before .before .before .before .before .before .before .before .before .before .wide .ensures in
-    let e : c .before .before .before .before .before .before .before .before .before .before .before .before .triple-at .result ≡ lineOf (triples (now (a .s))) (a .line) = head-is (now (a .s)) (a .line) (c .before .before .before .before .before .before .before .before .before .before .before .before .before .wide .result) (c .before .before .before .before .before .before .before .before .before .before .before .before .triple-at .result) (c .before .before .before .before .before .before .before .before .before .before .before .before .before .wide .ensures) (c .before .before .before .before .before .before .before .before .before .before .before .before .triple-at .ensures) in
-    let ls = triples (now (a .s)) in
+    let e : c .before .before .before .before .before .before .before .before .before .before .before .before .triple-at .result ≡ lineOf (rows (now (a .s))) (a .line) = head-is (now (a .s)) (a .line) (c .before .before .before .before .before .before .before .before .before .before .before .before .before .wide .result) (c .before .before .before .before .before .before .before .before .before .before .before .before .triple-at .result) (c .before .before .before .before .before .before .before .before .before .before .before .before .before .wide .ensures) (c .before .before .before .before .before .before .before .before .before .before .before .before .triple-at .ensures) in
+    let ls = rows (now (a .s)) in
     let T : Ty = nodesAt (now (a .t)) 0 (a .tn) in
     let D = c .before .before .before .before .check-lambda .ensures .1 w E (termAt ls (a .line)) T k rep f in
     let e1 = first-nodes (now (a .t)) 2 (a .tn - 1) (c .before .before .before .before .before .before .before .first-part .result) (c .before .before .before .before .before .before .before .first-part .ensures) in
@@ -101,8 +102,8 @@ returns-2 c =
     let a = c .before .before .before .before .before .before .before .before .before .before .before .before .args in
     let p = c .before .before .before .before .before .before .before .before .before .before .before .before .pre .0 in
     let W = c .before .before .before .before .before .before .before .wide .ensures in
-    let e : c .before .before .before .before .before .before .triple-at .result ≡ lineOf (triples (now (a .s))) (a .line) = head-is (now (a .s)) (a .line) (c .before .before .before .before .before .before .before .wide .result) (c .before .before .before .before .before .before .triple-at .result) (c .before .before .before .before .before .before .before .wide .ensures) (c .before .before .before .before .before .before .triple-at .ensures) in
-    let ls = triples (now (a .s)) in
+    let e : c .before .before .before .before .before .before .triple-at .result ≡ lineOf (rows (now (a .s))) (a .line) = head-is (now (a .s)) (a .line) (c .before .before .before .before .before .before .before .wide .result) (c .before .before .before .before .before .before .triple-at .result) (c .before .before .before .before .before .before .before .wide .ensures) (c .before .before .before .before .before .before .triple-at .ensures) in
+    let ls = rows (now (a .s)) in
     let T : Ty = nodesAt (now (a .t)) 0 (a .tn) in
     let B : Ty = nodesAt (now (a .t)) 2 (a .tn - 1) in
     let D = c .before .before .synthesize .ensures E w ls k rep f in

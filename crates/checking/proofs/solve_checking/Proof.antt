@@ -8,7 +8,7 @@ use Rattle.nodes.specs.Nodes.{Ty, nodesAt}
 use Rattle.judgment.specs.Types.{View, view}
 use Rattle.judgment.specs.Rules.{Env, checkBy}
 use Rattle.board.specs.Board.{termAt}
-use Rattle.sheet.specs.Plan.{triples}
+use Rattle.sheet.specs.Rows.{rows}
 use Rattle.operations.specs.State.{WellFormed}
 use Rattle.operations.proofs.Then.{does-as}
 use Rattle.subtyping.specs.Subtyping.{shapeOf}
@@ -30,7 +30,7 @@ returns c =
     let a = c .before .before .before .before .before .before .before .before .before .before .before .before .before .before .before .args in
     let P = now (a .t) in
     let T : Ty = nodesAt P 0 (a .tn) in
-    let ls = triples (now (a .s)) in
+    let ls = rows (now (a .s)) in
     let e = arrow-view P 0 (a .tn) (sym (c .before .before .before .before .before .before .before .before .before .shape .ensures) ∙ c .before .before .before .before .before .before .before .before .if1 .taken) in
     does-as (λ _. ap (checkBy E (termAt ls (a .line)) T) (sym e)) (c .before .before .before .before .check-arrow .ensures w E k rep f)
 
@@ -53,7 +53,7 @@ returns-2 c =
     let a = c .before .before .before .before .before .before .before .before .before .before .before .before .before .before .before .before .args in
     let P = now (a .t) in
     let T : Ty = nodesAt P 0 (a .tn) in
-    let ls = triples (now (a .s)) in
+    let ls = rows (now (a .s)) in
     let e = forall-view P 0 (a .tn) (sym (c .before .before .before .before .before .before .before .before .before .before .shape .ensures) ∙ c .before .before .before .before .before .before .before .before .if2 .taken) in
     does-as (λ _. ap (checkBy E (termAt ls (a .line)) T) (sym e)) (c .before .before .before .before .check-forall .ensures .1 E T w ls k rep f)
 
@@ -66,7 +66,7 @@ returns-3 c =
     let a = c .before .before .before .before .before .before .before .before .before .before .before .before .before .args in
     let P = now (a .t) in
     let T : Ty = nodesAt P 0 (a .tn) in
-    let ls = triples (now (a .s)) in
+    let ls = rows (now (a .s)) in
     does-as (λ _. check-other E (termAt ls (a .line)) T (view T) (λ z. c .before .before .before .before .before .before .if1 .left (c .before .before .before .before .before .before .before .shape .ensures ∙ z)) (λ z. c .before .before .before .before .before .if2 .left (c .before .before .before .before .before .before .before .shape .ensures ∙ z))) (c .before .before .synthesize .ensures E w ls k rep f)
 
 pub solve-checking-spec : {M : Type 1} → statement M

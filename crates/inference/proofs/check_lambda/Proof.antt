@@ -1,7 +1,7 @@
 use lib.ListN.{length}
 use mathlib.Core.Path.{_≡_}
 use Rattle.nodes.specs.Nodes.{Ty}
-use Rattle.sheet.specs.Plan.{triples}
+use Rattle.sheet.specs.Rows.{rows}
 use Rattle.operations.proofs.Then.{push-then, does-as}
 use Rattle.inference.specs.Inference.{typeOn}
 use Rattle.inference.proofs.Keeps.{sub-keeps, var-keeps}
@@ -27,7 +27,7 @@ returns c = (
       let S : Ty = typeOn (c .before .before .before .before .before .before .before .before .before .before .before .before .before .before .before .before .before .before .before .before .before .before .args .s .now) (c .before .before .before .before .before .before .before .before .before .before .before .before .before .before .before .before .before .before .before .before .before .before .args .first) (c .before .before .before .before .before .before .before .before .before .before .before .before .before .before .before .before .before .before .before .before .before .before .args .n) in
       let l : length S ≡ c .before .before .before .before .before .before .before .before .before .before .before .before .before .before .before .before .before .before .before .before .before .before .args .n = length-typeOn (c .before .before .before .before .before .before .before .before .before .before .before .before .before .before .before .before .before .before .before .before .before .before .args .s .now) (c .before .before .before .before .before .before .before .before .before .before .before .before .before .before .before .before .before .before .before .before .before .before .args .first) (c .before .before .before .before .before .before .before .before .before .before .before .before .before .before .before .before .before .before .before .before .before .before .args .n) (p .3 .within) in
       let s = copied (c .before .before .before .before .before .before .before .before .before .before .before .before .before .before .before .before .before .before .before .before .before .before .args .out .now) S (c .before .before .before .before .before .before .before .before .before .before .before .before .before .before .before .before .before .before .before .before .before .before .args .n) l (p .2) (c .before .before .before .before .before .before .before .before .before .before .before .before .before .before .before .before .copy-type .ensures) in
-      let ls = triples (c .before .before .before .before .before .before .before .before .before .before .before .before .before .before .before .before .before .before .before .before .before .before .args .s .now) in
+      let ls = rows (c .before .before .before .before .before .before .before .before .before .before .before .before .before .before .before .before .before .before .before .before .before .before .args .s .now) in
       let D1 = c .before .before .before .before .before .before .before .before .before .before .before .push-sub .ensures .2 w ls k rep f in
       let D2 = c .before .before .before .before .before .before .push-var .ensures .2 w ls k rep (D1 .kept) in
       let D3 = c .before .before .push-chk .ensures .2 w ls k rep (D2 .kept) in

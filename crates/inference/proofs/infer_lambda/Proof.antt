@@ -3,7 +3,7 @@ use native.Mathlib.Omega.{arith}
 use Prim.Native.Nat.{ℕ, _+_, _*_, _≤_}
 use lib.ListN.{length}
 use Rattle.nodes.specs.Nodes.{Ty}
-use Rattle.sheet.specs.Plan.{triples}
+use Rattle.sheet.specs.Rows.{rows}
 use Rattle.operations.proofs.Then.{push-then, does-as}
 use Rattle.inference.specs.Inference.{typeOn}
 use Rattle.inference.proofs.Keeps.{unknown-then, sub-keeps, var-keeps}
@@ -43,7 +43,7 @@ returns c = (
       let S : Ty = typeOn (c .before .before .before .before .before .before .before .before .before .before .before .before .before .before .before .before .before .before .before .before .before .before .before .before .before .before .before .args .s .now) (c .before .before .before .before .before .before .before .before .before .before .before .before .before .before .before .before .before .before .before .before .before .before .before .before .before .before .before .args .first) n in
       let e : length S ≡ n = length-typeOn (c .before .before .before .before .before .before .before .before .before .before .before .before .before .before .before .before .before .before .before .before .before .before .before .before .before .before .before .args .s .now) (c .before .before .before .before .before .before .before .before .before .before .before .before .before .before .before .before .before .before .before .before .before .before .before .before .before .before .before .args .first) n (c .before .before .before .before .before .before .before .before .before .before .before .before .before .before .before .before .before .before .before .before .before .before .before .before .before .before .before .pre .3 .within) in
       let q = c .before .before .before .before .before .before .before .before .before .before .before .before .before .before .before .before .before .write-arrow .ensures in
-      let ls = triples (c .before .before .before .before .before .before .before .before .before .before .before .before .before .before .before .before .before .before .before .before .before .before .before .before .before .before .before .args .s .now) in
+      let ls = rows (c .before .before .before .before .before .before .before .before .before .before .before .before .before .before .before .before .before .before .before .before .before .before .before .before .before .before .before .args .s .now) in
       let D1 = c .before .before .before .before .before .before .before .before .before .before .before .before .before .before .before .before .before .before .before .before .before .fresh-unknown .ensures .1 w ls k rep f in
       let D2 = c .before .before .before .before .before .before .before .before .before .before .before .before .push-sub .ensures .2 w ls k rep (D1 .kept) in
       let D3 = c .before .before .before .before .before .before .before .push-var .ensures .2 w ls k rep (D2 .kept) in

@@ -1,7 +1,7 @@
 use mathlib.Core.Path.{refl, sym, _∙_}
 use denote.Ref.{now}
 use Rattle.nodes.specs.Nodes.{nodesAt}
-use Rattle.sheet.specs.Plan.{triples}
+use Rattle.sheet.specs.Rows.{rows}
 use Rattle.applying.specs.Applying.{envOn}
 use Rattle.inferring.proofs.Views.{ruled, value-fits, constructor-rule, open-asks}
 use borrow.Author.Needs.{needs}
@@ -20,14 +20,14 @@ returns : tie.Need-returns
 returns c =
     let p = c .before .before .before .before .before .before .before .before .before .before .before .before .before .before .before .before .pre .0 in
     let s = now (c .before .before .before .before .before .before .before .before .before .before .before .before .before .before .before .before .args .s) in
-    ruled p (constructor-rule p refl (c .before .before .before .before .before .before .before .before .before .before .before .value-at .ensures) (sym (c .before .before .before .before .before .before .before .before .line .given .1) ∙ c .before .before .before .before .before .before .before .before .before .before .find-entry .ensures)) (λ m. c .before .before .before .before .infer-constructor .ensures (envOn s) (c .before .before .before .before .before .before .before .before .before .before .before .value-at .result) m (triples s))
+    ruled p (constructor-rule p refl (c .before .before .before .before .before .before .before .before .before .before .before .value-at .ensures) (sym (c .before .before .before .before .before .before .before .before .line .given .1) ∙ c .before .before .before .before .before .before .before .before .before .before .find-entry .ensures)) (λ m. c .before .before .before .before .infer-constructor .ensures (envOn s) (c .before .before .before .before .before .before .before .before .before .before .before .value-at .result) m (rows s))
 
 returns-2 : tie.Need-returns-2
 unfolding nodesAt
 returns-2 c =
     let p = c .before .before .before .before .before .before .before .before .before .pre .0 in
     let s = now (c .before .before .before .before .before .before .before .before .before .args .s) in
-    ruled p (constructor-rule p refl (c .before .before .before .before .value-at .ensures) (sym (c .before .enum-told .given .1) ∙ c .before .before .before .find-entry .ensures)) (λ m. c .refuse .ensures .1 m (triples s) _)
+    ruled p (constructor-rule p refl (c .before .before .before .before .value-at .ensures) (sym (c .before .enum-told .given .1) ∙ c .before .before .before .find-entry .ensures)) (λ m. c .refuse .ensures .1 m (rows s) _)
 
 pub constructor-term-spec : {M : Type 1} → statement M
 constructor-term-spec =

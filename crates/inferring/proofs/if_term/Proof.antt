@@ -1,6 +1,6 @@
 use mathlib.Core.Path.{refl}
 use denote.Ref.{now}
-use Rattle.sheet.specs.Plan.{triples}
+use Rattle.sheet.specs.Rows.{rows}
 use Rattle.applying.specs.Applying.{envOn}
 use Rattle.inferring.proofs.Views.{viewed, if-view}
 use borrow.Author.Needs.{needs}
@@ -11,7 +11,7 @@ returns : tie.Need-returns
 returns c =
     let p = c .before .before .before .before .before .before .before .before .before .before .pre in
     let s = now (c .before .before .before .before .before .before .before .before .before .before .args .s) in
-    viewed p (if-view p refl (c .before .before .before .before .before .before .part-at .ensures) (c .before .before .before .before .before .part-at2 .ensures) (c .before .before .before .before .part-at3 .ensures)) (λ m. c .before .before .infer-if .ensures (envOn s) m (triples s))
+    viewed p (if-view p refl (c .before .before .before .before .before .before .part-at .ensures) (c .before .before .before .before .before .part-at2 .ensures) (c .before .before .before .before .part-at3 .ensures)) (λ m. c .before .before .infer-if .ensures (envOn s) m (rows s))
 
 pub if-term-spec : {M : Type 1} → statement M
 if-term-spec =

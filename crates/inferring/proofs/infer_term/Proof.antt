@@ -2,7 +2,7 @@ use mathlib.Core.Path.{refl, ap}
 use native.Mathlib.Omega.{arith}
 use denote.Ref.{now}
 use Rattle.spelling.specs.declared.Triple.{Triple}
-use Rattle.sheet.specs.Plan.{triples}
+use Rattle.sheet.specs.Rows.{rows}
 use Rattle.applying.specs.Applying.{envOn}
 use Rattle.inferring.proofs.Views.{viewed, lit-view, kinds, term-asks}
 use borrow.Author.Needs.{needs}
@@ -10,37 +10,33 @@ use Rattle.inferring.proofs.infer_term.Statement.{statement}
 use Rattle.inferring.proofs.infer_term.Tie as tie
 
 variable-term-requires : tie.Need-variable-term-requires
-variable-term-requires c κs =
-    (term-asks (c .before .before .before .before .before .before .before .before .pre) (c .before .before .before .triple-at .ensures) (c .before .before .if1 .taken), c .before .before .before .before .before .before .before .before .pre .left)
+variable-term-requires c κs = (term-asks (c .before .before .before .before .before .before .before .before .before .before .before .pre .0) (c .before .before .before .triple-at .ensures) (c .before .before .if1 .taken), c .before .before .before .before .before .before .before .before .before .before .before .pre .0 .left)
 
 infer-lit-int-requires : tie.Need-infer-lit-int-requires
-infer-lit-int-requires c κs =
-    (c .before .before .before .before .before .before .before .before .pre .ready .board, c .before .before .before .before .before .before .before .before .pre .within)
+infer-lit-int-requires c κs = (c .before .before .before .before .before .before .before .before .before .before .before .pre .0 .ready .board, c .before .before .before .before .before .before .before .before .before .before .before .pre .0 .within)
 
 returns-2 : tie.Need-returns-2
 returns-2 c =
-    let p = term-asks (c .before .before .before .before .before .before .before .before .before .before .before .pre) (c .before .before .before .before .before .before .triple-at .ensures) (c .before .before .before .before .if2 .taken) in
-    let s = now (c .before .before .before .before .before .before .before .before .before .before .before .args .s) in
-    viewed p (lit-view p refl) (λ m. c .before .before .infer-lit-int .ensures (envOn s) m (triples s))
+    let p = term-asks (c .before .before .before .before .before .before .before .before .before .before .before .before .before .before .pre .0) (c .before .before .before .before .before .before .triple-at .ensures) (c .before .before .before .before .if2 .taken) in
+    let s = now (c .before .before .before .before .before .before .before .before .before .before .before .before .before .before .args .s) in
+    viewed p (lit-view p refl) (λ m. c .before .before .infer-lit-int .ensures (envOn s) m (rows s))
 
 lambda-term-requires : tie.Need-lambda-term-requires
-lambda-term-requires c κs =
-    (term-asks (c .before .before .before .before .before .before .before .before .before .before .pre) (c .before .before .before .before .before .triple-at .ensures) (c .before .before .if3 .taken), c .before .before .before .before .before .before .before .before .before .before .pre .left)
+lambda-term-requires c κs = (term-asks (c .before .before .before .before .before .before .before .before .before .before .before .before .before .pre .0) (c .before .before .before .before .before .triple-at .ensures) (c .before .before .if3 .taken), c .before .before .before .before .before .before .before .before .before .before .before .before .before .pre .0 .left)
 
 apply-term-requires : tie.Need-apply-term-requires
-apply-term-requires c κs =
-    term-asks (c .before .before .before .before .before .before .before .before .before .before .pre) (c .before .before .before .before .before .triple-at .ensures) (c .before .if4 .taken)
+apply-term-requires c κs = term-asks (c .before .before .before .before .before .before .before .before .before .before .before .before .before .pre .0) (c .before .before .before .before .before .triple-at .ensures) (c .before .if4 .taken)
 
 infer-other-requires : tie.Need-infer-other-requires
 infer-other-requires c κs =
-    let k = kinds (c .before .before .before .before .before .before .before .before .before .before .before .pre) .0 in
-    let e = ap (λ (t : Triple). t .kind) (c .before .before .before .before .before .before .triple-at .ensures) in
-    let f1 = c .before .before .before .before .before .if1 .left in
-    let f2 = c .before .before .before .before .if2 .left in
-    let f3 = c .before .before .before .if3 .left in
-    let f4 = c .before .before .if4 .left in
-    (c .before .before .before .before .before .before .before .before .before .before .before .pre, omega arith)
+    let k = kinds (c .before .before .before .before .before .before .before .before .before .before .before .before .before .before .before .before .before .pre .0) .0 in
+    let e = ap (λ (t : Triple). t .kind) (c .before .before .before .before .before .before .before .before .before .triple-at .ensures) in
+    let f1 = c .before .before .before .before .before .before .before .before .if1 .left in
+    let f2 = c .before .before .before .before .before .before .before .if2 .left in
+    let f3 = c .before .before .before .before .before .before .if3 .left in
+    let f4 = c .before .before .before .before .before .if4 .left in
+    (c .before .before .before .before .before .before .before .before .before .before .before .before .before .before .before .before .before .pre .0, c .before .before .before .before .before .before .before .before .before .before .before .before .before .before .before .before .before .pre .1, omega arith)
 
 pub infer-term-spec : {M : Type 1} → statement M
 infer-term-spec =
-    tie.close (tie.spec (λ c κs. search needs) variable-term-requires (λ c. search needs) (λ c. search needs) (λ c. search needs) infer-lit-int-requires (λ c. search needs) returns-2 lambda-term-requires (λ c. search needs) (λ c. search needs) (λ c. search needs) apply-term-requires (λ c. search needs) (λ c. search needs) infer-other-requires (λ c. search needs) (λ c. search needs) (λ c. search needs))
+    tie.close (tie.spec (λ c κs. search needs) variable-term-requires (λ c. search needs) (λ c. search needs) (λ c. search needs) infer-lit-int-requires (λ c. search needs) returns-2 lambda-term-requires (λ c. search needs) (λ c. search needs) (λ c. search needs) apply-term-requires (λ c. search needs) (λ c. search needs) infer-other-requires (λ c. search needs) (λ c. search needs) (λ c. search needs) (λ c. search needs) (λ c. search needs) (λ c. search needs))

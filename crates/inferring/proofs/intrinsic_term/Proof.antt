@@ -3,8 +3,8 @@ use Prim.Native.Nat.{_<_}
 use native.Mathlib.Omega.{arith}
 use denote.Ref.{now}
 use Rattle.spelling.specs.declared.Triple.{Triple}
-use Rattle.sheet.specs.Plan.{triples}
-use Rattle.sheet.proofs.Lines.{count-small}
+use Rattle.sheet.specs.Rows.{rows}
+use Rattle.sheet.proofs.RowLaws.{row-count}
 use Rattle.applying.specs.Applying.{envOn}
 use Rattle.inferring.proofs.Views.{ruled, value-fits, intrinsic-rule}
 use borrow.Author.Needs.{needs}
@@ -17,7 +17,7 @@ value-at-requires c κs =
 
 cast-count : tie.Need-cast-count
 cast-count c =
-    let n = count-small (now (c .before .before .before .before .before .before .args .s)) (c .before .before .before .before .before .before .args .at) in
+    let n = row-count (now (c .before .before .before .before .before .before .args .s)) (c .before .before .before .before .before .before .args .at) in
     let e = ap (λ (t : Triple). t .count) (c .before .triple-at .ensures) in
     let z : c .before .triple-at .result .count < 4294967296 = omega arith in search needs
 
@@ -25,7 +25,7 @@ returns : tie.Need-returns
 returns c =
     let p = c .before .before .before .before .before .before .before .before .before .before .before .pre in
     let s = now (c .before .before .before .before .before .before .before .before .before .before .before .args .s) in
-    ruled p (intrinsic-rule p refl (c .before .before .before .before .before .before .before .value-at .ensures) (ap (λ (t : Triple). t .count) (c .before .before .before .before .before .before .triple-at .ensures)) (c .before .before .before .before .part-at .ensures)) (λ m. c .before .before .infer-intrinsic .ensures (envOn s) m (triples s))
+    ruled p (intrinsic-rule p refl (c .before .before .before .before .before .before .before .value-at .ensures) (ap (λ (t : Triple). t .count) (c .before .before .before .before .before .before .triple-at .ensures)) (c .before .before .before .before .part-at .ensures)) (λ m. c .before .before .infer-intrinsic .ensures (envOn s) m (rows s))
 
 pub intrinsic-term-spec : {M : Type 1} → statement M
 intrinsic-term-spec =

@@ -2,7 +2,7 @@ use mathlib.Core.Path.{ap}
 use Prim.Native.Nat.{ℕ}
 use denote.Ref.{now}
 use Rattle.nodes.specs.Nodes.{nodesAt}
-use Rattle.sheet.specs.Plan.{triples}
+use Rattle.sheet.specs.Rows.{rows}
 use Rattle.judgment.specs.Terms.{termView}
 use Rattle.judgment.specs.Rules.{inferBy}
 use Rattle.board.specs.Board.{termAt}
@@ -13,16 +13,15 @@ use Rattle.inferring.proofs.solve_inference.Statement.{statement}
 use Rattle.inferring.proofs.solve_inference.Tie as tie
 
 infer-term-requires : tie.Need-infer-term-requires
-infer-term-requires c κs =
-    rw (c .before .wide .ensures) (c .before .before .before .before .before .before .before .pre)
+infer-term-requires c κs = rw (c .before .before .before .before .wide .ensures) (c .before .before .before .before .before .before .before .before .before .before .before .before .before .pre)
 
 returns : tie.Need-returns
 returns c =
-    let a = c .before .before .before .before .before .before .before .before .before .before .before .before .args in
+    let a = c .before .before .before .before .before .before .before .before .before .before .before .before .before .before .before .before .before .before .before .before .before .before .before .before .args in
     let s = now (a .s) in
-    let e = ap (λ (i : ℕ). inferBy (envOn s) (nodesAt (now (a .t)) 0 (a .tn)) (termView (termAt (triples s) i))) (c .before .before .before .before .before .before .wide .ensures) in
-    λ m k rep f. does-as (λ _. e) (c .before .before .before .before .infer-term .ensures m k rep f)
+    let e = ap (λ (i : ℕ). inferBy (envOn s) (nodesAt (now (a .t)) 0 (a .tn)) (termView (termAt (rows s) i))) (c .before .before .before .before .before .before .before .before .before .before .before .before .before .before .before .wide .ensures) in
+    λ m k rep f. does-as (λ _. e) (c .before .before .before .before .before .before .before .before .before .before .infer-term .ensures m k rep f)
 
 pub solve-inference-spec : {M : Type 1} → statement M
 solve-inference-spec =
-    tie.close (tie.spec (λ c κs. search needs) infer-term-requires (λ c. search needs) (λ c. search needs) returns)
+    tie.close (tie.spec (λ c κs. search needs) infer-term-requires (λ c. search needs) (λ c. search needs) (λ c. search needs) (λ c. search needs) (λ c. search needs) returns)

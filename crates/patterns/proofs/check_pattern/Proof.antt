@@ -5,7 +5,7 @@ use native.Mathlib.Omega.{arith}
 use denote.Ref.{now}
 use lib.ListN.{length}
 use lib.Seq.{sets}
-use Rattle.sheet.specs.Plan.{triples}
+use Rattle.sheet.specs.Rows.{rows}
 use Rattle.tables.specs.Rows.{row}
 use Rattle.patterns.specs.Readings.{Reading}
 use Rattle.patterns.proofs.Patterns.{aloneOf, read-start, line-narrow, read-turn, read-end, read-stop}
@@ -13,22 +13,22 @@ use Rattle.patterns.proofs.check_pattern.Statement.{statement}
 use Rattle.patterns.proofs.check_pattern.Tie as tie
 
 abbrev Inv-loop : tie.InvT-loop
-Inv-loop board₀ s first lines u w₀ v₀ l₀ r₀ base run₀ n₀ j₀ i₀ board w v l r run n j i = Reading board₀ run₀ (triples s) first lines u board run w n v j i × (length board ≡ length board₀) × (length w ≡ length w₀) × (length v ≡ length v₀) × (length l ≡ length l₀) × (length r ≡ length r₀)
+Inv-loop board₀ s first lines u w₀ v₀ l₀ r₀ base run₀ n₀ j₀ i₀ board w v l r run n j i = Reading board₀ run₀ (rows s) first lines u board run w n v j i × (length board ≡ length board₀) × (length w ≡ length w₀) × (length v ≡ length v₀) × (length l ≡ length l₀) × (length r ≡ length r₀)
 
 abbrev μ-loop : tie.MeasureT-loop
 μ-loop board₀ s first lines u w₀ v₀ l₀ r₀ base run₀ n₀ j₀ i₀ board w v l r run n j i = lines - i
 
 put-requires : tie.Need-put-requires Inv-loop μ-loop
 put-requires c κs =
-    let f = c .before .before .before .before .before .before .before .before .pre .frames in
+    let f = c .before .before .before .before .before .before .before .before .pre .0 .frames in
     omega arith
 
 loop-holds : tie.Need-loop-holds Inv-loop μ-loop
 loop-holds c =
     let a = c .before .before .before .before .before .before .before .before .before .before .before .args in
-    let p = c .before .before .before .before .before .before .before .before .before .before .before .pre in
+    let p = c .before .before .before .before .before .before .before .before .before .before .before .pre .0 in
     let f = p .frames in
-    (read-start (now (a .board)) (a .c) (triples (now (a .s))) (a .first) (a .lines) (a .u) (now (a .w)) _ (now (a .v)) (p .ready) (p .narrow) (omega arith) (c .before .before .put .ensures ∙ ap (λ (x : ℕ). sets (now (a .w)) (6 * 0) (row 0 (aloneOf x))) (c .before .before .before .before .wide .ensures)) (p .low), refl, refl, refl, refl, refl)
+    (read-start (now (a .board)) (a .c) (rows (now (a .s))) (a .first) (a .lines) (a .u) (now (a .w)) _ (now (a .v)) (p .ready) (p .narrow) (omega arith) (c .before .before .put .ensures ∙ ap (λ (x : ℕ). sets (now (a .w)) (6 * 0) (row 0 (aloneOf x))) (c .before .before .before .before .wide .ensures)) (p .low), refl, refl, refl, refl, refl)
 
 same-length : tie.Need-same-length Inv-loop μ-loop
 same-length c = c .before .before .loop .inv .1
@@ -48,8 +48,8 @@ same-length-5 c = c .before .before .loop .inv .5
 returns : tie.Need-returns Inv-loop μ-loop
 returns c =
     let a = c .before .before .before .before .before .before .before .before .before .before .before .before .before .before .args in
-    let p = c .before .before .before .before .before .before .before .before .before .before .before .before .before .before .pre in
-    let ls = triples (now (a .s)) in
+    let p = c .before .before .before .before .before .before .before .before .before .before .before .before .before .before .pre .0 in
+    let ls = rows (now (a .s)) in
     let L = c .before .before .loop in
     let R = L .inv .0 in
     read-stop _ _ ls (a .first) (a .lines) (a .u) R (c .if1 .taken)
@@ -57,8 +57,8 @@ returns c =
 pattern-line-requires : tie.Need-pattern-line-requires Inv-loop μ-loop
 pattern-line-requires c κs =
     let a = c .before .before .before .before .before .before .before .before .before .before .before .before .before .before .before .before .before .before .before .args in
-    let p = c .before .before .before .before .before .before .before .before .before .before .before .before .before .before .before .before .before .before .before .pre in
-    let ls = triples (now (a .s)) in
+    let p = c .before .before .before .before .before .before .before .before .before .before .before .before .before .before .before .before .before .before .before .pre .0 in
+    let ls = rows (now (a .s)) in
     let L = c .before .before .before .before .before .before .before .loop in
     let R = L .inv .0 in
     let t : L .i < a .lines = c .before .before .before .before .before .before .loop-test .taken in
@@ -70,33 +70,35 @@ pattern-line-requires c κs =
     let h = L .inv in
     let k = c .before .before .before .before .before .before .before .before .before .before .put .kept .0 in
     let x = p .left in
-    let y = p .right in
-    record {
-      ready = R .turn .ready;
-      sheet = p .sheet;
-      line = omega arith;
-      narrow = line-narrow _ _ ls (a .first) (a .lines) (a .u) R t s;
-      some = let z = c .before .before .before .before .before .if1 .left in omega arith;
-      frames = R .frames;
-      deep = omega arith;
-      sound = R .sound;
-      rows = omega arith;
-      left = omega arith;
-      right = omega arith;
-    }
+    let y = p .right in (
+      record {
+        ready = R .turn .ready;
+        sheet = p .sheet;
+        line = omega arith;
+        narrow = line-narrow _ _ ls (a .first) (a .lines) (a .u) R t s;
+        some = let z = c .before .before .before .before .before .if1 .left in omega arith;
+        frames = R .frames;
+        deep = omega arith;
+        sound = R .sound;
+        rows = omega arith;
+        left = omega arith;
+        right = omega arith;
+      },
+      c .before .before .before .before .before .before .before .before .before .before .before .before .before .before .before .before .before .before .before .pre .1,
+    )
 
 add-i : tie.Need-add-i Inv-loop μ-loop
 add-i c =
     let t : c .before .before .before .before .before .before .before .before .before .before .before .before .before .before .before .before .before .before .before .loop .i < c .before .before .before .before .before .before .before .before .before .before .before .before .before .before .before .before .before .before .before .before .before .before .before .before .before .before .before .before .before .before .before .args .lines = c .before .before .before .before .before .before .before .before .before .before .before .before .before .before .before .before .before .before .loop-test .taken in
-    let s = c .before .before .before .before .before .before .before .before .before .before .before .before .before .before .before .before .before .before .before .before .before .before .before .before .before .before .before .before .before .before .before .pre .stands in
-    let f = c .before .before .before .before .before .before .before .before .before .before .before .before .before .before .before .before .before .before .before .before .before .before .before .before .before .before .before .before .before .before .before .pre .sheet .few in
+    let s = c .before .before .before .before .before .before .before .before .before .before .before .before .before .before .before .before .before .before .before .before .before .before .before .before .before .before .before .before .before .before .before .pre .0 .stands in
+    let f = c .before .before .before .before .before .before .before .before .before .before .before .before .before .before .before .before .before .before .before .before .before .before .before .before .before .before .before .before .before .before .before .pre .0 .sheet .few in
     omega arith
 
 loop-again : tie.Need-loop-again Inv-loop μ-loop
 loop-again c =
     let a = c .before .before .before .before .before .before .before .before .before .before .before .before .before .before .before .before .before .before .before .before .before .before .before .before .before .before .before .before .before .before .before .args in
-    let p = c .before .before .before .before .before .before .before .before .before .before .before .before .before .before .before .before .before .before .before .before .before .before .before .before .before .before .before .before .before .before .before .pre in
-    let ls = triples (now (a .s)) in
+    let p = c .before .before .before .before .before .before .before .before .before .before .before .before .before .before .before .before .before .before .before .before .before .before .before .before .before .before .before .before .before .before .before .pre .0 in
+    let ls = rows (now (a .s)) in
     let L = c .before .before .before .before .before .before .before .before .before .before .before .before .before .before .before .before .before .before .before .loop in
     let R = L .inv .0 in
     let K = c .before .before .before .before .before .before .before .before .before .before .before .pattern-line .kept in
@@ -121,8 +123,8 @@ same-length-10 c = c .before .loop .inv .5
 returns-2 : tie.Need-returns-2 Inv-loop μ-loop
 returns-2 c =
     let a = c .before .before .before .before .before .before .before .before .before .before .before .before .before .args in
-    let p = c .before .before .before .before .before .before .before .before .before .before .before .before .before .pre in
-    let ls = triples (now (a .s)) in
+    let p = c .before .before .before .before .before .before .before .before .before .before .before .before .before .pre .0 in
+    let ls = rows (now (a .s)) in
     let L = c .before .loop in
     let R = L .inv .0 in
     read-end _ _ ls (a .first) (a .lines) (a .u) R (let z = c .loop-test .left in omega arith)

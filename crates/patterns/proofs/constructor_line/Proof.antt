@@ -1,7 +1,7 @@
 use mathlib.Core.Path.{_≡_, sym, _∙_}
 use native.Mathlib.Omega.{arith}
 use denote.Ref.{now}
-use Rattle.sheet.specs.Plan.{triples}
+use Rattle.sheet.specs.Rows.{rows}
 use Rattle.references.specs.References.{typeOf}
 use Rattle.patterns.proofs.Entries.{entry-at}
 use Rattle.patterns.proofs.Lines.{naming-hit, naming-miss}
@@ -12,26 +12,26 @@ use Rattle.patterns.proofs.constructor_line.Tie as tie
 pattern-parts-requires : tie.Need-pattern-parts-requires
 pattern-parts-requires c κs =
     let a = c .before .before .before .before .before .before .before .before .before .before .before .before .before .args in
-    let p = c .before .before .before .before .before .before .before .before .before .before .before .before .before .pre in
-    let ls = triples (now (a .s)) in
+    let p = c .before .before .before .before .before .before .before .before .before .before .before .before .before .pre .0 in
+    let ls = rows (now (a .s)) in
     let e = entry-at ls (a .name) _ _ (p .sheet) (sym (c .before .before .before .before .before .line .given .1) ∙ c .before .before .before .before .before .before .before .find-entry .ensures) in
     record { ready = p .ready; some = e .0; few = e .1; lines = e .2; narrow = e .3; small = p .small; good = p .good; left = p .left; right = p .right }
 
 add-frame-requires : tie.Need-add-frame-requires
-add-frame-requires c κs = c .before .before .before .before .before .before .before .before .before .before .before .before .before .before .before .before .before .before .before .before .before .before .pre .deep
+add-frame-requires c κs = c .before .before .before .before .before .before .before .before .before .before .before .before .before .before .before .before .before .before .before .before .before .before .pre .0 .deep
 
 returns : tie.Need-returns
 returns c =
     let a = c .before .before .before .before .before .before .before .before .before .before .before .before .before .before .before .before .before .before .before .before .before .before .before .before .before .args in
-    let p = c .before .before .before .before .before .before .before .before .before .before .before .before .before .before .before .before .before .before .before .before .before .before .before .before .before .pre in
-    let ls = triples (now (a .s)) in
+    let p = c .before .before .before .before .before .before .before .before .before .before .before .before .before .before .before .before .before .before .before .before .before .before .before .before .before .pre .0 in
+    let ls = rows (now (a .s)) in
     naming-hit ls (a .name) (a .count) (typeOf ls (a .want)) (now (a .w)) (a .n) _ _ _ (sym (c .before .before .before .before .before .before .before .before .before .before .before .before .before .before .before .before .before .line .given .1) ∙ c .before .before .before .before .before .before .before .before .before .before .before .before .before .before .before .before .before .before .before .find-entry .ensures) (c .before .before .before .before .before .before .before .before .before .before .before .before .before .before .before .wide .ensures) (p .frames) (c .before .before .before .before .before .before .before .before .before .before .before .pattern-parts .ensures) (c .before .before .add-frame .ensures)
 
 returns-2 : tie.Need-returns-2
 returns-2 c =
     let a = c .before .before .before .before .before .before .before .before .before .args in
-    let p = c .before .before .before .before .before .before .before .before .before .pre in
-    let ls = triples (now (a .s)) in
+    let p = c .before .before .before .before .before .before .before .before .before .pre .0 in
+    let ls = rows (now (a .s)) in
     naming-miss ls (a .name) (a .count) (typeOf ls (a .want)) (now (a .w)) (a .n) (sym (c .before .enum-told .given .1) ∙ c .before .before .before .find-entry .ensures) (p .ready) (p .frames) (c .refuse .ensures)
 
 pub constructor-line-spec : {M : Type 1} → statement M

@@ -4,8 +4,9 @@ use native.Mathlib.Omega.{arith}
 use denote.Ref.{now}
 use lib.ListN.{length, getD}
 use Rattle.spelling.specs.declared.Triple.{Triple}
-use Rattle.sheet.specs.Plan.{triples, noTriple}
-use Rattle.sheet.proofs.Lines.{count-small}
+use Rattle.sheet.specs.Plan.{noTriple}
+use Rattle.sheet.specs.Rows.{rows}
+use Rattle.sheet.proofs.RowLaws.{row-count}
 use Rattle.patterns.proofs.Lines.{lining-variable, lining-wildcard, lining-constructor}
 use borrow.Author.Needs.{needs}
 use Rattle.patterns.proofs.pattern_line.Statement.{statement}
@@ -14,8 +15,8 @@ use Rattle.patterns.proofs.pattern_line.Tie as tie
 returns : tie.Need-returns
 returns c =
     let a = c .before .before .before .before .before .before .before .before .before .before .before .before .before .before .before .before .before .before .before .before .before .args in
-    let p = c .before .before .before .before .before .before .before .before .before .before .before .before .before .before .before .before .before .before .before .before .before .pre in
-    let ls = triples (now (a .s)) in
+    let p = c .before .before .before .before .before .before .before .before .before .before .before .before .before .before .before .before .before .before .before .before .before .pre .0 in
+    let ls = rows (now (a .s)) in
     let X : Triple = c .before .before .before .before .before .before .before .before .before .before .before .before .before .before .triple-at .result in
     let is : X ≡ getD ls (a .p) noTriple = c .before .before .before .before .before .before .before .before .before .before .before .before .before .before .triple-at .ensures in
     let y : X .value ≡ getD ls (a .p) noTriple .value = ap (λ (t : Triple). t .value) is in
@@ -25,27 +26,27 @@ returns c =
 constructor-line-requires : tie.Need-constructor-line-requires
 constructor-line-requires c κs =
     let a = c .before .before .before .before .before .before .before .before .before .before .before .before .before .before .before .before .before .before .before .before .before .before .before .args in
-    let p = c .before .before .before .before .before .before .before .before .before .before .before .before .before .before .before .before .before .before .before .before .before .before .before .pre in
-    let ls = triples (now (a .s)) in
+    let p = c .before .before .before .before .before .before .before .before .before .before .before .before .before .before .before .before .before .before .before .before .before .before .before .pre .0 in
+    let ls = rows (now (a .s)) in
     let X : Triple = c .before .before .before .before .before .before .before .before .before .before .before .before .before .before .before .before .triple-at .result in
     let is : X ≡ getD ls (a .p) noTriple = c .before .before .before .before .before .before .before .before .before .before .before .before .before .before .before .before .triple-at .ensures in
     let y : X .value ≡ getD ls (a .p) noTriple .value = ap (λ (t : Triple). t .value) is in
     let m : getD ls (a .p) noTriple .value < 4294967296 = p .narrow in
     let N = c .before .before .before .before .before .before .before .before .before .before .before .before .before .next .ensures in
     let z : X .count ≡ getD ls (a .p) noTriple .count = ap (λ (t : Triple). t .count) is in
-    let q : getD ls (a .p) noTriple .count < 100000 = count-small (now (a .s)) (a .p) in
+    let q : getD ls (a .p) noTriple .count < 131072 = row-count (now (a .s)) (a .p) in
     let f : c .before .before .before .before .before .before .before .before .before .before .before .before .before .next .result .depth ≤ a .n = N .fewer in
     let d = p .deep in
     let e = c .before .before .before .before .before .before .before .before .before .before .before .before .before .next .kept .1 .0 in
     let g = c .before .before .before .before .before .before .before .before .before .before .before .before .before .next .kept .1 .1 .1 .0 in
     let l = p .left in
-    record { ready = p .ready; sheet = p .sheet; name = omega arith; small = omega arith; good = N .good; frames = N .frames; deep = omega arith; left = omega arith; right = p .right }
+    (record { ready = p .ready; sheet = p .sheet; name = omega arith; small = omega arith; good = N .good; frames = N .frames; deep = omega arith; left = omega arith; right = p .right }, c .before .before .before .before .before .before .before .before .before .before .before .before .before .before .before .before .before .before .before .before .before .before .before .pre .1)
 
 returns-2 : tie.Need-returns-2
 returns-2 c =
     let a = c .before .before .before .before .before .before .before .before .before .before .before .before .before .before .before .before .before .before .before .before .before .before .before .before .before .before .before .before .before .before .before .before .before .args in
-    let p = c .before .before .before .before .before .before .before .before .before .before .before .before .before .before .before .before .before .before .before .before .before .before .before .before .before .before .before .before .before .before .before .before .before .pre in
-    let ls = triples (now (a .s)) in
+    let p = c .before .before .before .before .before .before .before .before .before .before .before .before .before .before .before .before .before .before .before .before .before .before .before .before .before .before .before .before .before .before .before .before .before .pre .0 in
+    let ls = rows (now (a .s)) in
     let X : Triple = c .before .before .before .before .before .before .before .before .before .before .before .before .before .before .before .before .before .before .before .before .before .before .before .before .before .before .triple-at .result in
     let is : X ≡ getD ls (a .p) noTriple = c .before .before .before .before .before .before .before .before .before .before .before .before .before .before .before .before .before .before .before .before .before .before .before .before .before .before .triple-at .ensures in
     let y : X .value ≡ getD ls (a .p) noTriple .value = ap (λ (t : Triple). t .value) is in
@@ -55,8 +56,8 @@ returns-2 c =
 returns-3 : tie.Need-returns-3
 returns-3 c =
     let a = c .before .before .before .before .before .before .before .before .before .before .before .before .before .before .before .before .before .before .before .args in
-    let p = c .before .before .before .before .before .before .before .before .before .before .before .before .before .before .before .before .before .before .before .pre in
-    let ls = triples (now (a .s)) in
+    let p = c .before .before .before .before .before .before .before .before .before .before .before .before .before .before .before .before .before .before .before .pre .0 in
+    let ls = rows (now (a .s)) in
     let X : Triple = c .before .before .before .before .before .before .before .before .before .before .before .before .triple-at .result in
     let is : X ≡ getD ls (a .p) noTriple = c .before .before .before .before .before .before .before .before .before .before .before .before .triple-at .ensures in
     let y : X .value ≡ getD ls (a .p) noTriple .value = ap (λ (t : Triple). t .value) is in

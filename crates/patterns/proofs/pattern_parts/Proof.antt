@@ -2,9 +2,9 @@ use mathlib.Core.Path.{_≡_, _∙_}
 use Prim.Native.Nat.{ℕ, _+_, _*_, _-_, _≤_}
 use native.Mathlib.Omega.{arith}
 use denote.Ref.{now}
-use Rattle.sheet.specs.Plan.{triples}
+use Rattle.sheet.specs.Rows.{rows}
 use Rattle.patterns.proofs.Steps.{sub-turn}
-use Rattle.patterns.proofs.Opened.{good-fits, few-arity, few-nodes, opened-ready, parting}
+use Rattle.patterns.proofs.Opened.{good-within, few-arity, few-nodes, opened-ready, parting}
 use borrow.Author.Needs.{needs}
 use Rattle.patterns.proofs.pattern_parts.Statement.{statement}
 use Rattle.patterns.proofs.pattern_parts.Tie as tie
@@ -13,29 +13,36 @@ mul-ra : tie.Need-mul-ra
 mul-ra c =
     let a = c .before .before .before .before .before .args in
     let p = c .before .before .before .before .before .pre in
-    let ls = triples (now (a .s)) in
-    let g : a .want .at + a .want .count ≤ 4096 = good-fits (p .good) in
+    let ls = rows (now (a .s)) in
+    let g : a .want .at + a .want .count ≤ 4096 = good-within (p .good) .1 in
     omega arith
+
+instance-requires : tie.Need-instance-requires
+instance-requires c κs =
+    let p = c .before .before .before .before .before .before .pre in
+    let g = p .good .stands in
+    let r = p .right in
+    (p .good, omega arith, omega arith)
 
 signature-requires : tie.Need-signature-requires
 signature-requires c κs =
     let a = c .before .before .before .before .before .before .before .before .before .before .before .before .before .before .before .before .before .before .args in
     let p = c .before .before .before .before .before .before .before .before .before .before .before .before .before .before .before .before .before .before .pre in
-    let ls = triples (now (a .s)) in
+    let ls = rows (now (a .s)) in
     let O = c .before .before .before .before .before .before .instantiate-constructor-type .ensures in
     (O .within, few-nodes ls (a .first) (a .n) (a .count) (a .want) p O .2)
 
 mul-la : tie.Need-mul-la
-mul-la c = let f = few-nodes (triples (now (c .before .before .before .before .before .before .before .before .before .before .before .before .before .before .before .before .before .before .before .before .args .s))) (c .before .before .before .before .before .before .before .before .before .before .before .before .before .before .before .before .before .before .before .before .args .first) (c .before .before .before .before .before .before .before .before .before .before .before .before .before .before .before .before .before .before .before .before .args .n) (c .before .before .before .before .before .before .before .before .before .before .before .before .before .before .before .before .before .before .before .before .args .count) (c .before .before .before .before .before .before .before .before .before .before .before .before .before .before .before .before .before .before .before .before .args .want) (c .before .before .before .before .before .before .before .before .before .before .before .before .before .before .before .before .before .before .before .before .pre) (c .before .before .before .before .before .before .before .before .instantiate-constructor-type .ensures) in omega (arith, f .0, f .1, f .2, c .before .signature .ensures .0)
+mul-la c = let f = few-nodes (rows (now (c .before .before .before .before .before .before .before .before .before .before .before .before .before .before .before .before .before .before .before .before .args .s))) (c .before .before .before .before .before .before .before .before .before .before .before .before .before .before .before .before .before .before .before .before .args .first) (c .before .before .before .before .before .before .before .before .before .before .before .before .before .before .before .before .before .before .before .before .args .n) (c .before .before .before .before .before .before .before .before .before .before .before .before .before .before .before .before .before .before .before .before .args .count) (c .before .before .before .before .before .before .before .before .before .before .before .before .before .before .before .before .before .before .before .before .args .want) (c .before .before .before .before .before .before .before .before .before .before .before .before .before .before .before .before .before .before .before .before .pre) (c .before .before .before .before .before .before .before .before .instantiate-constructor-type .ensures) in omega (arith, f .0, f .1, f .2, c .before .signature .ensures .0)
 
 add-la : tie.Need-add-la
-add-la c = let f = few-nodes (triples (now (c .before .before .before .before .before .before .before .before .before .before .before .before .before .before .before .before .before .before .before .before .args .s))) (c .before .before .before .before .before .before .before .before .before .before .before .before .before .before .before .before .before .before .before .before .args .first) (c .before .before .before .before .before .before .before .before .before .before .before .before .before .before .before .before .before .before .before .before .args .n) (c .before .before .before .before .before .before .before .before .before .before .before .before .before .before .before .before .before .before .before .before .args .count) (c .before .before .before .before .before .before .before .before .before .before .before .before .before .before .before .before .before .before .before .before .args .want) (c .before .before .before .before .before .before .before .before .before .before .before .before .before .before .before .before .before .before .before .before .pre) (c .before .before .before .before .before .before .before .before .instantiate-constructor-type .ensures) in omega (arith, f .0, f .1, f .2, c .before .signature .ensures .0)
+add-la c = let f = few-nodes (rows (now (c .before .before .before .before .before .before .before .before .before .before .before .before .before .before .before .before .before .before .before .before .args .s))) (c .before .before .before .before .before .before .before .before .before .before .before .before .before .before .before .before .before .before .before .before .args .first) (c .before .before .before .before .before .before .before .before .before .before .before .before .before .before .before .before .before .before .before .before .args .n) (c .before .before .before .before .before .before .before .before .before .before .before .before .before .before .before .before .before .before .before .before .args .count) (c .before .before .before .before .before .before .before .before .before .before .before .before .before .before .before .before .before .before .before .before .args .want) (c .before .before .before .before .before .before .before .before .before .before .before .before .before .before .before .before .before .before .before .before .pre) (c .before .before .before .before .before .before .before .before .instantiate-constructor-type .ensures) in omega (arith, f .0, f .1, f .2, c .before .signature .ensures .0)
 
 sub-ln : tie.Need-sub-ln
 sub-ln c =
     let a = c .before .before .before .before .before .before .before .before .before .before .before .before .before .before .before .before .before .before .before .before .before .args in
     let p = c .before .before .before .before .before .before .before .before .before .before .before .before .before .before .before .before .before .before .before .before .before .pre in
-    let ls = triples (now (a .s)) in
+    let ls = rows (now (a .s)) in
     let O = c .before .before .before .before .before .before .before .before .before .instantiate-constructor-type .ensures in
     let o = c .before .before .before .before .before .before .before .before .before .instantiate-constructor-type .result in
     let f : (o .nodes ≤ a .n) × (o .at ≤ 8192) × (o .nodes ≤ 4096) = few-nodes ls (a .first) (a .n) (a .count) (a .want) p O in
@@ -47,13 +54,14 @@ push-sub-requires : tie.Need-push-sub-requires
 push-sub-requires c κs =
     let a = c .before .before .before .before .before .before .before .before .before .before .before .before .before .before .before .before .before .before .before .before .before .before .before .before .args in
     let p = c .before .before .before .before .before .before .before .before .before .before .before .before .before .before .before .before .before .before .before .before .before .before .before .before .pre in
-    let ls = triples (now (a .s)) in
+    let ls = rows (now (a .s)) in
     let O = c .before .before .before .before .before .before .before .before .before .before .before .before .instantiate-constructor-type .ensures in
     let o = c .before .before .before .before .before .before .before .before .before .before .before .before .instantiate-constructor-type .result in
     let f : (o .nodes ≤ a .n) × (o .at ≤ 8192) × (o .nodes ≤ 4096) = few-nodes ls (a .first) (a .n) (a .count) (a .want) p O in
     let S = c .before .before .before .before .before .signature .ensures in
     let st : c .before .before .before .before .before .signature .result .start ≤ o .nodes = S .0 in
-    let g : a .want .at + a .want .count ≤ 4096 = good-fits (p .good) in
+    let g : a .want .at + a .want .count ≤ a .want .lines + 1 = good-within (p .good) .0 in
+    let m = p .good .stands in
     let w = O .within in
     let e = c .before .before .before .before .before .before .before .before .before .before .before .before .before .before .before .before .before .instance .kept .0 in
     let r = p .right in
@@ -63,7 +71,7 @@ check-arity-requires : tie.Need-check-arity-requires
 check-arity-requires c κs =
     let a = c .before .before .before .before .before .before .before .before .before .before .before .before .before .before .before .before .before .before .before .before .before .before .before .before .before .before .before .args in
     let p = c .before .before .before .before .before .before .before .before .before .before .before .before .before .before .before .before .before .before .before .before .before .before .before .before .before .before .before .pre in
-    let ls = triples (now (a .s)) in
+    let ls = rows (now (a .s)) in
     let O = c .before .before .before .before .before .before .before .before .before .before .before .before .before .before .before .instantiate-constructor-type .ensures in
     let o = c .before .before .before .before .before .before .before .before .before .before .before .before .before .before .before .instantiate-constructor-type .result in
     let f : (o .nodes ≤ a .n) × (o .at ≤ 8192) × (o .nodes ≤ 4096) = few-nodes ls (a .first) (a .n) (a .count) (a .want) p O in
@@ -84,7 +92,7 @@ returns : tie.Need-returns
 returns c =
     let a = c .before .before .before .before .before .before .before .before .before .before .before .before .before .before .before .before .before .before .before .before .before .before .before .before .before .before .before .before .args in
     let p = c .before .before .before .before .before .before .before .before .before .before .before .before .before .before .before .before .before .before .before .before .before .before .before .before .before .before .before .before .pre in
-    let ls = triples (now (a .s)) in
+    let ls = rows (now (a .s)) in
     let O = c .before .before .before .before .before .before .before .before .before .before .before .before .before .before .before .before .instantiate-constructor-type .ensures in
     let o = c .before .before .before .before .before .before .before .before .before .before .before .before .before .before .before .before .instantiate-constructor-type .result in
     let f : (o .nodes ≤ a .n) × (o .at ≤ 8192) × (o .nodes ≤ 4096) = few-nodes ls (a .first) (a .n) (a .count) (a .want) p O in
@@ -96,4 +104,4 @@ returns c =
 
 pub pattern-parts-spec : {M : Type 1} → statement M
 pattern-parts-spec =
-    tie.close (tie.spec mul-ra (λ c κs. search needs) (λ c κs. search needs) signature-requires mul-la add-la sub-ln push-sub-requires check-arity-requires same-length same-length-2 same-length-3 returns)
+    tie.close (tie.spec mul-ra instance-requires (λ c κs. search needs) signature-requires mul-la add-la sub-ln push-sub-requires check-arity-requires same-length same-length-2 same-length-3 returns)

@@ -2,7 +2,7 @@ use mathlib.Core.Path.{_≡_}
 use native.Mathlib.Omega.{arith}
 use lib.ListN.{length-set}
 use denote.Ref.{now}
-use Rattle.sheet.specs.Plan.{triples}
+use Rattle.sheet.specs.Rows.{rows}
 use Rattle.references.proofs.Parts.{instance-part, instance-alone}
 use borrow.Author.Needs.{needs}
 use Rattle.references.proofs.instance.Statement.{statement}
@@ -15,12 +15,12 @@ returns : tie.Need-returns
 returns c =
     let a = c .before .before .before .before .args in
     let p = c .before .before .before .before .pre in
-    instance-alone (triples (now (a .s))) (a .r) (now (a .out)) (c .if1 .taken) (p .0) (let l = p .1 in omega arith)
+    instance-alone (rows (now (a .s))) (a .r) (now (a .out)) (c .if1 .taken) (p .0) (let l = p .1 in omega arith)
 
 returns-2 : tie.Need-returns-2
 returns-2 c =
     let a = c .before .before .before .before .before .before .before .before .args in
-    instance-part (triples (now (a .s))) (a .r) (now (a .out)) _ _ (let z = c .before .before .before .before .if1 .left in omega arith) (c .before .before .before .before .before .before .before .before .pre .0) (c .before .before .copy-opened .ensures)
+    instance-part (rows (now (a .s))) (a .r) (now (a .out)) _ _ (let z = c .before .before .before .before .if1 .left in omega arith) (c .before .before .before .before .before .before .before .before .pre .0) (c .before .before .copy-opened .ensures)
 
 pub instance-spec : {M : Type 1} → statement M
 instance-spec =

@@ -1,15 +1,15 @@
-use mathlib.Core.Path.{_≡_, sym, ap, _∙_}
-use Rattle.sheet.specs.Plan.{tripleOf}
-use Rattle.sheet.proofs.Lines.{triple-is}
+use mathlib.Core.Path.{_≡_, sym, _∙_}
+use Rattle.sheet.proofs.RowLaws.{row-is, row-none}
 use borrow.Author.Needs.{needs}
 use Rattle.sheet.proofs.triple_at.Statement.{statement}
 use Rattle.sheet.proofs.triple_at.Tie as tie
 
 returns : tie.Need-returns
-returns c = sym (triple-is _ _ ∙ ap tripleOf (sym (c .before .before .before .line-at .ensures) ∙ c .before .t .given .1))
+returns c = c .row-triple .ensures ∙ sym (row-is (c .before .before .before .before .before .args .s .now) (c .before .before .before .before .before .args .i) (c .before .before .before .if1 .taken))
 
 returns-2 : tie.Need-returns-2
-returns-2 c = sym (triple-is _ _ ∙ ap tripleOf (sym (c .before .before .line-at .ensures) ∙ c .enum-told .given .1))
+returns-2 c = sym (row-none (c .before .before .args .s .now) (c .before .before .args .i) (c .if1 .left))
 
 pub triple-at-spec : {M : Type 1} → statement M
-triple-at-spec = tie.close (tie.spec (λ c κs. search needs) (λ c. search needs) (λ c. search needs) returns returns-2)
+triple-at-spec =
+    tie.close (tie.spec (λ c. search needs) (λ c. search needs) (λ c. search needs) (λ c. search needs) (λ c. search needs) (λ c. search needs) (λ c. search needs) (λ c κs. search needs) returns returns-2)

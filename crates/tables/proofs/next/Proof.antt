@@ -1,6 +1,6 @@
 use native.Mathlib.Omega.{arith}
 use denote.Ref.{now}
-use Rattle.sheet.specs.Plan.{triples}
+use Rattle.sheet.specs.Rows.{rows}
 use Rattle.tables.proofs.Pops.{bounds, top-frame, taken-alone, taken-last, taken-more}
 use borrow.Author.Needs.{needs}
 use Rattle.tables.proofs.next.Statement.{statement}
@@ -10,13 +10,13 @@ returns : tie.Need-returns
 returns c =
     let a = c .before .before .before .before .before .before .args in
     let p = c .before .before .before .before .before .before .pre in
-    taken-alone (triples (now (a .s))) (now (a .w)) (a .depth) _ (p .1) (p .0) (c .before .get .ensures) (c .if1 .taken)
+    taken-alone (rows (now (a .s))) (now (a .w)) (a .depth) _ (p .1) (p .0) (c .before .get .ensures) (c .if1 .taken)
 
 split-frame-requires : tie.Need-split-frame-requires
 split-frame-requires c κs =
     let a = c .before .before .before .before .before .before .before .args in
     let p = c .before .before .before .before .before .before .before .pre in
-    (top-frame (triples (now (a .s))) (now (a .w)) (a .depth) _ (p .1) (p .0) (c .before .before .get .ensures), (let z = c .before .if1 .left in omega arith), p .3)
+    (top-frame (rows (now (a .s))) (now (a .w)) (a .depth) _ (p .1) (p .0) (c .before .before .get .ensures), (let z = c .before .if1 .left in omega arith), p .3)
 
 sub-rest : tie.Need-sub-rest
 sub-rest c =
@@ -53,14 +53,14 @@ returns-2 c =
     let a = c .before .before .before .before .before .before .before .before .before .before .before .before .before .before .before .before .args in
     let p = c .before .before .before .before .before .before .before .before .before .before .before .before .before .before .before .before .pre in
     let z = c .before .before .before .before .before .before .before .before .before .before .if1 .left in
-    taken-more (triples (now (a .s))) (now (a .w)) (a .depth) _ (p .1) (p .0) (c .before .before .before .before .before .before .before .before .before .before .before .get .ensures) (omega arith) _ (c .before .before .before .before .before .before .before .before .split-frame .ensures) _ (p .2) (c .before .before .put .ensures) (c .before .before .before .before .if2 .taken)
+    taken-more (rows (now (a .s))) (now (a .w)) (a .depth) _ (p .1) (p .0) (c .before .before .before .before .before .before .before .before .before .before .before .get .ensures) (omega arith) _ (c .before .before .before .before .before .before .before .before .split-frame .ensures) _ (p .2) (c .before .before .put .ensures) (c .before .before .before .before .if2 .taken)
 
 returns-3 : tie.Need-returns-3
 returns-3 c =
     let a = c .before .before .before .before .before .before .before .before .before .before .before .before .args in
     let p = c .before .before .before .before .before .before .before .before .before .before .before .before .pre in
     let z = c .before .before .before .before .before .before .if1 .left in
-    taken-last (triples (now (a .s))) (now (a .w)) (a .depth) _ (p .1) (p .0) (c .before .before .before .before .before .before .before .get .ensures) (omega arith) _ (c .before .before .before .before .split-frame .ensures) (c .if2 .left)
+    taken-last (rows (now (a .s))) (now (a .w)) (a .depth) _ (p .1) (p .0) (c .before .before .before .before .before .before .before .get .ensures) (omega arith) _ (c .before .before .before .before .split-frame .ensures) (c .if2 .left)
 
 pub next-spec : {M : Type 1} → statement M
 next-spec =

@@ -1,0 +1,63 @@
+-- A sheet that is taken, and its rows: what is known of the one is known of the other. Assumes nothing.
+use mathlib.Core.Path.{_≡_, refl, ap, subst, subst⁻¹}
+use mathlib.Core.Bool.{Bool, true, false, cond}
+use mathlib.Core.List.{List}
+use Prim.Native.Nat.{ℕ, _+_, _*_, _/_, _≤_}
+use native.Mathlib.Omega.{arith}
+use lib.ListN.{length}
+use Rattle.spelling.specs.declared.Triple.{Triple}
+use Rattle.grammar.specs.declared.Check.{Check}
+use Rattle.grammar.specs.declared.Check.the-variants.{Plan, Length}
+use Rattle.grammar.specs.Check.{check, lengthOk}
+use Rattle.grammar.proofs.Lines.{few-lines}
+use Rattle.sheet.specs.Plan.{triples, planOf}
+use Rattle.sheet.specs.Rows.{rows, Ended}
+use Rattle.sheet.specs.Form.{Formed}
+use Rattle.sheet.proofs.Lines.{length-triples}
+use Rattle.sheet.proofs.Formed.{formed}
+use Rattle.judgment.specs.Board.{chk}
+use Rattle.judgment.specs.declared.Answer.{Answer}
+use Rattle.judgment.specs.Result.{limits, envOf, judge}
+use Rattle.judgment.proofs.WholeRun.{EntryWhole, EnvWhole, plan-whole}
+use Rattle.judgment.proofs.Promised.{GoodPlan, sheet-plan}
+use Rattle.inferring.specs.Inferring.{CaseRoom}
+use Rattle.checker.specs.Running.{Read}
+use Rattle.checker.specs.Calling.{Ran}
+
+-- at most 2,000 lines
+pub plan-lines : (s : List ℕ) → check s ≡ Plan → length s / 29 ≤ 2000
+unfolding check
+plan-lines s e = go (lengthOk (length s)) refl _ e
+  where
+    go : (b : Bool) → lengthOk (length s) ≡ b → (x : Check) → cond b x Length ≡ Plan → length s / 29 ≤ 2000
+    go true h x q = few-lines (length s) h
+    go false h x q = absurd (let z : _≡_ {A = ℕ} 0 1 = cc in omega arith)
+
+module _ {d : List ℕ} (h : Read d) where
+  pub read-few : length (rows d) ≤ 2000
+  read-few =
+      let n = length-triples (h .sheet) in
+      let m = plan-lines (h .sheet) (h .plan) in
+      rw (h .same) (omega arith)
+
+  pub read-formed : Formed (rows d)
+  read-formed = subst⁻¹ Formed (h .same) (formed (h .sheet) (h .plan))
+
+  pub read-good : GoodPlan (planOf (rows d))
+  read-good = subst⁻¹ (λ (ls : List Triple). GoodPlan (planOf ls)) (h .same) (sheet-plan (h .sheet) (h .plan))
+
+  pub read-whole : (let p = planOf (rows d) in EnvWhole (envOf p) × EntryWhole (chk (p .term) (p .expected)))
+  read-whole = subst⁻¹ (λ (ls : List Triple). (let p = planOf ls in EnvWhole (envOf p) × EntryWhole (chk (p .term) (p .expected)))) (h .same) (plan-whole (h .sheet) (h .plan))
+
+-- ---- from the sheet to its rows
+pub was-read : (s : List ℕ) {d : List ℕ} → check s ≡ Plan → (rows d ≡ triples s) × Ended d → Read d
+was-read s h q = record { sheet = s; plan = h; same = q .0; ended = q .1 }
+
+pub case-room : (s : List ℕ) {d r w v : List ℕ} → rows d ≡ triples s → 2 * (length s / 29) + 2 ≤ length r → 6 * (length s / 29) + 12 ≤ length w → 6 * (length s / 29) + 6 ≤ length v → CaseRoom d r w v
+case-room s e x y z =
+    let n = length-triples s in
+    let m = ap length e in
+    record { right = omega arith; frames = omega arith; bound = omega arith }
+
+pub ran-as : {ls ms : List Triple} (c : ℕ) {b k rep : List ℕ} {a : Answer} → ls ≡ ms → Ran (judge limits c ls) b k rep a → Ran (judge limits c ms) b k rep a
+ran-as c {b} {k} {rep} {a} e r = subst (λ (ls : List Triple). Ran (judge limits c ls) b k rep a) e r
