@@ -16,6 +16,10 @@
 extern "C" {
 #endif
 
+/* The number of this interface. It rises with every change that a caller has to
+ * follow; kirvoghus_version says the library's. */
+#define KIRVOGHUS_VERSION 1
+
 /* The least lengths of the buffers, in words of 32 bits. */
 #define KIRVOGHUS_BOARD_WORDS 16384
 #define KIRVOGHUS_BOOK_WORDS 10192
@@ -158,6 +162,19 @@ uint32_t kirvoghus_check_type(
 uint32_t kirvoghus_read_sheet(
     const uint8_t *sheet, size_t sheet_len,
     uint32_t *line);
+
+/*
+ * What the library was built with, for programs that load it at run time or
+ * don't read this header. Each is the constant of its name above; a program
+ * that finds another number has a library of another interface.
+ */
+uint32_t kirvoghus_version(void);
+size_t kirvoghus_board_words(void);
+size_t kirvoghus_book_words(void);
+size_t kirvoghus_report_words(void);
+size_t kirvoghus_line_bytes(void);
+size_t kirvoghus_sheet_bytes(void);
+uint32_t kirvoghus_ceiling(void);
 
 #ifdef __cplusplus
 }

@@ -3,8 +3,9 @@
  * in columns of 6, the types that the result reports, and on request the
  * solutions in order of solving.
  *
- *     check [-c CEILING] [-s] [FILE]
+ *     check [-c CEILING] [-b WORDS] [-s] [FILE]
  *
+ * WORDS is the length of the board, by default the least that is taken.
  * Exit status: 0 accepted, 1 any other result, 2 not checked.
  *
  * Types are spelt as in the papers: n10 → Int, ∀n10. n10, a product (A × B), a
@@ -13,17 +14,22 @@
  */
 #include <errno.h>
 #include <stdio.h>
+#include <stdlib.h>
 #include <string.h>
 
 #include "kirvoghus.h"
 
 enum { NOT_CHECKED = 2 };
 
-/* One byte more than a sheet may have, so the library sees that it is too long. */
-static uint8_t sheet[KIRVOGHUS_SHEET_BYTES + 1];
-static uint32_t board[KIRVOGHUS_BOARD_WORDS];
-static uint32_t book[KIRVOGHUS_BOOK_WORDS];
-static uint32_t report[KIRVOGHUS_REPORT_WORDS];
+/*
+ * Areas of the lengths told to the library and no longer, with nothing written
+ * to the buffers before: a memory checker then sees a read or write past an end,
+ * and a word that is used before it is written.
+ */
+static uint8_t *sheet;
+static uint32_t *board;
+static uint32_t *book;
+static uint32_t *report;
 
 /* Where a type stands, for its parentheses: PART is left of an arrow or in a product. */
 enum place { ANYWHERE, PART, APPLIED, ARGUMENT };
@@ -240,9 +246,28 @@ static int read_number(const char *text, uint32_t *number)
     return 1;
 }
 
+/* An area that is not null, also for the length 0; null if there is no memory. */
+static void *area(size_t length, size_t size)
+{
+    void *start = length > SIZE_MAX / size ? NULL : malloc(length > 0 ? length * size : 1);
+
+    if (start == NULL)
+        fputs("check: no memory\n", stderr);
+    return start;
+}
+
+static int make_buffers(uint32_t board_words)
+{
+    return (board = area(board_words, sizeof *board)) != NULL
+        && (book = area(KIRVOGHUS_BOOK_WORDS, sizeof *book)) != NULL
+        && (report = area(KIRVOGHUS_REPORT_WORDS, sizeof *report)) != NULL;
+}
+
 /* The bytes of the file, or of standard input if there is no name. */
 static int read_sheet(const char *name, size_t *length)
 {
+    /* One byte more than a sheet may have, so the library sees that it is too long. */
+    static uint8_t bytes[KIRVOGHUS_SHEET_BYTES + 1];
     FILE *file = name == NULL ? stdin : fopen(name, "rb");
     int failed;
 
@@ -250,30 +275,63 @@ static int read_sheet(const char *name, size_t *length)
         fprintf(stderr, "%s: %s\n", name, strerror(errno));
         return 0;
     }
-    *length = fread(sheet, 1, sizeof sheet, file);
+    *length = fread(bytes, 1, sizeof bytes, file);
     failed = ferror(file);
     if (failed)
         fprintf(stderr, "%s: can't be read\n", name == NULL ? "standard input" : name);
     if (file != stdin)
         fclose(file);
-    return !failed;
+    if (failed || (sheet = area(*length, 1)) == NULL)
+        return 0;
+    memcpy(sheet, bytes, *length);
+    return 1;
+}
+
+/* Checks and prints; the exit status. */
+static int check(size_t length, uint32_t ceiling, uint32_t board_words, int solutions)
+{
+    uint32_t result[KIRVOGHUS_NUMBERS];
+    uint32_t number;
+    int printed;
+    int at;
+
+    number = kirvoghus_check_type(
+        sheet, length, ceiling,
+        board, board_words,
+        book, KIRVOGHUS_BOOK_WORDS,
+        report, KIRVOGHUS_REPORT_WORDS,
+        result);
+
+    for (at = 0; at < KIRVOGHUS_NUMBERS; at++)
+        printf("%6lu", (unsigned long)result[at]);
+    putchar('\n');
+    printed = print_report(result);
+    /* After results 1 to 5 nothing was written to the book. */
+    if (solutions && (number == KIRVOGHUS_ACCEPTED || number > KIRVOGHUS_UNFIT_LINE))
+        printed = printed && print_solutions();
+    if (fflush(stdout) != 0 || ferror(stdout))
+        return NOT_CHECKED;
+    if (!printed) {
+        fputs("check: the words left by the library are no types\n", stderr);
+        return NOT_CHECKED;
+    }
+    return number == KIRVOGHUS_ACCEPTED ? 0 : 1;
 }
 
 static int usage(void)
 {
-    fputs("usage: check [-c CEILING] [-s] [FILE]\n", stderr);
+    fputs("usage: check [-c CEILING] [-b WORDS] [-s] [FILE]\n", stderr);
     return NOT_CHECKED;
 }
 
 int main(int count, char **words)
 {
-    uint32_t result[KIRVOGHUS_NUMBERS];
     uint32_t ceiling = KIRVOGHUS_CEILING;
+    uint32_t board_words = KIRVOGHUS_BOARD_WORDS;
     const char *name = NULL;
     size_t length = 0;
-    uint32_t number;
     int solutions = 0;
-    int printed;
+    int status = NOT_CHECKED;
     int at;
 
     for (at = 1; at < count; at++) {
@@ -282,32 +340,20 @@ int main(int count, char **words)
         } else if (strcmp(words[at], "-c") == 0) {
             if (++at == count || !read_number(words[at], &ceiling))
                 return usage();
+        } else if (strcmp(words[at], "-b") == 0) {
+            if (++at == count || !read_number(words[at], &board_words))
+                return usage();
         } else if (name != NULL || words[at][0] == '-') {
             return usage();
         } else {
             name = words[at];
         }
     }
-    if (!read_sheet(name, &length))
-        return NOT_CHECKED;
-
-    number = kirvoghus_check_type(
-        sheet, length, ceiling,
-        board, KIRVOGHUS_BOARD_WORDS,
-        book, KIRVOGHUS_BOOK_WORDS,
-        report, KIRVOGHUS_REPORT_WORDS,
-        result);
-
-    for (at = 0; at < KIRVOGHUS_NUMBERS; at++)
-        printf("%6lu", (unsigned long)result[at]);
-    putchar('\n');
-    /* After results 1 to 5 report and book are still empty. */
-    printed = print_report(result) && (!solutions || print_solutions());
-    if (fflush(stdout) != 0 || ferror(stdout))
-        return NOT_CHECKED;
-    if (!printed) {
-        fputs("check: the words left by the library are no types\n", stderr);
-        return NOT_CHECKED;
-    }
-    return number == KIRVOGHUS_ACCEPTED ? 0 : 1;
+    if (make_buffers(board_words) && read_sheet(name, &length))
+        status = check(length, ceiling, board_words, solutions);
+    free(sheet);
+    free(board);
+    free(book);
+    free(report);
+    return status;
 }

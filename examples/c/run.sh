@@ -1,6 +1,7 @@
 #!/bin/sh
-# Builds the C program with warnings as errors, runs it on the sheets of `cases`
-# and compares with the stored outputs. KIRVOGHUS_LIB names the library, from this folder.
+# Builds the C program with warnings as errors, compares the header's constants with the
+# library's, runs the program on the sheets of `cases` and compares with the stored outputs.
+# KIRVOGHUS_LIB names the library, from this folder.
 cd "$(dirname "$0")" || exit 2
 library=${KIRVOGHUS_LIB:-../../target/staticlib/libexports.a}
 program=target/check
@@ -9,9 +10,22 @@ if [ ! -f "$library" ]; then
     exit 2
 fi
 mkdir -p target || exit 2
-${CC:-cc} -std=c99 -Wall -Wextra -Werror -pedantic -O2 -I../../include check.c "$library" -o "$program" || exit 2
+for name in check constants; do
+    ${CC:-cc} -std=c99 -Wall -Wextra -Werror -pedantic -O2 -g -I../../include $name.c "$library" -o target/$name || exit 2
+done
+# The header is C++ as well; asked where there is a compiler for it.
+if command -v "${CXX:-c++}" > /dev/null; then
+    "${CXX:-c++}" -fsyntax-only -x c++ -Wall -Wextra -Werror -pedantic ../../include/kirvoghus.h || exit 2
+fi
 
 failed=0
+if target/constants; then
+    echo "ok        constants"
+else
+    echo "DIFFERENT constants"
+    failed=1
+fi
+
 # A case's output and exit status, 0 only for an accepted plan, beside the stored output.
 compare() {
     case=$1 status=$2

@@ -23,6 +23,8 @@ extern "C" {
     ) -> u32;
 
     fn kirvoghus_read_sheet(sheet: *const u8, sheet_len: usize, line: *mut u32) -> u32;
+
+    fn kirvoghus_version() -> u32;
 }
 
 /// The seven numbers.
@@ -58,4 +60,41 @@ pub fn read_sheet(sheet: &[u8]) -> (u32, u32) {
     // SAFETY: as above.
     let number = unsafe { kirvoghus_read_sheet(sheet.as_ptr(), sheet.len(), &mut line) };
     (number, line)
+}
+
+/// The number of the library's interface.
+pub fn version() -> u32 {
+    // SAFETY: nothing is asked.
+    unsafe { kirvoghus_version() }
+}
+
+#[cfg(test)]
+mod tests {
+    use crate::{
+        version, BOARD_WORDS, BOOK_WORDS, LINE_BYTES, MOST_STEPS, REPORT_WORDS, SHEET_BYTES,
+        VERSION,
+    };
+
+    extern "C" {
+        fn kirvoghus_board_words() -> usize;
+        fn kirvoghus_book_words() -> usize;
+        fn kirvoghus_report_words() -> usize;
+        fn kirvoghus_line_bytes() -> usize;
+        fn kirvoghus_sheet_bytes() -> usize;
+        fn kirvoghus_ceiling() -> u32;
+    }
+
+    #[test]
+    fn the_library_says_the_same() {
+        assert_eq!(version(), VERSION);
+        // SAFETY: nothing is asked.
+        unsafe {
+            assert_eq!(kirvoghus_board_words(), BOARD_WORDS);
+            assert_eq!(kirvoghus_book_words(), BOOK_WORDS);
+            assert_eq!(kirvoghus_report_words(), REPORT_WORDS);
+            assert_eq!(kirvoghus_line_bytes(), LINE_BYTES);
+            assert_eq!(kirvoghus_sheet_bytes(), SHEET_BYTES);
+            assert_eq!(kirvoghus_ceiling(), MOST_STEPS);
+        }
+    }
 }

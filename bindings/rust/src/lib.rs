@@ -30,6 +30,10 @@ pub use buffers::{Buffers, Solutions, BOARD_WORDS, BOOK_WORDS, REPORT_WORDS};
 pub use outcome::{Outcome, Verdict};
 pub use types::{Name, Type};
 
+/// The number of the interface that this crate is made for; it rises with every
+/// change that a caller has to follow.
+pub const VERSION: u32 = 1;
+
 /// The highest ceiling: so many entries may be taken at most.
 pub const MOST_STEPS: u32 = 10_000;
 
@@ -64,4 +68,10 @@ pub fn check(sheet: &[u8], ceiling: u32, buffers: &mut Buffers) -> Outcome {
 pub fn read_sheet(sheet: &[u8]) -> Verdict {
     let (number, line) = foreign::read_sheet(sheet);
     Verdict::new([number, line, 0, 0, 0, 0, 0], &[])
+}
+
+/// The number of the interface that the linked library has: [`VERSION`], unless
+/// the library is another than this crate is made for.
+pub fn version() -> u32 {
+    foreign::version()
 }

@@ -3,9 +3,13 @@ use checker::check_type;
 use grammar::Check;
 use grammar::check_sheet;
 ghost use mathlib.Core.Path.{_≡_};
+ghost use lib.ListN.{length};
 ghost use Rattle.grammar.specs.Check.{check, checkNumber, checkLine};
-ghost use Rattle.judgment.specs.Result.{call};
+ghost use Rattle.nodes.specs.Nodes.{Ty};
+ghost use Rattle.judgment.specs.Solutions.{Solutions};
+ghost use Rattle.judgment.specs.Result.{call, boardWords, bookWords, reportWords};
 ghost use Rattle.judgment.specs.Wall.{numbers};
+ghost use Rattle.exports.specs.Interface.{version, boardSize, bookSize, reportSize, Least, Highest, Longest, OneLine};
 
 // Document 01's number of a sheet, 0, 3, 4 or 5, and its line.
 #[no_mangle]
@@ -55,4 +59,60 @@ pub extern "C" fn kirvoghus_check_type(
         a.plain,
     ];
     a.number
+}
+
+// The number of this interface, for a caller to compare with the one that it was written for.
+#[no_mangle]
+pub extern "C" fn kirvoghus_version() -> u32
+    ensures { λ r. ⌜ r ≡ version ⌝ }
+{
+    1
+}
+
+// The words of the board: so many are written by a run, and a call takes no fewer.
+#[no_mangle]
+pub extern "C" fn kirvoghus_board_words() -> usize
+    ensures { λ r. ⌜ (r ≡ length boardWords) × Least r bookSize reportSize ⌝ }
+{
+    16384
+}
+
+// The words of the book, the same.
+#[no_mangle]
+pub extern "C" fn kirvoghus_book_words() -> usize
+    ensures { λ r. ⌜ ((σ : Solutions) → r ≡ length (bookWords σ)) × Least boardSize r reportSize ⌝ }
+{
+    10192
+}
+
+// The words of the report, the same.
+#[no_mangle]
+pub extern "C" fn kirvoghus_report_words() -> usize
+    ensures { λ r. ⌜ ((t : Ty) → r ≡ length (reportWords t)) × Least boardSize bookSize r ⌝ }
+{
+    4096
+}
+
+// The highest ceiling that a call takes.
+#[no_mangle]
+pub extern "C" fn kirvoghus_ceiling() -> u32
+    ensures { λ r. ⌜ Highest r ⌝ }
+{
+    10000
+}
+
+// The bytes of the longest sheet.
+#[no_mangle]
+pub extern "C" fn kirvoghus_sheet_bytes() -> usize
+    ensures { λ r. ⌜ Longest r ⌝ }
+{
+    58000
+}
+
+// The bytes of a sheet's line, with its LF.
+#[no_mangle]
+pub extern "C" fn kirvoghus_line_bytes() -> usize
+    ensures { λ r. ⌜ OneLine r ⌝ }
+{
+    29
 }

@@ -1,0 +1,39 @@
+-- The number of the interface, and what its sizes are held to. Assumes nothing: these are definitions.
+use Prim.Native.Nat.{ℕ, _%_, _≤_}
+use mathlib.Core.Path.{_≡_}
+use mathlib.Core.Bool.{true, _||_}
+use mathlib.Core.List.{List, []}
+use lib.Dec.{ltb, eqb}
+use lib.ListN.{length}
+use Rattle.grammar.specs.Check.{lengthOk}
+use Rattle.judgment.specs.Result.{Buffers, boardWords, bookWords, reportWords, tooShort, call}
+
+-- the number of the interface; it rises with every change that a caller has to follow
+abbrev pub version : ℕ
+version = 1
+
+-- words of board, book and report after a run; for book and report they do not hang on what these hold
+abbrev pub boardSize : ℕ
+boardSize = length boardWords
+
+abbrev pub bookSize : ℕ
+bookSize = length (bookWords [])
+
+abbrev pub reportSize : ℕ
+reportSize = length (reportWords [])
+
+-- refusal 2 is for buffers of which one has fewer words than these
+abbrev pub Least : ℕ → ℕ → ℕ → Type 0
+Least board book report = (b : Buffers) → tooShort b ≡ (ltb (length (b .board)) board || (ltb (length (b .book)) book || ltb (length (b .report)) report))
+
+-- refusal 1 is for the ceilings above this one
+abbrev pub Highest : ℕ → Type 0
+Highest n = (s : List ℕ) (c : ℕ) (b : Buffers) → eqb (call s c b .answer .number) 1 ≡ ltb n c
+
+-- a sheet may be so long, and none longer
+abbrev pub Longest : ℕ → Type 0
+Longest n = (lengthOk n ≡ true) × ((m : ℕ) → lengthOk m ≡ true → m ≤ n)
+
+-- a sheet may be one line of so many bytes, and all are such lines
+abbrev pub OneLine : ℕ → Type 0
+OneLine n = (lengthOk n ≡ true) × ((m : ℕ) → lengthOk m ≡ true → m % n ≡ 0)
