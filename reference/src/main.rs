@@ -1,21 +1,9 @@
 //! Puts plans to the Rust module and gives its answers.
 
-mod checks;
-mod damage;
-mod generate;
-mod oracle;
-mod plan;
-mod random;
-mod readers;
-mod record;
-mod sheet;
-#[cfg(test)]
-mod tests;
-mod wall;
-
-use generate::{limits, small, Made};
-use oracle::{answer_lines, answer_sheet, Answer, MOST_STEPS};
-use plan::Node;
+use reference::generate::{self, limits, small, Made};
+use reference::oracle::{answer_lines, answer_sheet, Answer, MOST_STEPS};
+use reference::plan::Node;
+use reference::{checks, readers, record, wall, with_stack};
 use std::collections::BTreeMap;
 use std::io::{Read, Write};
 use std::process::ExitCode;
@@ -31,20 +19,7 @@ const USAGE: &str = "usage: reference COMMAND
   checks --seed S --count N --damaged M
                                        the Rust beside the proved checker: random plans, damaged
                                        sheets, the wall, the limits, small plans, short buffers
-  bench                                the mean times of both readers and both checkers
   stats --seed S --count N             the share of each number among random plans";
-
-/// Terms of 2,000 lines nest deep, and the Rust goes through them by recursion.
-const STACK: usize = 512 << 20;
-
-/// Runs on a stack that is deep enough for every plan.
-fn with_stack<T: Send + 'static>(run: impl FnOnce() -> T + Send + 'static) -> T {
-    let thread = std::thread::Builder::new().stack_size(STACK).spawn(run);
-    match thread.expect("a thread with a large stack").join() {
-        Ok(result) => result,
-        Err(panic) => std::panic::resume_unwind(panic),
-    }
-}
 
 fn main() -> ExitCode {
     let arguments: Vec<String> = std::env::args().skip(1).collect();
@@ -98,11 +73,6 @@ fn command(arguments: &[String]) -> Result<bool, String> {
             options.number("--count", None)?,
             options.number("--damaged", None)?,
         )),
-        "bench" => {
-            readers::bench();
-            checks::bench();
-            Ok(true)
-        }
         "stats" => stats(
             options.number("--seed", None)?,
             options.number("--count", None)?,

@@ -9,8 +9,6 @@ use plain::core::CoreType;
 use plain::errors::{TypeError, TypeResult};
 use plain::worklist::DKInference;
 use std::collections::HashMap;
-use std::hint::black_box;
-use std::time::{Duration, Instant};
 
 pub const MOST_STEPS: u32 = 10_000;
 
@@ -226,7 +224,8 @@ impl Stepwise {
     }
 }
 
-fn inference(plan: &Plan) -> DKInference {
+/// The Rust as it is, before its first entry.
+pub fn inference(plan: &Plan) -> DKInference {
     let constructors: HashMap<_, _> = plan.constructors.iter().cloned().collect();
     let context: HashMap<_, _> = plan.context.iter().cloned().collect();
     DKInference::with_context(constructors, context)
@@ -256,14 +255,6 @@ fn assert_before(plan: &Plan, answer: &Answer) {
     assert!(!run.rust.is_done(), "{plan:?}");
     assert!(answer.solutions.starts_with(&run.solutions), "{plan:?}");
     assert!(run.rust.fresh() as u32 <= answer.fresh, "{plan:?}");
-}
-
-/// How long `check_type` takes, without the making of its inputs.
-pub fn timed_check_type(plan: &Plan) -> Duration {
-    let mut rust = inference(plan);
-    let start = Instant::now();
-    let _ = black_box(rust.check_type(black_box(&plan.term), &plan.expected));
-    start.elapsed()
 }
 
 fn assert_check_type(plan: &Plan, answer: &Answer) {

@@ -243,7 +243,8 @@ fn flat_sum(leaves: usize) -> Lines {
     .concat()
 }
 
-fn numbers() -> Vec<Found> {
+/// 1,000 fresh numbers exactly, and one more.
+pub fn numbers() -> Vec<Found> {
     let family = (495..505).flat_map(|leaves| {
         let below_case = [line(27, 0, 1), seven(), line(41, 0, 0)];
         let sum = flat_sum(leaves);
@@ -347,7 +348,7 @@ fn many_steps(arms: usize, sums: usize, pads: usize) -> Lines {
 }
 
 /// 10,000 entries exactly, and one more.
-fn ceiling() -> Vec<Found> {
+pub fn ceiling() -> Vec<Found> {
     let taken = |lines: &Lines| {
         let run = run(lines);
         (run.answer.number, run.answer.taken)

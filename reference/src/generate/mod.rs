@@ -3,7 +3,7 @@
 mod directed;
 pub mod limits;
 pub mod small;
-mod types;
+pub mod types;
 mod wild;
 
 use crate::oracle::MOST_STEPS;
@@ -44,7 +44,7 @@ fn ceiling(random: &mut Random) -> u32 {
 }
 
 /// The sheet's lines from its four parts.
-fn sheet(
+pub fn sheet(
     constructors: &BTreeMap<u32, Ty>,
     context: &BTreeMap<u32, Ty>,
     expected: &Ty,

@@ -1,0 +1,107 @@
+//! Measures `check_type` of the Rust and of the proved checker in one process
+//! on the same plans.
+
+mod clock;
+mod families;
+mod floor;
+mod measure;
+mod plans;
+mod readers;
+mod table;
+mod targets;
+
+use measure::{measure, Turns, FULL, QUICK};
+use plans::{plans, Plan};
+use reference::checks::put;
+use reference::oracle::MOST_STEPS;
+use reference::proved::{proved, Check, SIZES};
+use reference::sheet::{read, write};
+use reference::with_stack;
+use std::io::Write;
+use std::process::ExitCode;
+use table::Row;
+
+const USAGE: &str = "usage: bench [--quick] [--only TEXT] [--sheets]
+  --quick      fewer turns
+  --only TEXT  the plans with the text in their title
+  --sheets     writes the sheets and measures nothing";
+
+struct Options {
+    turns: Turns,
+    only: String,
+    sheets: bool,
+}
+
+fn options() -> Option<Options> {
+    let mut options = Options {
+        turns: FULL,
+        only: String::new(),
+        sheets: false,
+    };
+    let mut words = std::env::args().skip(1);
+    while let Some(word) = words.next() {
+        match word.as_str() {
+            "--quick" => options.turns = QUICK,
+            "--only" => options.only = words.next()?,
+            "--sheets" => options.sheets = true,
+            _ => return None,
+        }
+    }
+    Some(options)
+}
+
+fn main() -> ExitCode {
+    let Some(options) = options() else {
+        eprintln!("{USAGE}");
+        return ExitCode::from(2);
+    };
+    with_stack(move || match run(&options) {
+        Ok(()) => ExitCode::SUCCESS,
+        Err(message) => {
+            eprintln!("{message}");
+            ExitCode::FAILURE
+        }
+    })
+}
+
+fn run(options: &Options) -> Result<(), String> {
+    let mut plans = plans();
+    plans.retain(|plan| plan.title.contains(&options.only));
+    if options.sheets {
+        let sheets: Vec<u8> = plans.iter().flat_map(|plan| write(&plan.lines)).collect();
+        let written = std::io::stdout().write_all(&sheets);
+        return written.map_err(|error| error.to_string());
+    }
+    let proved = proved().ok_or("the proved checker is not linked")?;
+    table::print_heads(options.turns.total);
+    let mut rows = Vec::new();
+    for plan in plans {
+        let row = row(options.turns, proved.check, plan)?;
+        row.print();
+        rows.push(row);
+    }
+    targets::print(&rows);
+    if options.only.is_empty() {
+        readers::print(options.turns, proved.read);
+    }
+    Ok(())
+}
+
+/// Puts a plan to both, then measures it; an error if the answers differ.
+fn row(turns: Turns, check: Check, plan: Plan) -> Result<Row, String> {
+    let sheet = write(&plan.lines);
+    let put = put(check, &sheet, MOST_STEPS, 1, SIZES);
+    if !put.same {
+        let (title, rust, ours) = (&plan.title, put.answer.seven(), put.seven);
+        return Err(format!(
+            "{title}: numbers or buffers differ: the Rust {rust:?}, ours {ours:?}"
+        ));
+    }
+    let trees = read(&sheet).map_err(|refusal| format!("{}: {refusal:?}", plan.title))?;
+    let measured = measure(turns, check, &trees, &sheet);
+    Ok(Row {
+        plan,
+        answer: put.answer,
+        measured,
+    })
+}

@@ -1,0 +1,88 @@
+//! The proved checker and its reader, from the static library that build.rs
+//! links with the feature `proved`.
+
+use crate::sheet::Refusal;
+
+/// The least lengths of board, book and report.
+pub const SIZES: [usize; 3] = [16_384, 10_192, 4_096];
+
+/// Board, book and report.
+pub type Buffers = [Vec<u32>; 3];
+
+/// Sheet, ceiling and buffers to the number returned and the seven.
+pub type Check = fn(&[u8], u32, &mut Buffers) -> (u32, [u32; 7]);
+
+/// Number and line, both 0 for a plan.
+pub type Read = fn(&[u8]) -> Refusal;
+
+pub struct Proved {
+    pub check: Check,
+    pub read: Read,
+}
+
+/// Says how, where the library is not linked.
+pub fn proved() -> Option<Proved> {
+    const HOW: &str = "build with the proved checker: put libexports.a at ../target/staticlib/ \
+        or its path into KIRVOGHUS_LIB, then cargo build --offline --release --features proved";
+    if PROVED.is_none() {
+        eprintln!("{HOW}");
+    }
+    PROVED
+}
+
+#[cfg(not(feature = "proved"))]
+const PROVED: Option<Proved> = None;
+#[cfg(feature = "proved")]
+const PROVED: Option<Proved> = Some(Proved {
+    check: linked::check,
+    read: linked::read,
+});
+
+#[cfg(feature = "proved")]
+mod linked {
+    use super::{Buffers, Refusal};
+
+    extern "C" {
+        fn kirvoghus_read_sheet(sheet: *const u8, len: usize, line: *mut u32) -> u32;
+        fn kirvoghus_check_type(
+            sheet: *const u8,
+            sheet_len: usize,
+            ceiling: u32,
+            board: *mut u32,
+            board_len: usize,
+            book: *mut u32,
+            book_len: usize,
+            report: *mut u32,
+            report_len: usize,
+            result: *mut [u32; 7],
+        ) -> u32;
+    }
+
+    pub fn read(sheet: &[u8]) -> Refusal {
+        let mut line = 0;
+        // The library reads `len` bytes from the pointer and writes one number.
+        let number = unsafe { kirvoghus_read_sheet(sheet.as_ptr(), sheet.len(), &mut line) };
+        Refusal { number, line }
+    }
+
+    pub fn check(sheet: &[u8], ceiling: u32, buffers: &mut Buffers) -> (u32, [u32; 7]) {
+        let [board, book, report] = buffers;
+        let mut result = [u32::MAX; 7];
+        // The library stays within the lengths that it is told.
+        let number = unsafe {
+            kirvoghus_check_type(
+                sheet.as_ptr(),
+                sheet.len(),
+                ceiling,
+                board.as_mut_ptr(),
+                board.len(),
+                book.as_mut_ptr(),
+                book.len(),
+                report.as_mut_ptr(),
+                report.len(),
+                &mut result,
+            )
+        };
+        (number, result)
+    }
+}
