@@ -1,0 +1,66 @@
+// Reads a sheet on standard input, checks its plan with the ceiling 10,000, and says in words what came out.
+ghost use mathlib.Core.Path.{_≡_};
+ghost use Prim.Native.Nat.{_≤_};
+ghost use lib.ListN.{length};
+ghost use Rattle.plan_explain.specs.Told.{Told};
+use checker::check_type;
+use input::Got;
+use input::fill;
+use io::write_all;
+use libc::STDERR_FILENO;
+use libc::STDOUT_FILENO;
+use sentences::explain;
+
+// What is to be said of a sheet, at the front of `text`. Answers how many bytes that is.
+fn tell(
+    sheet: &[u8],
+    board: &mut [u32],
+    book: &mut [u32],
+    report: &mut [u32],
+    text: &mut [u8],
+) -> usize
+    requires { ⌜ (length (now report) ≡ 4096) × (48000 ≤ length (now text)) ⌝ }
+    ensures { λ r. ⌜ Told (now (sheet .entry)) (record { board = now (board .entry); book = now (book .entry); report = now (report .entry) }) (now (text .exit)) r ⌝ }
+{
+    let answer = check_type(sheet, 10000, board, book, report);
+    explain(text, answer, report)
+}
+
+fn write_out(text: &[u8]) {
+    if !write_all(STDOUT_FILENO, text) {
+        let _told = write_all(STDERR_FILENO, b"plan_explain: the answer was not written\n");
+    }
+}
+
+// A sheet that fills the buffer is too long, and gets 3 as it stands.
+fn tell_input(
+    sheet: &mut [u8],
+    board: &mut [u32],
+    book: &mut [u32],
+    report: &mut [u32],
+    text: &mut [u8],
+)
+    requires { ⌜ (length (now report) ≡ 4096) × (48000 ≤ length (now text)) ⌝ }
+{
+    match fill(sheet, 0) {
+        Got::Failed => {
+            let _told = write_all(
+                STDERR_FILENO,
+                b"plan_explain: standard input was not read\n",
+            );
+        }
+        Got::To(n) => {
+            let end = tell(&sheet[..n], board, book, report, text);
+            write_out(&text[..end]);
+        }
+    }
+}
+
+fn main() {
+    let mut sheet = [0u8; 58001];
+    let mut board = [0u32; 16384];
+    let mut book = [0u32; 10192];
+    let mut report = [0u32; 4096];
+    let mut text = [0u8; 48000];
+    tell_input(&mut sheet, &mut board, &mut book, &mut report, &mut text);
+}
