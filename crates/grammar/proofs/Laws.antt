@@ -8,7 +8,7 @@ use native.Mathlib.Omega.{arith}
 use lib.ListN.{length, drop}
 use Rattle.spelling.specs.declared.Line.{Line}
 use Rattle.spelling.specs.declared.Line.the-variants.{Spelt, Misspelt}
-use Rattle.spelling.specs.Spelling.{lineAt, linesFrom}
+use Rattle.spelling.specs.Spelling.{lineAt, linesFrom, firstMisspelt}
 use Rattle.spelling.proofs.Laws.{length-lines, lines-cons, lines-nil, past-end}
 use Rattle.grammar.specs.declared.Got.{Got}
 use Rattle.grammar.specs.declared.Got.the-variants.{Next, Refused}
@@ -43,6 +43,20 @@ bounds [] [] at k e = let z : at ≡ k = cc (nothing [] at) in omega arith
 bounds [] (x ∷ ahead) at k e = absurd (no-line x ahead at k e)
 bounds (l ∷ ls) [] at k e = let z : at ≡ k = cc (nothing (l ∷ ls) at) in omega arith
 bounds (l ∷ ls) (x ∷ ahead) at k e = let h = bounds ls (due x l ++ ahead) (at + 1) k (one l ls x ahead at k e .1) in omega arith
+
+-- a misspelt line stands nowhere
+misspelt-nowhere : (x : Item) → ok x Misspelt ≡ true → ⊥
+misspelt-nowhere (part x) e = let z : _≡_ {A = ℕ} 0 1 = cc in omega arith
+misspelt-nowhere (entries k last) e = let z : _≡_ {A = ℕ} 0 1 = cc in omega arith
+misspelt-nowhere goal e = let z : _≡_ {A = ℕ} 0 1 = cc in omega arith
+
+-- lines that are read to the end are spelt
+pub all-spelt : (ls : List Line) (ahead : List Item) (at k : ℕ) → read ls ahead at ≡ Next k → k ≡ at + length ls → firstMisspelt ls ≡ length ls
+unfolding firstMisspelt
+all-spelt [] ahead at k e h = refl
+all-spelt (l ∷ ls) [] at k e h = absurd (let z : at ≡ k = cc (nothing (l ∷ ls) at) in omega arith)
+all-spelt (Spelt t ∷ ls) (x ∷ ahead) at k e h = ap suc (all-spelt ls (due x (Spelt t) ++ ahead) (at + 1) k (one (Spelt t) ls x ahead at k e .1) (omega arith))
+all-spelt (Misspelt ∷ ls) (x ∷ ahead) at k e h = absurd (misspelt-nowhere x (one Misspelt ls x ahead at k e .0))
 
 strict : (ls : List Line) (x : Item) (ahead : List Item) (at k : ℕ) → read ls (x ∷ ahead) at ≡ Next k → at < k
 strict [] x ahead at k e = absurd (no-line x ahead at k e)

@@ -4,9 +4,10 @@ use mathlib.Core.Bool.{Bool, true, false, cond, _&&_}
 use mathlib.Core.List.{List, [], _∷_, _++_}
 use Prim.Native.Nat.{ℕ, zero, suc, _+_, _-_, _/_, _%_, _≤_, _<_}
 use native.Mathlib.Omega.{arith}
+use native.Mathlib.Nat.{sub-zero}
 use lib.ListN.{length}
 use lib.Dec.{ltb, leb, eqb}
-use borrow.Author.Tests.{ltb-true, leb-true}
+use borrow.Author.Tests.{ltb-true, leb-true, le-ltb, eqb-true}
 use Rattle.spelling.specs.declared.Line.{Line}
 use Rattle.spelling.specs.Spelling.{linesFrom, linesOf, firstMisspelt}
 use Rattle.spelling.proofs.Laws.{length-lines}
@@ -15,8 +16,8 @@ use Rattle.grammar.specs.declared.Got.the-variants.{Next, Refused}
 use Rattle.grammar.specs.declared.Check.{Check}
 use Rattle.grammar.specs.declared.Check.the-variants.{Plan, Length, Misspelt, Unfit}
 use Rattle.grammar.specs.Grammar.{Item, entries, ok, due, read, readAt}
-use Rattle.grammar.specs.Check.{lengthOk, endOf, readSheet, fitting, check, checkLine}
-use Rattle.grammar.proofs.Laws.{within}
+use Rattle.grammar.specs.Check.{lengthOk, endOf, readSheet, fitting, misspeltFirst, check, checkLine}
+use Rattle.grammar.proofs.Laws.{cond-next, all-spelt, within}
 
 -- where reading stops: at most one line past the last
 abbrev Stop : ℕ → Got → Type 0
@@ -82,3 +83,25 @@ line-small s = length-test (lengthOk (length s)) refl
     length-test : (t : Bool) → lengthOk (length s) ≡ t → checkLine (cond t (cond (ltb m (length s / 29)) (Misspelt (m + 1)) (fitting (readSheet s))) Length) ≤ 2001
     length-test true e = spelt (few-lines (length s) e) (ltb m (length s / 29)) refl
     length-test false e = omega arith
+
+-- ---- a plan's lines are spelt
+end-next : (n : ℕ) (g : Got) (k : ℕ) → endOf n g ≡ Next k → (g ≡ Next k) × (k ≡ n)
+end-next n (Next j) k e =
+    let h = cond-next (eqb j n) (Next j) (j + 1) k e in
+    let q = h .1 in
+    let z : j ≡ k = cc in
+    (q, sym z ∙ eqb-true j n (h .0))
+end-next n (Refused l) k e = absurd (let z : _≡_ {A = ℕ} 0 1 = cc in omega arith)
+
+plan-spelt : (s : List ℕ) (k : ℕ) → readSheet s ≡ Next k → firstMisspelt (linesOf s) ≡ length s / 29
+unfolding readSheet readAt linesOf
+plan-spelt s k e =
+    let h = end-next (length s / 29) _ k e in
+    let n : length (linesFrom s 0 (length s / 29)) ≡ length s / 29 = length-lines s 0 (length s / 29) in
+    let r : read (linesFrom s 0 (length s / 29)) (entries 1 0 ∷ []) 0 ≡ Next k = sym (ap (λ (m : ℕ). read (linesFrom s 0 m) (entries 1 0 ∷ []) 0) (sub-zero (length s / 29))) ∙ h .0 in
+    let q = h .1 in
+    all-spelt (linesFrom s 0 (length s / 29)) (entries 1 0 ∷ []) 0 k r (omega arith) ∙ n
+
+-- so a plan is not refused for a line's spelling
+pub plan-first : (s : List ℕ) (k : ℕ) → readSheet s ≡ Next k → (x : Check) → misspeltFirst s x ≡ x
+plan-first s k e x = let h = plan-spelt s k e in rw (le-ltb (firstMisspelt (linesOf s)) (length s / 29) (omega arith))

@@ -28,12 +28,17 @@ abbrev pub fitting : Got → Check
 fitting (Next k) = Plan
 fitting (Refused l) = Unfit l
 
+-- 4 over all lines, and then x
+abbrev pub misspeltFirst : List ℕ → Check → Check
+misspeltFirst s x = cond (ltb (firstMisspelt (linesOf s)) (length s / 29)) (Misspelt (firstMisspelt (linesOf s) + 1)) x
+
+-- what a sheet that has a length, and is no plan from line l on, is refused for
+abbrev pub refusal : List ℕ → ℕ → Check
+refusal s l = misspeltFirst s (Unfit l)
+
 -- 3 to 5 are tried in order, 4 over all lines before 5
 unfoldable pub check : List ℕ → Check
-check s =
-    cond (lengthOk (length s))
-    (cond (ltb (firstMisspelt (linesOf s)) (length s / 29)) (Misspelt (firstMisspelt (linesOf s) + 1)) (fitting (readSheet s)))
-    Length
+check s = cond (lengthOk (length s)) (misspeltFirst s (fitting (readSheet s))) Length
 
 -- document 01's number, and its line
 abbrev pub checkNumber : Check → ℕ

@@ -16,7 +16,7 @@ ghost use lib.ListN.{length, replicate};
 ghost use Rattle.spelling.specs.Spelling.{lineAt};
 ghost use Rattle.kinds.specs.Kinds.{aType, aTerm, aPattern};
 ghost use Rattle.grammar.specs.Grammar.{part, entries, goal, headIn, named as namedBy, declaredBy, declaredIn, isGoal, goalIn, arms, following, readAt, subTerm};
-ghost use Rattle.grammar.specs.Check.{readSheet, check};
+ghost use Rattle.grammar.specs.Check.{readSheet, refusal, check};
 
 // Where reading goes on, counted from 0; or the line, counted from 1, that can't continue a plan.
 pub enum Got {
@@ -312,20 +312,27 @@ pub enum Check {
     Unfit(usize),
 }
 
-// The tests of a sheet, in order.
+// A sheet that is no plan, line l of which can't continue one: a misspelt line anywhere comes before.
+fn refused_at(s: &[u8], l: usize) -> Check
+    ensures { λ r. ⌜ r ≡ refusal (now (s .entry)) l ⌝ }
+{
+    let i = first_misspelt(s);
+    if i < s.len() / 29 {
+        return Check::Misspelt(i + 1);
+    }
+    Check::Unfit(l)
+}
+
+// The tests of a sheet. Lines that make up a plan are spelt, so only a refused sheet is searched for a misspelt one.
 pub fn check_sheet(s: &[u8]) -> Check
     ensures { λ r. ⌜ r ≡ check (now (s .entry)) ⌝ }
 {
     if 0 < s.len() {
         if s.len() <= 58000 {
             if s.len() % 29 == 0 {
-                let i = first_misspelt(s);
-                if i < s.len() / 29 {
-                    return Check::Misspelt(i + 1);
-                }
                 return match read_sheet(s) {
                     Got::Next(_) => Check::Plan,
-                    Got::Refused(l) => Check::Unfit(l),
+                    Got::Refused(l) => refused_at(s, l),
                 };
             }
         }
