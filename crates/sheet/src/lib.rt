@@ -1,5 +1,6 @@
 // The plan on a sheet: its lines, where a part starts, its entries, where its expected type and its term start, the plain mark.
-// A sheet is read once into rows, and the rules read those. Every function takes any words; what they mean as a plan is for a sheet that `grammar::check_sheet` takes.
+// A sheet is read once into rows, and the rules read those. A function that looks for a part's end asks for rows that have their ends, as `read_rows` gives them; the others take any words. What
+// they mean as a plan is for a sheet that `grammar::check_sheet` takes.
 use kinds::parts_of;
 use spelling::Line;
 use spelling::Triple;
