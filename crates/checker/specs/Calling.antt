@@ -31,7 +31,7 @@ pub record RunAsk (s b k rep : List ℕ) : Type 0 where
 -- rows for its lines, and the room of a Case
 pub record RowsAsk (s b k rep d r w v : List ℕ) : Type 0 where
   pub run : RunAsk s b k rep
-  pub rows : length d ≡ 2 * (length s / 29)
+  pub rows : length d ≡ 4 * (length s / 29)
   pub right : 2 * (length s / 29) + 2 ≤ length r
   pub frames : 6 * (length s / 29) + 12 ≤ length w
   pub bound : 6 * (length s / 29) + 6 ≤ length v

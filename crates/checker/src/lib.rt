@@ -318,7 +318,7 @@ fn run_short(
     requires { ⌜ RunAsk (now s) (now board) (now book) (now report) × (length (now s) / 29 ≤ 64) ⌝ }
     ensures { λ o. ⌜ Ran (judge limits ceiling (triples (now (s .entry)))) (now (board .exit)) (now (book .exit)) (now (report .exit)) o ⌝ }
 {
-    let mut d = [0u64; 128];
+    let mut d = [0u64; 256];
     let mut r = [0u32; 130];
     let mut w = [0usize; 396];
     let mut v = [0usize; 390];
@@ -328,7 +328,7 @@ fn run_short(
         board,
         book,
         report,
-        &mut d[..2 * (s.len() / 29)],
+        &mut d[..4 * (s.len() / 29)],
         &mut r,
         &mut w,
         &mut v,
@@ -346,7 +346,7 @@ fn run_middle(
     requires { ⌜ RunAsk (now s) (now board) (now book) (now report) × (length (now s) / 29 ≤ 256) ⌝ }
     ensures { λ o. ⌜ Ran (judge limits ceiling (triples (now (s .entry)))) (now (board .exit)) (now (book .exit)) (now (report .exit)) o ⌝ }
 {
-    let mut d = [0u64; 512];
+    let mut d = [0u64; 1024];
     let mut r = [0u32; 514];
     let mut w = [0usize; 1548];
     let mut v = [0usize; 1542];
@@ -356,7 +356,7 @@ fn run_middle(
         board,
         book,
         report,
-        &mut d[..2 * (s.len() / 29)],
+        &mut d[..4 * (s.len() / 29)],
         &mut r,
         &mut w,
         &mut v,
@@ -374,7 +374,7 @@ fn run_long(
     requires { ⌜ RunAsk (now s) (now board) (now book) (now report) ⌝ }
     ensures { λ o. ⌜ Ran (judge limits ceiling (triples (now (s .entry)))) (now (board .exit)) (now (book .exit)) (now (report .exit)) o ⌝ }
 {
-    let mut d = [0u64; 4000];
+    let mut d = [0u64; 8000];
     let mut r = [0u32; 4002];
     let mut w = [0usize; 12012];
     let mut v = [0usize; 12006];
@@ -384,7 +384,7 @@ fn run_long(
         board,
         book,
         report,
-        &mut d[..2 * (s.len() / 29)],
+        &mut d[..4 * (s.len() / 29)],
         &mut r,
         &mut w,
         &mut v,

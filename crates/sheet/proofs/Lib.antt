@@ -1,6 +1,7 @@
 pub mod Lines
 pub mod RowLaws
 pub mod Declarations
+pub mod Links
 pub mod Marks
 pub mod Forming
 pub mod Formed

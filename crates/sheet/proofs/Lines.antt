@@ -89,6 +89,13 @@ module _ (ls : List Triple) (at n : ℕ) where
       let k = length-take partsOf (drop at ls) n in
       omega arith
 
+  pub line-inside : at ≤ length ls → partLine ls at n ≤ length ls
+  unfolding partLine
+  line-inside h =
+      let e = length-drop at ls in
+      let k = length-take partsOf (drop at ls) n in
+      omega arith
+
   pub lines-between : partLine ls at n - at ≡ length (takeParts partsOf (drop at ls) n)
   unfolding partLine
   lines-between = omega arith

@@ -1,13 +1,15 @@
--- A sheet that was read, as rows of two words: a line's value; and its kind, sign and count with the line after the part that starts there.
+-- A sheet that was read, as rows of two words: a line's value; and its kind, sign and count with the line after the part that starts there. Behind the rows stand links between the entries.
 -- Assumes nothing: these are definitions.
 use mathlib.Core.Path.{_≡_}
 use mathlib.Core.Bool.{cond}
 use mathlib.Core.List.{List, [], _∷_}
-use Prim.Native.Nat.{ℕ, _+_, _*_, _/_, _%_, _≤_, _<_}
-use lib.Dec.{eqb}
-use lib.ListN.{length, getD, set}
+use Prim.Native.Nat.{ℕ, zero, suc, _+_, _*_, _-_, _/_, _%_, _≤_, _<_}
+use lib.Dec.{eqb, ltb}
+use lib.ListN.{length, getD, set, drop}
 use Rattle.spelling.specs.declared.Triple.{Triple}
-use Rattle.sheet.specs.Plan.{noTriple, triples, partLine}
+use Rattle.sheet.specs.declared.Found.{Found}
+use Rattle.sheet.specs.declared.Found.the-variants.{At, Nothing}
+use Rattle.sheet.specs.Plan.{noTriple, triples, partLine, named, findEntry}
 
 -- the second word: 10 bits of kind, one of sign, 17 of count, and then the line
 abbrev pub packed : Triple → ℕ → ℕ
@@ -16,11 +18,16 @@ packed t end = t .kind + 1024 * (cond (t .negative) 1 0 + 2 * (t .count + 131072
 abbrev pub rowTriple : ℕ → ℕ → Triple
 rowTriple v p = record { kind = p % 1024; negative = eqb (p / 1024 % 2) 1; value = v; count = p / 2048 % 131072 }
 
--- the lines that are held
+-- the lines that are held: the words are as many rows, and then two words for each line
+unfoldable pub rowsFrom : ℕ → List ℕ → List Triple
+rowsFrom zero d = []
+rowsFrom (suc n) d = rowTriple (getD d 0 0) (getD d 1 0) ∷ rowsFrom n (drop 2 d)
+
+abbrev pub lineCount : List ℕ → ℕ
+lineCount d = length d / 4
+
 unfoldable pub rows : List ℕ → List Triple
-rows [] = []
-rows (v ∷ []) = []
-rows (v ∷ p ∷ d) = rowTriple v p ∷ rows d
+rows d = rowsFrom (lineCount d) d
 
 -- the line after the part that starts at line i
 abbrev pub endAt : List ℕ → ℕ → ℕ
@@ -30,18 +37,53 @@ endAt d i = getD d (2 * i + 1) 0 / 268435456
 abbrev pub EndsFrom : List Triple → List ℕ → ℕ → Type 0
 EndsFrom ls d at = (i : ℕ) → at ≤ i → i < length ls → endAt d i ≡ partLine ls i 1
 
--- every end is that of the lines that are held
-abbrev pub Ended : List ℕ → Type 0
-Ended d = EndsFrom (rows d) d 0
+-- ---- links: an entry is written as the line after it, and 0 is none
+-- the first entry with that remainder, and the next one with the remainder of the entry at line i
+abbrev pub firstAt : List ℕ → ℕ → ℕ
+firstAt d slot = getD d (2 * lineCount d + slot) 0
+
+abbrev pub nextAt : List ℕ → ℕ → ℕ
+nextAt d i = getD d (3 * lineCount d + i) 0
+
+-- the entry of kind k and name x among at most n that are linked from `at` on
+unfoldable pub linkedFrom : ℕ → List ℕ → ℕ → ℕ → ℕ → ℕ
+linkedFrom zero d k x at = 0
+linkedFrom (suc n) d k x at =
+    let others = linkedFrom n d k x (nextAt d (at - 1)) in
+    cond (eqb at 0) 0 (cond (ltb (lineCount d) at) 0 (cond (named k x (getD (rows d) (at - 1) noTriple)) at others))
+
+unfoldable pub linked : List ℕ → ℕ → ℕ → ℕ
+linked d k x = linkedFrom (lineCount d) d k x (firstAt d (x % lineCount d))
+
+-- where the type of an entry stands that is linked
+abbrev pub placed : List Triple → ℕ → Found
+placed ls zero = Nothing
+placed ls (suc i) = At (suc i) (partLine ls (suc i) 1 - suc i)
+
+-- every end is that of the lines that are held, and the links lead to every entry
+pub record Ended (d : List ℕ) : Type 0 where
+  pub ends : EndsFrom (rows d) d 0
+  pub found : (k x : ℕ) → placed (rows d) (linked d k x) ≡ findEntry k x (rows d)
+
+-- the entry at line i put in front of those with the remainder of its name
+abbrev pub inFront : List ℕ → ℕ → ℕ → List ℕ
+inFront d slot i = set (set d (3 * lineCount d + i) (firstAt d slot)) (2 * lineCount d + slot) (i + 1)
+
+abbrev pub linkEntry : List ℕ → ℕ → List ℕ
+linkEntry d i = let t = getD (rows d) i noTriple in cond (eqb (linked d (t .kind) (t .value)) 0) (inFront d (t .value % lineCount d) i) d
+
+pub record Unlinked (d : List ℕ) : Type 0 where
+  pub none : (i : ℕ) → i < lineCount d → firstAt d i ≡ 0
+  pub alone : (i : ℕ) → i < lineCount d → nextAt d i ≡ 0
 
 -- ---- reading a sheet to rows, the last line first
--- one row written
-abbrev pub setRow : List ℕ → ℕ → Triple → ℕ → List ℕ
-setRow d i t end = set (set d (2 * i) (t .value)) (2 * i + 1) (packed t end)
+-- one row of n written
+abbrev pub setRow : List ℕ → ℕ → ℕ → Triple → ℕ → List ℕ
+setRow d n i t end = set (set (set (set d (2 * i) (t .value)) (2 * i + 1) (packed t end)) (2 * n + i) 0) (3 * n + i) 0
 
 -- what line i asks: a row for each line, and the ends of those after it
 pub record RowAsk (d s : List ℕ) (i : ℕ) : Type 0 where
-  pub room : length d ≡ 2 * length (triples s)
+  pub room : length d ≡ 4 * length (triples s)
   pub few : length (triples s) ≤ 2000
   pub stands : i < length (triples s)
   pub after : EndsFrom (triples s) d (i + 1)

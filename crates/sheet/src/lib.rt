@@ -8,20 +8,20 @@ use spelling::line_at;
 ghost use mathlib.Core.Path.{_≡_};
 ghost use mathlib.Core.Bool.{cond};
 ghost use mathlib.Core.List.{List};
-ghost use Prim.Native.Nat.{ℕ, _+_, _*_, _/_, _≤_, _<_};
+ghost use Prim.Native.Nat.{ℕ, _+_, _*_, _/_, _%_, _≤_, _<_};
 ghost use lib.ListN.{length, getD, take, drop};
 ghost use lib.Seq.{sets};
 ghost use Rattle.nodes.specs.Nodes.{number, words};
 ghost use Rattle.nodes.specs.Lists.{All};
 ghost use Rattle.kinds.specs.Kinds.{partsOf};
 ghost use Rattle.sheet.specs.Plan.{noTriple, triples, partLine, lineNode, nodesOf, Narrow, isEntry, named, findEntry, entriesEnd, placesOf, isPlain as plainMark};
-ghost use Rattle.sheet.specs.Rows.{packed, rowTriple, rows, endAt, EndsFrom, Ended, setRow, RowAsk};
+ghost use Rattle.sheet.specs.Rows.{packed, rowTriple, rows, endAt, EndsFrom, Ended, setRow, RowAsk, linked, linkEntry, Unlinked};
 
-// How many lines there are.
+// How many lines there are: each has a row of two words, and behind the rows two words that link the entries.
 pub fn line_count(s: &[u64]) -> usize
     ensures { λ r. ⌜ r ≡ length (rows (now (s .entry))) ⌝ }
 {
-    s.len() / 2
+    s.len() / 4
 }
 
 // A row's two words as a line.
@@ -40,7 +40,7 @@ fn row_triple(value: u64, word: u64) -> Triple
 pub fn triple_at(s: &[u64], i: usize) -> Triple
     ensures { λ r. ⌜ r ≡ getD (rows (now (s .entry))) i noTriple ⌝ }
 {
-    if i < s.len() / 2 {
+    if i < s.len() / 4 {
         return row_triple(s[2 * i], s[2 * i + 1]);
     }
     Triple {
@@ -113,28 +113,40 @@ fn pack(t: Triple, end: usize) -> u64
     t.kind + 1024 * (sign + 2 * (t.count + 131072 * (end as u64)))
 }
 
-// Reads line i to its row; those after it are read. A part ends where its own parts end.
+// Reads line i to its row; those after it are read. A part ends where its own parts end. No entry is linked yet.
 fn read_row(d: &mut [u64], s: &[u8], i: usize)
     requires { ⌜ RowAsk (now d) (now s) i ⌝ }
-    ensures { λ _. ⌜ now (d .exit) ≡ setRow (now (d .entry)) i (getD (triples (now (s .entry))) i noTriple) (partLine (triples (now (s .entry))) i 1) ⌝ }
+    ensures { λ _. ⌜ now (d .exit) ≡ setRow (now (d .entry)) (length (triples (now (s .entry)))) i (getD (triples (now (s .entry))) i noTriple) (partLine (triples (now (s .entry))) i 1) ⌝ }
 {
+    let lines = s.len() / 29;
     let t = read_line(s, i);
     let parts = parts_of(t) as usize;
-    let end = after_parts(d, s.len() / 29, i + 1, parts);
+    let end = after_parts(d, lines, i + 1, parts);
     d[2 * i] = t.value;
     d[2 * i + 1] = pack(t, end);
+    d[2 * lines + i] = 0;
+    d[3 * lines + i] = 0;
 }
 
-// Reads a sheet, the last line first.
-pub fn read_rows(d: &mut [u64], s: &[u8])
-    requires { ⌜ (length (now d) ≡ 2 * (length (now s) / 29)) × (length (now s) / 29 ≤ 2000) ⌝ }
-    ensures { λ _. ⌜ (rows (now (d .exit)) ≡ triples (now (s .entry))) × Ended (now (d .exit)) ⌝ }
+// The lines of a sheet, the last one first.
+fn read_lines(d: &mut [u64], s: &[u8])
+    requires { ⌜ (length (now d) ≡ 4 * (length (now s) / 29)) × (length (now s) / 29 ≤ 2000) ⌝ }
+    ensures { λ _. ⌜ (rows (now (d .exit)) ≡ triples (now (s .entry))) × EndsFrom (rows (now (d .exit))) (now (d .exit)) 0 × Unlinked (now (d .exit)) ⌝ }
 {
     let mut i = s.len() / 29;
     while 0 < i {
         i -= 1;
         read_row(d, s, i);
     }
+}
+
+// Reads a sheet.
+pub fn read_rows(d: &mut [u64], s: &[u8])
+    requires { ⌜ (length (now d) ≡ 4 * (length (now s) / 29)) × (length (now s) / 29 ≤ 2000) ⌝ }
+    ensures { λ _. ⌜ (rows (now (d .exit)) ≡ triples (now (s .entry))) × Ended (now (d .exit)) ⌝ }
+{
+    read_lines(d, s);
+    link_entries(d);
 }
 
 // Where the type of an entry stands: its first line, and how many lines it has.
@@ -159,30 +171,88 @@ fn is_named(t: Triple, kind: u64, name: u64) -> bool
     }
 }
 
+// Names with the same remainder by the line count share a slot.
+fn slot_of(name: u64, lines: usize) -> usize
+    requires { ⌜ 0 < lines ⌝ }
+    ensures { λ r. ⌜ (r ≡ name % lines) × (r < lines) ⌝ }
+{
+    (name % (lines as u64)) as usize
+}
+
+// The line after the linked entry of that kind and name; 0 if none is linked.
+fn linked_line(s: &[u64], kind: u64, name: u64) -> usize
+    ensures { λ r. ⌜ r ≡ linked (now (s .entry)) kind name ⌝ }
+{
+    let lines = s.len() / 4;
+    if lines == 0 {
+        return 0;
+    }
+    let slot = slot_of(name, lines);
+    let mut at = s[2 * lines + slot] as usize;
+    let mut left = lines;
+    while 0 < left {
+        if at == 0 {
+            return 0;
+        }
+        if lines < at {
+            return 0;
+        }
+        let line = at - 1;
+        if is_named(triple_at(s, line), kind, name) {
+            return at;
+        }
+        at = s[3 * lines + line] as usize;
+        left -= 1;
+    }
+    0
+}
+
+// Links the entry at line `at`, unless one of its kind and name is linked.
+fn link_entry(d: &mut [u64], at: usize)
+    requires { ⌜ at < length (rows (now d)) ⌝ }
+    ensures { λ _. ⌜ now (d .exit) ≡ linkEntry (now (d .entry)) at ⌝ }
+{
+    let t = triple_at(d, at);
+    let before = linked_line(d, t.kind, t.value);
+    if before == 0 {
+        let lines = d.len() / 4;
+        let slot = slot_of(t.value, lines);
+        d[3 * lines + at] = d[2 * lines + slot];
+        d[2 * lines + slot] = (at + 1) as u64;
+    }
+}
+
+// Links every entry, so that one is found by a look or two and not by going through them.
+fn link_entries(d: &mut [u64])
+    requires { ⌜ EndsFrom (rows (now d)) (now d) 0 × Unlinked (now d) ⌝ }
+    ensures { λ _. ⌜ (rows (now (d .exit)) ≡ rows (now (d .entry))) × Ended (now (d .exit)) ⌝ }
+{
+    let lines = line_count(d);
+    let mut at = 0;
+    while at < lines {
+        if is_entry(triple_at(d, at)) {
+            link_entry(d, at);
+            at = after_parts(d, lines, at + 1, 1);
+        } else {
+            return;
+        }
+    }
+}
+
 // The type of the entry of kind `kind`, 1 or 2, and that name.
 pub fn find_entry(s: &[u64], kind: u64, name: u64) -> Found
     requires { ⌜ Ended (now s) ⌝ }
     ensures { λ r. ⌜ r ≡ findEntry kind name (rows (now (s .entry))) ⌝ }
 {
-    let lines = line_count(s);
-    let mut at = 0;
-    while at < lines {
-        let t = triple_at(s, at);
-        if is_entry(t) {
-            let first = at + 1;
-            let end = part_line(s, first, 1);
-            if is_named(t, kind, name) {
-                return Found::At {
-                    line: first,
-                    count: end - first,
-                };
-            }
-            at = end;
-        } else {
-            return Found::Nothing;
-        }
+    let first = linked_line(s, kind, name);
+    if first == 0 {
+        return Found::Nothing;
     }
-    Found::Nothing
+    let end = part_line(s, first, 1);
+    Found::At {
+        line: first,
+        count: end - first,
+    }
 }
 
 // The line after the entries.
