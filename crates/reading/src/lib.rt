@@ -1,0 +1,57 @@
+// The sheet reader of document 01: a record of the borrowed sheet and its next line, thin, over plain functions.
+// Whoever has a sheet and a line number calls `line_of_sheet` or `term_of_sheet`, whose contracts say nothing of the record.
+use grammar::sub_term;
+use spelling::Line;
+use spelling::line_at;
+ghost use mathlib.Core.Path.{_≡_};
+ghost use Rattle.spelling.specs.Spelling.{lineAt};
+ghost use Rattle.grammar.specs.Grammar.{subTerm};
+
+pub struct Reader<'a> {
+    pub sheet: &'a [u8],
+    // The next line, counted from 0.
+    pub line: usize,
+}
+
+pub fn new<'a>(sheet: &'a [u8]) -> Reader<'a>
+    ensures { λ r. ⌜ (r .sheet ≡ sheet .entry) × (r .line ≡ 0) ⌝ }
+{
+    Reader { sheet, line: 0 }
+}
+
+pub fn moved<'a>(r: Reader<'a>, line: usize) -> Reader<'a>
+    ensures { λ q. ⌜ (q .sheet ≡ r .entry .sheet) × (q .line ≡ line) ⌝ }
+{
+    Reader {
+        sheet: r.sheet,
+        line,
+    }
+}
+
+// What its next line says.
+pub fn line<'a>(r: Reader<'a>) -> Line
+    ensures { λ q. ⌜ q ≡ lineAt (now (r .entry .sheet)) (r .entry .line) ⌝ }
+{
+    line_at(r.sheet, r.line)
+}
+
+// The lines of the term that starts at its next line.
+pub fn term<'a>(r: Reader<'a>) -> &'a [u8]
+    ensures { λ q. ⌜ now q ≡ subTerm (now (r .entry .sheet)) (r .entry .line) ⌝ }
+{
+    sub_term(r.sheet, r.line)
+}
+
+// What line i of a sheet says.
+pub fn line_of_sheet(s: &[u8], i: usize) -> Line
+    ensures { λ r. ⌜ r ≡ lineAt (now (s .entry)) i ⌝ }
+{
+    line(moved(new(s), i))
+}
+
+// The lines of the term that starts at a line of a sheet.
+pub fn term_of_sheet(s: &[u8], at: usize) -> &[u8]
+    ensures { λ r. ⌜ now r ≡ subTerm (now (s .entry)) at ⌝ }
+{
+    term(moved(new(s), at))
+}
