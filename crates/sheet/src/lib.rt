@@ -2,9 +2,9 @@
 // A sheet is read once into rows, and the rules read those. A function that looks for a part's end asks for rows that have their ends, as `read_rows` gives them; the others take any words. What
 // they mean as a plan is for a sheet that `grammar::check_sheet` takes.
 use kinds::parts_of;
+use reading::line_of_sheet;
 use spelling::Line;
 use spelling::Triple;
-use spelling::line_at;
 ghost use mathlib.Core.Path.{_≡_};
 ghost use mathlib.Core.Bool.{cond};
 ghost use mathlib.Core.List.{List};
@@ -88,7 +88,7 @@ pub fn part_line(s: &[u64], first: usize, n: usize) -> usize
 fn read_line(s: &[u8], i: usize) -> Triple
     ensures { λ r. ⌜ r ≡ getD (triples (now (s .entry))) i noTriple ⌝ }
 {
-    match line_at(s, i) {
+    match line_of_sheet(s, i) {
         Line::Spelt(t) => t,
         Line::Misspelt => Triple {
             kind: 0,
