@@ -38,6 +38,7 @@ use nodes::copy_nodes;
 use nodes::wide;
 use operations::Halt;
 use operations::Run;
+use operations::Zonked;
 use operations::is_going;
 use sheet::copy_type;
 use sheet::find_places;
@@ -68,7 +69,7 @@ fn solve_judgment(
     let at = o.at;
     let n = o.left;
     if kind == 3 {
-        return solve_subtype(board, book, report, c, at, n, o.right, 1024);
+        return solve_subtype(board, book, report, c, at, n, o.right, Zonked::NODES);
     }
     if kind == 4 {
         copy_nodes(t, 0, board, at, n);
@@ -79,7 +80,7 @@ fn solve_judgment(
         return solve_checking(board, c, s, line, t, n, l);
     }
     if kind == 6 {
-        return solve_inf_app(board, book, report, c, line, at, n, o.right, 1024);
+        return solve_inf_app(board, book, report, c, line, at, n, o.right, Zonked::NODES);
     }
     c
 }

@@ -13,3 +13,4 @@ pub mod WholeTypes
 pub mod Visits
 pub mod WholeTerms
 pub mod WholeRun
+pub mod Orders

@@ -38,11 +38,18 @@ when ls = l 29 0 0 ∷ l 28 5 0 ∷ l 22 1 0 ∷ l 22 2 0 ∷ ls
 abbrev quantified : ℕ → List Triple
 quantified k = l 1 20 0 ∷ (replicate k (l 14 10 0) ++ (l 12 1 0 ∷ goal (l 26 20 0 ∷ [])))
 
--- 4,096 nodes on the board: ten arms that bind a variable of 401 nodes, and w that bind none
-abbrev arms : ℕ → List Triple
-arms w =
-    l 1 20 0 ∷ l 13 0 0 ∷ l 16 0 4 ∷ (times 4 product ++ (l 12 30 0 ∷ l 2 40 0 ∷ l 12 30 0 ∷ goal (l 27 0 (10 + w) ∷ l 21 40 0 ∷ (
-    times 10 (l 43 20 1 ∷ l 42 10 0 ∷ l 22 1 0 ∷ []) ++ times w (l 41 0 0 ∷ l 22 1 0 ∷ [])))))
+-- 4,096 nodes on the board: ten arms that bind a variable of 401 nodes, w that bind none, and one of a pattern
+abbrev wildcard : List Triple
+wildcard = l 41 0 0 ∷ []
+
+-- n20 has one parameter
+abbrev noParts : List Triple
+noParts = l 43 20 0 ∷ []
+
+abbrev arms : ℕ → List Triple → List Triple
+arms w last =
+    l 1 20 0 ∷ l 13 0 0 ∷ l 16 0 4 ∷ (times 4 product ++ (l 12 30 0 ∷ l 2 40 0 ∷ l 12 30 0 ∷ goal (l 27 0 (11 + w) ∷ l 21 40 0 ∷ (
+    times 10 (l 43 20 1 ∷ l 42 10 0 ∷ l 22 1 0 ∷ []) ++ (times w (wildcard ++ (l 22 1 0 ∷ [])) ++ (last ++ (l 22 1 0 ∷ [])))))))
 
 -- 1,024 nodes in a type written out: a variable of 1,001 + c nodes
 abbrev wide : ℕ → List Triple
@@ -64,9 +71,14 @@ pub entries : short (quantified 509) ∷ short (quantified 510) ∷ [] ≡ (0 �
 unfolding short judge resultOf runOf checkType runFrom perform operations boardNodes findVar before lookup instantiateFrom subtype openNames signatureFrom insert pushVars checkPatterns checkArms inferApp find replace writeOut solutionNodes view termView lambdaOf occurs isMonotype substitute rename frontNames afterFront canUnify planOf declarations bindingsIn endFrom entriesEnd placesOf partLine isPlain partsOf rowOf findRow table
 entries = refl
 
-pub board-nodes : short (arms 50) ∷ short (arms 51) ∷ [] ≡ (0 ∷ 0 ∷ 330 ∷ 63 ∷ 0 ∷ 0 ∷ 1 ∷ [], 0, 63) ∷ (22 ∷ 0 ∷ 4 ∷ 3 ∷ 0 ∷ 0 ∷ 1 ∷ [], 0, 0) ∷ []
+pub board-nodes : short (arms 49 wildcard) ∷ short (arms 50 wildcard) ∷ [] ≡ (0 ∷ 0 ∷ 330 ∷ 63 ∷ 0 ∷ 0 ∷ 1 ∷ [], 0, 63) ∷ (22 ∷ 0 ∷ 4 ∷ 3 ∷ 0 ∷ 0 ∷ 1 ∷ [], 0, 0) ∷ []
 unfolding short judge resultOf runOf checkType runFrom perform operations boardNodes findVar before lookup instantiateFrom subtype openNames signatureFrom insert pushVars checkPatterns checkArms inferApp find replace writeOut solutionNodes view termView lambdaOf occurs isMonotype substitute rename frontNames afterFront canUnify planOf declarations bindingsIn endFrom entriesEnd placesOf partLine isPlain partsOf rowOf findRow table
 board-nodes = refl
+
+-- a pattern's arity is tested after its Sub is pushed: 14, and 22 where the Sub does not fit although everything before it does
+pub arity-after-sub : short (arms 51 noParts) ∷ short (arms 52 noParts) ∷ short (arms 52 wildcard) ∷ [] ≡ (14 ∷ 0 ∷ 2 ∷ 2 ∷ 1 ∷ 0 ∷ 1 ∷ [], 0, 0) ∷ (22 ∷ 0 ∷ 2 ∷ 2 ∷ 0 ∷ 0 ∷ 1 ∷ [], 0, 0) ∷ (22 ∷ 0 ∷ 3 ∷ 3 ∷ 0 ∷ 0 ∷ 1 ∷ [], 0, 0) ∷ []
+unfolding short judge resultOf runOf checkType runFrom perform operations boardNodes findVar before lookup instantiateFrom subtype openNames signatureFrom insert pushVars checkPatterns checkArms inferApp find replace writeOut solutionNodes view termView lambdaOf occurs isMonotype substitute rename frontNames afterFront canUnify planOf declarations bindingsIn endFrom entriesEnd placesOf partLine isPlain partsOf rowOf findRow table
+arity-after-sub = refl
 
 pub written-nodes : short (wide 23) ∷ short (wide 24) ∷ [] ≡ (0 ∷ 0 ∷ 15 ∷ 4 ∷ 0 ∷ 0 ∷ 1 ∷ [], 0, 2050) ∷ (23 ∷ 0 ∷ 10 ∷ 4 ∷ 0 ∷ 0 ∷ 1 ∷ [], 0, 2) ∷ []
 unfolding short judge resultOf runOf checkType runFrom perform operations boardNodes findVar before lookup instantiateFrom subtype openNames signatureFrom insert pushVars checkPatterns checkArms inferApp find replace writeOut solutionNodes view termView lambdaOf occurs isMonotype substitute rename frontNames afterFront canUnify planOf declarations bindingsIn endFrom entriesEnd placesOf partLine isPlain partsOf rowOf findRow table

@@ -12,7 +12,7 @@ use Rattle.grammar.specs.Grammar.{declaredBy, isGoal, arms, following, read, re
 use Rattle.grammar.specs.Check.{readSheet, check}
 use Rattle.judgment.specs.Solutions.{Solution, Solutions, key, value}
 use Rattle.judgment.specs.Result.{Buffers, Called, padded, pairsFrom, placeFrom, nodeWords, bookWords, call}
-use Rattle.judgment.specs.Wall.{numbers, firstSheet, Row}
+use Rattle.judgment.specs.Wall.{l, numbers, firstSheet, Row}
 use Rattle.judgment.specs.Telling.{answers}
 
 abbrev buffers : ℕ → ℕ → ℕ → Buffers
@@ -24,6 +24,8 @@ refusedCalls =
     (10000, drop 1 firstSheet) ∷  -- a byte is lacking
     (10000, take 29 firstSheet ++ (replicate 28 32 ++ (10 ∷ drop 58 firstSheet))) ∷  -- the second line is blank
     (10000, drop 29 (drop 29 firstSheet) ++ replicate 29 32) ∷  -- the first line may not stand first, and the last is misspelt
+    (10000, take 29 firstSheet ++ (lineText (l 17 0 0) ++ drop 58 firstSheet)) ∷  -- kind 17, which stands in outputs only
+    (10000, take 29 firstSheet ++ (lineText (l 18 0 0) ++ drop 58 firstSheet)) ∷  -- kind 18
     (10000, take 87 firstSheet) ∷  -- the term is lacking
     (10000, firstSheet ++ drop 87 firstSheet) ∷  -- a line after the term
     (10001, firstSheet) ∷  -- a ceiling of 10,001
@@ -34,6 +36,8 @@ pub refused-calls : map (λ q. numbers (call (q .1) (q .0) (buffers 16384 10192 
     (3 ∷ 0 ∷ 0 ∷ 0 ∷ 0 ∷ 0 ∷ 0 ∷ []) ∷
     (4 ∷ 2 ∷ 0 ∷ 0 ∷ 0 ∷ 0 ∷ 0 ∷ []) ∷
     (4 ∷ 3 ∷ 0 ∷ 0 ∷ 0 ∷ 0 ∷ 0 ∷ []) ∷
+    (5 ∷ 2 ∷ 0 ∷ 0 ∷ 0 ∷ 0 ∷ 0 ∷ []) ∷
+    (5 ∷ 2 ∷ 0 ∷ 0 ∷ 0 ∷ 0 ∷ 0 ∷ []) ∷
     (5 ∷ 4 ∷ 0 ∷ 0 ∷ 0 ∷ 0 ∷ 0 ∷ []) ∷
     (5 ∷ 5 ∷ 0 ∷ 0 ∷ 0 ∷ 0 ∷ 0 ∷ []) ∷
     (1 ∷ 0 ∷ 0 ∷ 0 ∷ 0 ∷ 0 ∷ 0 ∷ []) ∷

@@ -164,11 +164,15 @@ written b r = record {
   };
 }
 
+-- 3, 4 or 5, by the number and the line of what the sheet is
+abbrev pub refusedSheet : Check → Buffers → Called
+refusedSheet k b = record { answer = refusedAt (checkNumber k) (checkLine k); after = b }
+
 abbrev pub byCheck : List ℕ → ℕ → Buffers → Check → Called
 byCheck s c b Plan = written b (judge limits c (triples s))
-byCheck s c b Length = record { answer = refusedAt 3 0; after = b }
-byCheck s c b (Misspelt l) = record { answer = refusedAt 4 l; after = b }
-byCheck s c b (Unfit l) = record { answer = refusedAt 5 l; after = b }
+byCheck s c b Length = refusedSheet Length b
+byCheck s c b (Misspelt l) = refusedSheet (Misspelt l) b
+byCheck s c b (Unfit l) = refusedSheet (Unfit l) b
 
 abbrev pub tooShort : Buffers → Bool
 tooShort b = ltb (length (b .board)) 16384 || (ltb (length (b .book)) 10192 || ltb (length (b .report)) 4096)

@@ -31,9 +31,15 @@ pub struct Run {
     pub halt: Halt,
 }
 
+// A type written out: the run after it, and its nodes.
 pub struct Zonked {
     pub run: Run,
     pub nodes: usize,
+}
+
+impl Zonked {
+    // The nodes of one written-out type, which a run gives as the limit of its write-outs.
+    pub const NODES: usize = 1024;
 }
 
 pub fn is_going(h: Halt) -> bool

@@ -17,6 +17,7 @@ use nodes::clear_words;
 use nodes::wide;
 use operations::Halt;
 use operations::Run;
+use operations::Zonked;
 use operations::fresh_evar;
 use operations::is_going;
 use operations::push_sub;
@@ -38,7 +39,7 @@ fn script(board: &mut [u32], book: &mut [u32], report: &mut [u32], c: Run) -> Ru
     let c3 = push_tvar(board, c2, 17, a);
     let c4 = push_sub(board, c3, &types, 0, 1, &types, 2, 3);
     let c5 = solve_evar(book, c4, a, &types, 2, 3);
-    let z = zonk(book, c5, &types, 0, 1, report, 0, 1024);
+    let z = zonk(book, c5, &types, 0, 1, report, 0, Zonked::NODES);
     let c6 = z.run;
     let n = z.nodes;
     push_var(board, c6, 10, report, 0, n)
