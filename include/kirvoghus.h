@@ -164,6 +164,15 @@ uint32_t kirvoghus_read_sheet(
     uint32_t *line);
 
 /*
+ * How many bytes the term has that starts at a line, lines being numbered from
+ * 1: they stand from sheet + 29 * (line - 1) on, and are the lines of that term
+ * alone. 0 if no whole term starts there. Any bytes and any line are taken.
+ */
+size_t kirvoghus_term_bytes(
+    const uint8_t *sheet, size_t sheet_len,
+    uint32_t line);
+
+/*
  * What the library was built with, for programs that load it at run time or
  * don't read this header. Each is the constant of its name above; a program
  * that finds another number has a library of another interface.

@@ -24,6 +24,8 @@ extern "C" {
 
     fn kirvoghus_read_sheet(sheet: *const u8, sheet_len: usize, line: *mut u32) -> u32;
 
+    fn kirvoghus_term_bytes(sheet: *const u8, sheet_len: usize, line: u32) -> usize;
+
     fn kirvoghus_version() -> u32;
 }
 
@@ -60,6 +62,12 @@ pub fn read_sheet(sheet: &[u8]) -> (u32, u32) {
     // SAFETY: as above.
     let number = unsafe { kirvoghus_read_sheet(sheet.as_ptr(), sheet.len(), &mut line) };
     (number, line)
+}
+
+/// How many bytes the term has that starts at a line, from 1; 0 if none does.
+pub fn term_bytes(sheet: &[u8], line: u32) -> usize {
+    // SAFETY: as above.
+    unsafe { kirvoghus_term_bytes(sheet.as_ptr(), sheet.len(), line) }
 }
 
 /// The number of the library's interface.

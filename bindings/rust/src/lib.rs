@@ -70,6 +70,18 @@ pub fn read_sheet(sheet: &[u8]) -> Verdict {
     Verdict::new([number, line, 0, 0, 0, 0, 0], &[])
 }
 
+/// The lines of the term that starts at a line of a sheet, lines being numbered
+/// from 1, as a part of the sheet: empty if no whole term starts there.
+///
+/// The sheet need not hold a plan; the part reads as that term by itself.
+pub fn term(sheet: &[u8], line: u32) -> &[u8] {
+    let from = LINE_BYTES * line.saturating_sub(1) as usize;
+    match foreign::term_bytes(sheet, line) {
+        0 => &[],
+        n => &sheet[from..from + n],
+    }
+}
+
 /// The number of the interface that the linked library has: [`VERSION`], unless
 /// the library is another than this crate is made for.
 pub fn version() -> u32 {

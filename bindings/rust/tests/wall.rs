@@ -4,7 +4,7 @@ mod common;
 
 use common::{nested, sheet, SEVEN_AS_INT};
 use kirvoghus::{
-    check, read_sheet, Buffers, Name, Outcome, Type, Verdict, MOST_STEPS, SHEET_BYTES,
+    check, read_sheet, term, Buffers, Name, Outcome, Type, Verdict, MOST_STEPS, SHEET_BYTES,
 };
 
 fn checked(numbers: &[i64], ceiling: u32) -> (Outcome, Buffers) {
@@ -179,6 +179,27 @@ fn two_thousand_lines() {
     assert!(outcome.numbers()[0] > 5);
     assert_eq!(wall_refused(&long(2001)), Verdict::BadLength);
     assert_eq!(wall_refused(&[]), Verdict::BadLength);
+}
+
+/// A Case with two arms: its own lines, its parts' lines, and none where no term starts.
+#[test]
+fn terms_of_a_sheet() {
+    let plan = sheet(&[
+        3, 0, 0, 12, 1, 0, 4, 0, 0, // expected
+        27, 0, 2, 22, 7, 0, // 4, 5
+        42, 10, 0, 28, 1, 0, 22, 1, 0, 21, 10, 0, // 6, 7 to 9
+        41, 0, 0, 21, 10, 0, // 10, 11
+    ]);
+    let lines = |first: usize, last: usize| &plan[29 * (first - 1)..29 * last];
+    assert_eq!(term(&plan, 4), lines(4, 11));
+    assert_eq!(term(&plan, 5), lines(5, 5));
+    assert_eq!(term(&plan, 7), lines(7, 9));
+    assert_eq!(term(&plan, 11), lines(11, 11));
+    for line in [0, 1, 2, 3, 6, 10, 12, 13, u32::MAX] {
+        assert_eq!(term(&plan, line), &[0u8; 0], "line {line}");
+    }
+    // A term whose last line is lacking is none.
+    assert_eq!(term(&plan[..29 * 8], 7), &[0u8; 0]);
 }
 
 #[test]

@@ -1,12 +1,17 @@
 -- The number of the interface, and what its sizes are held to. Assumes nothing: these are definitions.
-use Prim.Native.Nat.{ℕ, _%_, _≤_}
+use Prim.Native.Nat.{ℕ, _-_, _%_, _≤_}
 use mathlib.Core.Path.{_≡_}
-use mathlib.Core.Bool.{true, _||_}
+use mathlib.Core.Bool.{true, cond, _||_}
 use mathlib.Core.List.{List, []}
 use lib.Dec.{ltb, eqb}
 use lib.ListN.{length}
+use Rattle.grammar.specs.Grammar.{subTerm}
 use Rattle.grammar.specs.Check.{lengthOk}
 use Rattle.judgment.specs.Result.{Buffers, boardWords, bookWords, reportWords, tooShort, call}
+
+-- the lines of the term that starts at a line; lines are numbered from 1
+abbrev pub termOn : List ℕ → ℕ → List ℕ
+termOn s line = cond (eqb line 0) [] (subTerm s (line - 1))
 
 -- the number of the interface; it rises with every change that a caller has to follow
 abbrev pub version : ℕ

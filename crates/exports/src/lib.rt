@@ -2,6 +2,7 @@
 use checker::check_type;
 use grammar::Check;
 use grammar::check_sheet;
+use reading::term_of_sheet;
 ghost use mathlib.Core.Path.{_≡_};
 ghost use lib.ListN.{length};
 ghost use Rattle.grammar.specs.Check.{check, checkNumber, checkLine};
@@ -9,7 +10,7 @@ ghost use Rattle.nodes.specs.Nodes.{Ty};
 ghost use Rattle.judgment.specs.Solutions.{Solutions};
 ghost use Rattle.judgment.specs.Result.{call, boardWords, bookWords, reportWords};
 ghost use Rattle.judgment.specs.Wall.{numbers};
-ghost use Rattle.exports.specs.Interface.{version, boardSize, bookSize, reportSize, Least, Highest, Longest, OneLine};
+ghost use Rattle.exports.specs.Interface.{termOn, version, boardSize, bookSize, reportSize, Least, Highest, Longest, OneLine};
 
 // Document 01's number of a sheet, 0, 3, 4 or 5, and its line.
 #[no_mangle]
@@ -34,6 +35,19 @@ pub extern "C" fn kirvoghus_read_sheet(sheet: &[u8], line: &mut u32) -> u32
             5
         }
     }
+}
+
+// How many bytes the term has that starts at a line, which are numbered from 1: they stand from byte 29 (line - 1) on. 0 if no whole term starts there.
+#[no_mangle]
+pub extern "C" fn kirvoghus_term_bytes(sheet: &[u8], line: u32) -> usize
+    ensures { λ r. ⌜ r ≡ length (termOn (now (sheet .entry)) line) ⌝ }
+{
+    if line == 0 {
+        return 0;
+    }
+    let at = (line - 1) as usize;
+    let term = term_of_sheet(sheet, at);
+    term.len()
 }
 
 // The checker's entry call. `result` gets the seven numbers; the answer is the first of them.
