@@ -1,11 +1,14 @@
--- The text of an answer: the seven numbers in columns of 6, LF. Assumes nothing: these are definitions.
+-- The text of an answer: the seven numbers in columns of 6, LF. Assumes nothing: these are definitions; `proofs/Sixes.antt` shows that no
+-- answer has a wider number.
 use mathlib.Core.Path.{_≡_}
 use mathlib.Core.Bool.{false, cond}
 use mathlib.Core.List.{List, [], _∷_, _++_}
-use Prim.Native.Nat.{ℕ, _+_, _^_, _≤_}
+use Prim.Native.Nat.{ℕ, _+_, _*_, _^_, _≤_, _<_}
 use lib.Dec.{ltb}
+use lib.ListN.{length, getD}
 use lib.Seq.{sets}
-use Rattle.spelling.specs.declared.Field.the-variants.{Number}
+use Rattle.spelling.specs.declared.Field.the-variants.{Blank, Number}
+use Rattle.spelling.specs.Spelling.{fieldFrom}
 use Rattle.spelling.specs.Text.{fieldText}
 use Rattle.judgment.specs.declared.Answer.{Answer}
 use Rattle.judgment.specs.Wall.{numbers}
@@ -30,3 +33,14 @@ columnsText (n ∷ ns) = column n ++ columnsText ns
 
 unfoldable pub answerText : Answer → List ℕ
 answerText a = columnsText (numbers a)
+
+-- numbers right-justified in six bytes each, LF
+unfoldable pub sixes : List ℕ → List ℕ
+sixes [] = 10 ∷ []
+sixes (n ∷ ns) = fieldText 6 (Number false n) ++ sixes ns
+
+-- the text is of that form, 43 bytes, and the six of each number read as that number
+pub record InSixes (a : Answer) : Type 0 where
+  pub text : answerText a ≡ sixes (numbers a)
+  pub bytes : length (answerText a) ≡ 43
+  pub reads : (i : ℕ) → i < 7 → fieldFrom (answerText a) (6 * i) 6 Blank ≡ Number false (getD (numbers a) i 0)

@@ -14,3 +14,4 @@ pub mod Visits
 pub mod WholeTerms
 pub mod WholeRun
 pub mod Orders
+pub mod Narrow

@@ -14,7 +14,7 @@ use Rattle.judgment.specs.Rules.{Side, left, right, openBody, instantiat
 use Rattle.judgment.proofs.TypeLaws.{Shows, view-shows}
 
 ---------------------------------------------------------------- the rounds of an instantiation are enough
-substitute-length : (x : ℕ) (r : Node) (t : Ty) (skip : ℕ) → length (substituteFrom x r t skip) ≡ length t
+pub substitute-length : (x : ℕ) (r : Node) (t : Ty) (skip : ℕ) → length (substituteFrom x r t skip) ≡ length t
 substitute-length x r [] skip = refl
 substitute-length x r (n ∷ t) zero = ap suc (substitute-length x r t (cond (isNode 14 x n) 1 0))
 substitute-length x r (n ∷ t) (suc skip) = ap suc (substitute-length x r t (nodeParts n + skip))

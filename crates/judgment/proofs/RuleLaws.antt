@@ -351,7 +351,7 @@ module _ (Plain : Type 0) where
     subtypeBy-good isOther isOther e f = tt
 
   -- a written-out type, in a state that has the invariant
-  written-ok : (Γ : Board) (σ : Solutions) (n : ℕ) (t : Ty) → Inv Plain Γ σ n → All (OK Plain n) t → All (OK Plain n) (writeOut σ t)
+  pub written-ok : (Γ : Board) (σ : Solutions) (n : ℕ) (t : Ty) → Inv Plain Γ σ n → All (OK Plain n) t → All (OK Plain n) (writeOut σ t)
   written-ok Γ σ n t i h = all-written (OK Plain n) σ t (all-map (λ x g. g .1) σ (i .solutions)) h
 
   subtype-good : (Γ : Board) (σ : Solutions) (n : ℕ) (s t : Ty) → Inv Plain Γ σ n → All (OK Plain n) s → All (OK Plain n) t

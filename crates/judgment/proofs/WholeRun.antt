@@ -61,7 +61,7 @@ WholeGood (solve k s p) = IsTy s × WholeGood p
 WholeGood (zonk t f) = IsTy t × ((u : Ty) → IsTy u → WholeGood (f u))
 WholeGood (look f) = (Γ : Board) → All EntryWhole Γ → WholeGood (f Γ)
 
-solving-ind : {A : Type 0} (P : A → Type 0) (o : Option Ty) (s : Ty) {new same clash : A} → P new → P same → P clash → P (solving o s new same clash)
+pub solving-ind : {A : Type 0} (P : A → Type 0) (o : Option Ty) (s : Ty) {new same clash : A} → P new → P same → P clash → P (solving o s new same clash)
 solving-ind P none s a b c = a
 solving-ind P (some t) s a b c = cond-ind P (canUnify s t) (λ _. b) (λ _. c)
 

@@ -11,3 +11,4 @@ pub mod Wall
 pub mod Telling
 pub mod AtLimits
 pub mod Calls
+pub mod Narrow

@@ -8,3 +8,4 @@ pub mod Formed
 pub mod LineKinds
 pub mod TypeLines
 pub mod Copies
+pub mod Ranges

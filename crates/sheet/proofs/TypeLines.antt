@@ -14,7 +14,7 @@ use Rattle.nodes.specs.Lists.{All}
 use Rattle.spelling.specs.declared.Triple.{Triple}
 use Rattle.spelling.specs.declared.Line.the-variants.{Spelt}
 use Rattle.kinds.specs.declared.Row.{Row}
-use Rattle.kinds.specs.Kinds.{aType, aTerm, nothing, number, table, rowOf, unlisted, valueOk, begins}
+use Rattle.kinds.specs.Kinds.{aType, aTerm, nothing, number, table, rowOf, unlisted, valueOk, countOk, begins}
 use Rattle.nodes.proofs.ListLaws.{cond-ind}
 use Rattle.kinds.proofs.Rows.{everyListed, listed-passes}
 use Rattle.grammar.specs.Grammar.{Item, part, entries, goal, ok, due, repeated, following}
@@ -88,6 +88,10 @@ module _ (x : ℕ) (t : Triple) (h : begins x t ≡ true) where
   unfolding begins
   value-ok = and-eq-true-iff (valueOk (rowOf (t .kind) .value) (t .value)) _ .0 (and-eq-true-iff (eqb (rowOf (t .kind) .sort) x) _ .0 h .1) .0
 
+  pub count-ok : countOk (rowOf (t .kind) .count) (t .count) ≡ true
+  unfolding begins
+  count-ok = and-eq-true-iff (valueOk (rowOf (t .kind) .value) (t .value)) _ .0 (and-eq-true-iff (eqb (rowOf (t .kind) .sort) x) _ .0 h .1) .1
+
   -- its kind is listed
   pub begun-row : 0 < x → (p : ℕ → Row → Bool) → everyListed p table ≡ true → p (t .kind) (rowOf (t .kind)) ≡ true
   begun-row l p e = go (listed-passes p (t .kind) e)
@@ -107,16 +111,19 @@ type-line t e =
 abbrev namesOnly : ℕ → Row → Bool
 namesOnly k r = not (eqb (r .sort) aType) || not (eqb (r .value) number)
 
-pub name-narrow : (rule v : ℕ) → not (eqb rule number) ≡ true → valueOk rule v ≡ true → v < 4294967296
-name-narrow rule v e = go (eqb rule 0) (eqb rule number) e
+pub name-small : (rule v : ℕ) → not (eqb rule number) ≡ true → valueOk rule v ≡ true → v ≤ 9999
+name-small rule v e = go (eqb rule 0) (eqb rule number) e
   where
-    go : (b c : Bool) → not c ≡ true → cond b (eqb v 0) (cond c true (leb 1 v && leb v (cond (eqb rule 1) 9999 6))) ≡ true → v < 4294967296
+    go : (b c : Bool) → not c ≡ true → cond b (eqb v 0) (cond c true (leb 1 v && leb v (cond (eqb rule 1) 9999 6))) ≡ true → v ≤ 9999
     go true c e q = let z = eqb-true v 0 q in omega arith
     go false true e q = absurd (let z : _≡_ {A = ℕ} 0 1 = cc in omega arith)
     go false false e q =
         let m = leb-true v (cond (eqb rule 1) 9999 6) (and-eq-true-iff (leb 1 v) _ .0 q .1) in
         let most : cond (eqb rule 1) 9999 6 ≤ 9999 = cond-ind (λ (x : ℕ). x ≤ 9999) (eqb rule 1) (λ _. omega arith) (λ _. omega arith) in
         omega arith
+
+pub name-narrow : (rule v : ℕ) → not (eqb rule number) ≡ true → valueOk rule v ≡ true → v < 4294967296
+name-narrow rule v e q = omega (arith, name-small rule v e q)
 
 line-narrow : (t : Triple) → ok (part aType) (Spelt t) ≡ true → Narrow t
 unfolding table

@@ -1,0 +1,451 @@
+-- No answer has a number of more than five digits: `narrow`. Assumes nothing.
+use Prim.Native.Nat.{ℕ, zero, suc, _+_, _≤_}
+use native.Mathlib.Omega.{arith}
+use mathlib.Core.Path.{_≡_, refl, ap, subst}
+use mathlib.Core.Logic.{_≢_}
+use mathlib.Core.Bool.{Bool, true, false}
+use mathlib.Core.Option.{Option, none, some}
+use mathlib.Core.List.{List, [], _∷_, _++_}
+use lib.Dec.{eqb, leb, ltb}
+use lib.ListN.{length, take, drop, length-append, length-take, length-drop}
+use borrow.Author.Tests.{ltb-true, ltb-false, leb-true}
+use Rattle.nodes.specs.Nodes.{Node, node, Ty}
+use Rattle.nodes.specs.Lists.{All}
+use Rattle.nodes.proofs.ListLaws.{cond-ind, all-take, all-drop}
+use Rattle.spelling.specs.declared.Triple.{Triple}
+use Rattle.kinds.specs.Kinds.{aTerm, partsOf}
+use Rattle.grammar.specs.declared.Check.{Check}
+use Rattle.grammar.specs.declared.Check.the-variants.{Plan, Length, Misspelt, Unfit}
+use Rattle.grammar.specs.Check.{check, checkLine}
+use Rattle.grammar.proofs.Lines.{line-small}
+use Rattle.sheet.specs.Plan.{triples, nodesOf, Declaration, declarations, Binding, _∶_, Bindings, bindingsIn, lookup, Plan as PlanOf, planOf}
+use Rattle.sheet.proofs.Ranges.{InRange, part-in-range, plan-few}
+use Rattle.judgment.specs.declared.TypeError.{TypeError}
+use Rattle.judgment.specs.Types.{eqTy, View, isArrow, isApp, isForall, isUnknown, isOther, view, occurs, isMonotype, substitute, Renaming, rename, frontNames, afterFront}
+use Rattle.judgment.specs.Terms.{Term, part, afterParts, Lambda, lambdaOf, TermView, isVar, isLitInt, isLambda, isApply, isTypeLambda, isConstructor, isCase, isBinOp, isIf, isIntrinsic, isNone, termView, PatternView, patternView}
+use Rattle.judgment.specs.Solutions.{_≔_, Solutions, value, find, writeOut, solutionNodes}
+use Rattle.judgment.specs.Board.{Entry, tvar, var, sub, inf, chk, infApp, Board, findVar, before, Rule, done, refuse, fresh, push, solve, zonk, look, State, state, Outcome, finished, refused, roomFor, Operation, perform, operations}
+use Rattle.judgment.specs.Rules.{Env, Side, left, right, openBody, solveMonotype, instantiateBy, instantiateFrom, mismatch, unknownRight, unknownLeft, subtypeBy, subtype, openNames, instantiateConstructor, signatureBy, signatureFrom, insert, pushVars, patternParts, patternConstructor, patternBy, checkPatterns, checkArms, variable, constructor, inferBy, checkArrow, checkBy, applyBy, inferApp, rule}
+use Rattle.judgment.specs.Run.{Step, step, End, accepted, ceiling, refusedBy, Run, run, addStep, onward, runFrom, checkType}
+use Rattle.judgment.specs.Result.{errorNumber, errorDetails, endNumber, endDetails, envOf, runOf, resultOf, judge, limits, Buffers, Called, refusedAt, byCheck, tooShort, call}
+use Rattle.judgment.specs.Narrow.{Narrow}
+use Rattle.judgment.proofs.TypeLaws.{eqb-true, Shows, view-shows}
+use Rattle.judgment.proofs.Invariant.{OK, EntryOK, Inv, Kept, perform-kept}
+use Rattle.judgment.proofs.RuleLaws.{EnvOK, Explains, rule-good, written-ok}
+use Rattle.judgment.proofs.Promised.{plan-env, plan-inv, sheet-plan}
+use Rattle.judgment.proofs.Rounds.{substitute-length}
+use Rattle.judgment.proofs.WholeRun.{EntryWhole, EnvWhole, StateWhole, OutcomeWhole, solving-ind, perform-whole, rule-whole, plan-whole}
+
+---------------------------------------------------------------- what a rule must show
+-- a refusal's number and details
+abbrev Small : TypeError → Type 0
+Small r = (errorNumber r ≤ 25) × (errorDetails r .0 ≤ 9999) × (errorDetails r .1 ≤ 1024)
+
+-- every refusal is small, whatever is fresh, pushed and solved; a type that is written out has few nodes
+abbrev Brief : Solutions → Rule → Type 0
+Brief σ done = Unit {0}
+Brief σ (refuse r ts) = Small r
+Brief σ (fresh f) = (n : ℕ) → Brief σ (f n)
+Brief σ (push e p) = Brief σ p
+Brief σ (solve k s p) = (τ : Solutions) → Brief τ p
+Brief σ (zonk t f) = length (writeOut σ t) ≤ 1024 → Brief σ (f (writeOut σ t))
+Brief σ (look f) = (Γ : Board) → Brief σ (f Γ)
+
+abbrev OutcomeNarrow : Outcome → Type 0
+OutcomeNarrow (finished (state Γ σ n)) = n ≤ 1000
+OutcomeNarrow (refused r ts (state Γ σ n)) = (n ≤ 1000) × Small r
+
+perform-narrow : (p : Rule) (Γ : Board) (σ : Solutions) (n : ℕ) → n ≤ 1000 → Brief σ p → OutcomeNarrow (perform limits p Γ σ n)
+unfolding perform
+perform-narrow done Γ σ n h g = h
+perform-narrow (refuse r ts) Γ σ n h g = (h, g)
+perform-narrow (fresh f) Γ σ n h g =
+    cond-ind OutcomeNarrow (ltb n 1000) (λ e. perform-narrow (f n) Γ σ (suc n) (ltb-true n 1000 e) (g n)) (λ _. (h, omega arith))
+perform-narrow (push e p) Γ σ n h g =
+    cond-ind OutcomeNarrow (roomFor limits e Γ) (λ _. perform-narrow p (e ∷ Γ) σ n h g) (λ _. (h, omega arith))
+perform-narrow (solve k s p) Γ σ n h g =
+    solving-ind OutcomeNarrow (find k σ) s
+    (cond-ind OutcomeNarrow (leb (solutionNodes σ + length s) 4096)
+    (λ _. perform-narrow p Γ (σ ++ (_≔_ k s ∷ [])) n h (g (σ ++ (_≔_ k s ∷ [])))) (λ _. (h, omega arith)))
+    (perform-narrow p Γ σ n h (g σ))
+    (h, omega arith)
+perform-narrow (zonk t f) Γ σ n h g =
+    cond-ind OutcomeNarrow (leb (length (writeOut σ t)) 1024)
+    (λ e. perform-narrow (f (writeOut σ t)) Γ σ n h (g (leb-true (length (writeOut σ t)) 1024 e))) (λ _. (h, omega arith))
+perform-narrow (look f) Γ σ n h g = perform-narrow (f Γ) Γ σ n h (g Γ)
+
+---------------------------------------------------------------- instantiation
+-- an unknown that a view shows
+abbrev Below : View → Type 0
+Below (isArrow a b) = Unit {0}
+Below (isApp a b) = Unit {0}
+Below (isForall x b) = Unit {0}
+Below (isUnknown k) = k ≤ 9999
+Below isOther = Unit {0}
+
+-- unknowns are below the counter
+shown-below : (Plain : Type 0) (n : ℕ) (t : Ty) (v : View) → Shows v t → n ≤ 1000 → All (OK Plain n) t → Below v
+shown-below Plain n t (isArrow a b) s l h = tt
+shown-below Plain n t (isApp a b) s l h = tt
+shown-below Plain n t (isForall x b) s l h = tt
+shown-below Plain n t (isUnknown k) s l h = let m = subst (All (OK Plain n)) s h .0 .0 refl in omega arith
+shown-below Plain n t isOther s l h = tt
+
+module _ (σ : Solutions) where
+  openBody-brief : (d : Side) (x : ℕ) (b : Ty) (f : Ty → Rule) → ((u : Ty) → length u ≡ length b → Brief σ (f u)) → Brief σ (openBody d x b f)
+  unfolding substitute
+  openBody-brief left x b f c = λ u. c (substitute x (node 18 u) b) (substitute-length x (node 18 u) b 0)
+  openBody-brief right x b f c = λ a. c (substitute x (node 17 a) b) (substitute-length x (node 17 a) b 0)
+
+  monotype-brief : (k : ℕ) (t : Ty) → k ≤ 9999 → length t ≤ 1024 → Brief σ (solveMonotype k t)
+  monotype-brief k t hk ht = cond-ind (Brief σ) (isMonotype t) (λ _ τ. tt) (λ _. omega arith)
+
+  instantiateBy-brief : (d : Side) (k : ℕ) (t : Ty) (again : Ty → Rule) (v : View) → Shows v t → k ≤ 9999 → length t ≤ 1024
+      → ((u : Ty) → length u ≤ 1024 → Brief σ (again u)) → Brief σ (instantiateBy d k t again v)
+  instantiateBy-brief d k t again (isUnknown b) s hk ht c = λ Γ. cond-ind (Brief σ) (before k b Γ) (λ _ τ. tt) (λ _. monotype-brief k t hk ht)
+  instantiateBy-brief d k t again (isArrow t₁ t₂) s hk ht c = λ a b τ. tt
+  instantiateBy-brief d k t again (isApp t₁ t₂) s hk ht c = λ a b τ. tt
+  instantiateBy-brief d k t again (isForall x b) s hk ht c = openBody-brief d x b again (λ u e. c u (omega (arith, ap length s)))
+  instantiateBy-brief d k t again isOther s hk ht c = monotype-brief k t hk ht
+
+  instantiateFrom-brief : (m : ℕ) (d : Side) (k : ℕ) (t : Ty) → k ≤ 9999 → length t ≤ 1024 → Brief σ (instantiateFrom m d k t)
+  unfolding instantiateFrom
+  instantiateFrom-brief zero d k t hk ht = omega arith
+  instantiateFrom-brief (suc m) d k t hk ht =
+      instantiateBy-brief d k t (λ u. instantiateFrom m d k u) (view t) (view-shows t) hk ht (λ u hu. instantiateFrom-brief m d k u hk hu)
+
+  -------------------------------------------------------------- comparisons
+  module _ (l r : Ty) (hl : length l ≤ 1024) (hr : length r ≤ 1024) where
+    mismatch-brief : Brief σ (mismatch l r)
+    mismatch-brief = omega arith
+
+    unknownRight-brief : (k : ℕ) → k ≤ 9999 → Brief σ (unknownRight l r k)
+    unknownRight-brief k h = cond-ind (Brief σ) (occurs k l) (λ _. mismatch-brief) (λ _. instantiateFrom-brief (suc (length l)) right k l h hl)
+
+    unknownLeft-brief : (k : ℕ) (otherwise : Rule) → k ≤ 9999 → Brief σ otherwise → Brief σ (unknownLeft l r k otherwise)
+    unknownLeft-brief k otherwise h g = cond-ind (Brief σ) (occurs k r) (λ _. g) (λ _. instantiateFrom-brief (suc (length r)) left k r h hr)
+
+    subtypeBy-brief : (v w : View) → Below v → Below w → Brief σ (subtypeBy l r v w)
+    subtypeBy-brief (isArrow a₁ a₂) (isArrow b₁ b₂) p q = tt
+    subtypeBy-brief (isArrow a₁ a₂) (isApp b₁ b₂) p q = mismatch-brief
+    subtypeBy-brief (isArrow a₁ a₂) (isForall x b) p q = λ u. tt
+    subtypeBy-brief (isArrow a₁ a₂) (isUnknown k) p q = unknownRight-brief k q
+    subtypeBy-brief (isArrow a₁ a₂) isOther p q = mismatch-brief
+    subtypeBy-brief (isApp a₁ a₂) (isArrow b₁ b₂) p q = mismatch-brief
+    subtypeBy-brief (isApp a₁ a₂) (isApp b₁ b₂) p q = tt
+    subtypeBy-brief (isApp a₁ a₂) (isForall x b) p q = λ u. tt
+    subtypeBy-brief (isApp a₁ a₂) (isUnknown k) p q = unknownRight-brief k q
+    subtypeBy-brief (isApp a₁ a₂) isOther p q = mismatch-brief
+    subtypeBy-brief (isForall x a) (isArrow b₁ b₂) p q = λ u. tt
+    subtypeBy-brief (isForall x a) (isApp b₁ b₂) p q = λ u. tt
+    subtypeBy-brief (isForall x a) (isForall y b) p q = λ u. tt
+    subtypeBy-brief (isForall x a) (isUnknown k) p q = λ u. tt
+    subtypeBy-brief (isForall x a) isOther p q = λ u. tt
+    subtypeBy-brief (isUnknown k) (isArrow b₁ b₂) p q = unknownLeft-brief k (mismatch l r) p mismatch-brief
+    subtypeBy-brief (isUnknown k) (isApp b₁ b₂) p q = unknownLeft-brief k (mismatch l r) p mismatch-brief
+    subtypeBy-brief (isUnknown k) (isForall y b) p q = λ u. tt
+    subtypeBy-brief (isUnknown k) (isUnknown j) p q = unknownLeft-brief k (unknownRight l r j) p (unknownRight-brief j q)
+    subtypeBy-brief (isUnknown k) isOther p q = unknownLeft-brief k (mismatch l r) p mismatch-brief
+    subtypeBy-brief isOther (isArrow b₁ b₂) p q = mismatch-brief
+    subtypeBy-brief isOther (isApp b₁ b₂) p q = mismatch-brief
+    subtypeBy-brief isOther (isForall y b) p q = λ u. tt
+    subtypeBy-brief isOther (isUnknown k) p q = unknownRight-brief k q
+    subtypeBy-brief isOther isOther p q = mismatch-brief
+
+  subtype-brief : (s t : Ty) → Below (view (writeOut σ s)) → Below (view (writeOut σ t)) → Brief σ (subtype s t)
+  unfolding subtype
+  subtype-brief s t p q = λ hl hr.
+      let l : Ty = writeOut σ s in
+      let r : Ty = writeOut σ t in
+      cond-ind (Brief σ) (eqTy l r) (λ _. tt) (λ _. subtypeBy-brief l r hl hr (view l) (view r) p q)
+
+---------------------------------------------------------------- constructors and patterns
+rename-length : (m : Renaming) (t : Ty) → length (rename m t) ≡ length t
+unfolding rename
+rename-length m [] = refl
+rename-length m (n ∷ t) = ap suc (rename-length m t)
+
+afterFront-length : (t : Ty) → length (afterFront t) ≤ length t
+unfolding afterFront
+afterFront-length [] = omega arith
+afterFront-length (node k v ∷ t) = go (eqb k 14) (afterFront-length t)
+  where
+    go : (b : Bool) → length (afterFront t) ≤ length t → length {A = Node} (elim b [ true ↦ afterFront t | false ↦ node k v ∷ t ]) ≤ suc (length t)
+    go true h = omega arith
+    go false h = omega arith
+
+-- a type that a plan declares has at most as many nodes as a sheet has lines
+abbrev Short : Binding → Type 0
+Short (_∶_ x t) = length t ≤ 2000
+
+abbrev FoundShort : Option Ty → Type 0
+FoundShort none = Unit {0}
+FoundShort (some t) = length t ≤ 2000
+
+lookup-short : (x : ℕ) (bs : Bindings) → All Short bs → FoundShort (lookup x bs)
+unfolding lookup
+lookup-short x [] h = tt
+lookup-short x (_∶_ y t ∷ bs) h = cond-ind FoundShort (eqb y x) (λ _. h .0) (λ _. lookup-short x bs (h .1))
+
+module _ (σ : Solutions) where
+  openNames-brief : (xs : List ℕ) (m : Renaming) (f : Renaming → Rule) → ((m′ : Renaming) → Brief σ (f m′)) → Brief σ (openNames xs m f)
+  unfolding openNames
+  openNames-brief [] m f c = c m
+  openNames-brief (x ∷ xs) m f c = λ a. openNames-brief xs ((x, a) ∷ m) f c
+
+  instantiateConstructor-brief : (t : Ty) (f : Ty → Rule) → ((u : Ty) → length u ≤ length t → Brief σ (f u)) → Brief σ (instantiateConstructor t f)
+  instantiateConstructor-brief t f c =
+      openNames-brief (frontNames t) [] (λ m. f (rename m (afterFront t)))
+      (λ m. c (rename m (afterFront t)) (omega (arith, rename-length m (afterFront t), afterFront-length t)))
+
+  -- a round adds one parameter
+  abbrev Counted : ℕ → (List Ty → Ty → Rule) → Type 0
+  Counted m f = (ps : List Ty) (t : Ty) → length ps ≤ m → Brief σ (f ps t)
+
+  signatureBy-brief : (m : ℕ) (ps : List Ty) (t : Ty) (f again : List Ty → Ty → Rule) (v : View) → length ps ≤ m → Counted m f
+      → ((ps′ : List Ty) (t′ : Ty) → length ps′ ≡ suc (length ps) → Brief σ (again ps′ t′)) → Brief σ (signatureBy ps t f again v)
+  signatureBy-brief m ps t f again (isArrow a b) h c k = k (ps ++ (a ∷ [])) b (omega (arith, length-append ps (a ∷ [])))
+  signatureBy-brief m ps t f again (isApp a b) h c k = c ps t h
+  signatureBy-brief m ps t f again (isForall x b) h c k = c ps t h
+  signatureBy-brief m ps t f again (isUnknown j) h c k = c ps t h
+  signatureBy-brief m ps t f again isOther h c k = c ps t h
+
+  signatureFrom-brief : (n m : ℕ) (ps : List Ty) (t : Ty) (f : List Ty → Ty → Rule) → n + length ps ≤ m → Counted m f → Brief σ (signatureFrom n ps t f)
+  unfolding signatureFrom
+  signatureFrom-brief zero m ps t f h c = c ps t (omega arith)
+  signatureFrom-brief (suc n) m ps t f h c =
+      signatureBy-brief m ps t f (λ ps′ t′. signatureFrom n ps′ t′ f) (view t) (omega arith) c
+      (λ ps′ t′ e. signatureFrom-brief n m ps′ t′ f (omega arith) c)
+
+  pushVars-brief : (bs : Bindings) (p : Rule) → Brief σ p → Brief σ (pushVars bs p)
+  unfolding pushVars
+  pushVars-brief [] p g = g
+  pushVars-brief (_∶_ x t ∷ bs) p g = pushVars-brief bs p g
+
+  module _ (E : Env) (hE : All Short (E .constructors)) where
+    patternConstructor-brief : (x c : ℕ) (t : Ty) (again : List Ty → Rule) (k : Option Ty) → x ≤ 9999 → c ≤ 99 → FoundShort k
+        → ((ps : List Ty) → Brief σ (again ps)) → Brief σ (patternConstructor E x c t again k)
+    patternConstructor-brief x c t again none hx hc hk f = omega arith
+    patternConstructor-brief x c t again (some k) hx hc hk f =
+        instantiateConstructor-brief k (λ u. signatureFrom (length u) [] u (patternParts E c t again)) (λ u l.
+        signatureFrom-brief (length u) 2000 [] u (patternParts E c t again) (omega arith) (λ ps res m.
+        cond-ind (Brief σ) (eqb c (length ps)) (λ _. f ps) (λ _. omega arith)))
+
+    patternBy-brief : (l : Triple) (t : Ty) (bs : Bindings) (again : List Ty → Bindings → Rule) → InRange l
+        → ((ps : List Ty) (bs′ : Bindings) → Brief σ (again ps bs′)) → Brief σ (patternBy E (l .value) (l .count) t bs again (patternView (l .kind)))
+    patternBy-brief l t bs again h f =
+        let B : PatternView → Type 0 = λ v. Brief σ (patternBy E (l .value) (l .count) t bs again v) in
+        cond-ind B (eqb (l .kind) 42) (λ _. f [] (insert (l .value) t bs))
+        (λ _. cond-ind B (eqb (l .kind) 43)
+        (λ e. patternConstructor-brief (l .value) (l .count) t (λ ps. again ps bs) (lookup (l .value) (E .constructors))
+        (h .value (λ q. (let k = eqb-true (l .kind) 43 e in omega arith))) (h .count) (lookup-short (l .value) (E .constructors) hE) (λ ps. f ps bs))
+        (λ _. f [] bs))
+
+    checkPatterns-brief : (ls : Term) (ts : List Ty) (bs : Bindings) (f : Bindings → Rule) → All InRange ls → ((bs′ : Bindings) → Brief σ (f bs′))
+        → Brief σ (checkPatterns E ls ts bs f)
+    unfolding checkPatterns
+    checkPatterns-brief [] ts bs f h c = c bs
+    checkPatterns-brief (l ∷ ls) [] bs f h c = c bs
+    checkPatterns-brief (l ∷ ls) (t ∷ ts) bs f h c =
+        patternBy-brief l t bs (λ ps bs′. checkPatterns E ls (ps ++ ts) bs′ f) (h .0) (λ ps bs′. checkPatterns-brief ls (ps ++ ts) bs′ f (h .1) c)
+
+    checkArms-brief : (n : ℕ) (ls : Term) (s t : Ty) → All InRange ls → Brief σ (checkArms E n ls s t)
+    unfolding checkArms
+    checkArms-brief zero ls s t h = tt
+    checkArms-brief (suc n) ls s t h =
+        let p : Rule = push (chk (part 1 ls) t) (checkArms E n (afterParts 2 ls) s t) in
+        checkPatterns-brief (part 0 ls) (s ∷ []) [] (λ bs. pushVars bs p) (all-take partsOf InRange ls 1 h)
+        (λ bs. pushVars-brief bs p (checkArms-brief n (afterParts 2 ls) s t (all-drop partsOf InRange ls 2 h)))
+
+---------------------------------------------------------------- terms
+-- the names and counts that a term's view shows, and the lines of arms
+abbrev ViewInRange : TermView → Type 0
+ViewInRange (isVar x) = x ≤ 9999
+ViewInRange isLitInt = Unit {0}
+ViewInRange (isLambda x s e) = Unit {0}
+ViewInRange (isApply f e) = Unit {0}
+ViewInRange (isTypeLambda x e) = Unit {0}
+ViewInRange (isConstructor x) = x ≤ 9999
+ViewInRange (isCase n e arms) = All InRange arms
+ViewInRange (isBinOp op e₁ e₂) = Unit {0}
+ViewInRange (isIf e₁ e₂ e₃) = Unit {0}
+ViewInRange (isIntrinsic x n e) = (x ≤ 9999) × (n ≤ 99)
+ViewInRange isNone = Unit {0}
+
+term-in-range : (e : Term) → All InRange e → ViewInRange (termView e)
+unfolding termView
+term-in-range [] h = tt
+term-in-range (t ∷ ls) h =
+    let W : TermView → Type 0 = ViewInRange in
+    cond-ind W (eqb (t .kind) 21) (λ e. name 21 e (omega arith))
+    (λ _. cond-ind W (eqb (t .kind) 22) (λ _. tt)
+    (λ _. cond-ind W (eqb (t .kind) 23) (λ _. tt)
+    (λ _. cond-ind W (eqb (t .kind) 24) (λ _. tt)
+    (λ _. cond-ind W (eqb (t .kind) 25) (λ _. tt)
+    (λ _. cond-ind W (eqb (t .kind) 26) (λ e. name 26 e (omega arith))
+    (λ _. cond-ind W (eqb (t .kind) 27) (λ _. all-drop partsOf InRange ls 1 (h .1))
+    (λ _. cond-ind W (eqb (t .kind) 28) (λ _. tt)
+    (λ _. cond-ind W (eqb (t .kind) 29) (λ _. tt)
+    (λ _. cond-ind W (eqb (t .kind) 30) (λ e. (name 30 e (omega arith), h .0 .count)) (λ _. tt))))))))))
+  where
+    name : (k : ℕ) → eqb (t .kind) k ≡ true → k ≢ 22 → t .value ≤ 9999
+    name k e n = h .0 .value (λ q. n (let z = eqb-true (t .kind) k e in omega arith))
+
+---------------------------------------------------------------- every rule
+module _ (σ : Solutions) (E : Env) (hE : All Short (E .constructors)) where
+  variable-brief : (x : ℕ) (t : Ty) (a b c : Option Ty) → x ≤ 9999 → Brief σ (variable E x t a b c)
+  variable-brief x t (some u) b c h = tt
+  variable-brief x t none (some u) c h = tt
+  variable-brief x t none none (some u) h = tt
+  variable-brief x t none none none h = omega arith
+
+  constructor-brief : (x : ℕ) (t : Ty) (k : Option Ty) → x ≤ 9999 → Brief σ (constructor E x t k)
+  constructor-brief x t none h = omega arith
+  constructor-brief x t (some k) h = instantiateConstructor-brief σ k (λ u. push (sub u t) done) (λ u l. tt)
+
+  inferBy-brief : (t : Ty) (v : TermView) → ViewInRange v → Brief σ (inferBy E t v)
+  inferBy-brief t (isVar x) h = λ Γ. variable-brief x t (lookup x (E .context)) (findVar x Γ) (lookup x (E .constructors)) h
+  inferBy-brief t isLitInt h = tt
+  inferBy-brief t (isLambda x s e) h = λ b. tt
+  inferBy-brief t (isApply f e) h = λ a. tt
+  inferBy-brief t (isTypeLambda x e) h = λ b. tt
+  inferBy-brief t (isConstructor x) h = constructor-brief x t (lookup x (E .constructors)) h
+  inferBy-brief t (isCase n e arms) h = λ a. checkArms-brief σ E hE n arms (node 17 a ∷ []) t h
+  inferBy-brief t (isBinOp op e₁ e₂) h = tt
+  inferBy-brief t (isIf e₁ e₂ e₃) h = tt
+  inferBy-brief t (isIntrinsic x n e) h =
+      cond-ind (Brief σ) (eqb x 4) (λ _. cond-ind (Brief σ) (eqb n 1) (λ _. tt) (λ _. omega arith)) (λ _. omega arith)
+  inferBy-brief t isNone h = omega arith
+
+  checkArrow-brief : (e : Term) (t a b : Ty) (f : Option Lambda) → Brief σ (checkArrow E e t a b f)
+  checkArrow-brief e t a b none = λ u. tt
+  checkArrow-brief e t a b (some f) = tt
+
+  checkBy-brief : (e : Term) (t : Ty) (v : View) → Brief σ (checkBy E e t v)
+  checkBy-brief e t (isArrow a b) = checkArrow-brief e t a b (lambdaOf e)
+  checkBy-brief e t (isForall x b) = λ u. tt
+  checkBy-brief e t (isApp a b) = λ u. tt
+  checkBy-brief e t (isUnknown k) = λ u. tt
+  checkBy-brief e t isOther = λ u. tt
+
+  applyBy-brief : (f : Ty) (e : Term) (c : Ty) (v : View) → length f ≤ 1024 → Brief σ (applyBy E f e c v)
+  applyBy-brief f e c (isArrow a b) h = tt
+  applyBy-brief f e c (isForall x b) h = λ a. tt
+  applyBy-brief f e c (isUnknown k) h = λ a b τ. tt
+  applyBy-brief f e c (isApp a b) h = omega arith
+  applyBy-brief f e c isOther h = omega arith
+
+---------------------------------------------------------------- a run
+abbrev EndNarrow : End → Type 0
+EndNarrow accepted = Unit {0}
+EndNarrow ceiling = Unit {0}
+EndNarrow (refusedBy r ts) = Small r
+
+-- at most c entries taken
+abbrev RunNarrow : ℕ → Run → Type 0
+RunNarrow c (run ss d (state Γ σ n)) = (length ss ≤ c) × EndNarrow d × (n ≤ 1000)
+
+add-narrow : (c : ℕ) (t : Step) (R : Run) → RunNarrow c R → RunNarrow (suc c) (addStep t R)
+add-narrow c t (run ss d (state Γ σ n)) h = (omega (arith, h .0), h .1, h .2)
+
+module _ (Plain : Type 0) (E : Env) (hE : EnvOK Plain E) (wE : EnvWhole E) (sE : All Short (E .constructors)) where
+  rule-brief : (Γ : Board) (σ : Solutions) (n : ℕ) → Inv Plain Γ σ n → n ≤ 1000 → (e : Entry) → EntryOK Plain n e → EntryWhole e → Brief σ (rule E e)
+  unfolding inferApp
+  rule-brief Γ σ n i l (tvar x) h w = tt
+  rule-brief Γ σ n i l (var x t) h w = tt
+  rule-brief Γ σ n i l (sub s t) h w = subtype-brief σ s t (below s (h .0)) (below t (h .1))
+    where
+      below : (t : Ty) → All (OK Plain n) t → Below (view (writeOut σ t))
+      below t g = shown-below Plain n (writeOut σ t) (view (writeOut σ t)) (view-shows (writeOut σ t)) l (written-ok Plain Γ σ n t i g)
+  rule-brief Γ σ n i l (inf e t) h w = inferBy-brief σ E sE t (termView e) (term-in-range e (part-in-range aTerm e (w .0)))
+  rule-brief Γ σ n i l (chk e t) h w = checkBy-brief σ E sE e t (view t)
+  rule-brief Γ σ n i l (infApp f e c) h w = λ hf hc. applyBy-brief σ E sE (writeOut σ f) e (writeOut σ c) (view (writeOut σ f)) hf
+
+  onward-narrow : (c : ℕ) (Q : Board → Solutions → ℕ → Type 0) (s : State) (e : Entry) (os : List Operation) (o : Outcome) (again : State → Run)
+      → Kept Plain Q o → OutcomeWhole o → OutcomeNarrow o
+      → ((Γ₁ : Board) (σ₁ : Solutions) (n₁ : ℕ) → Inv Plain Γ₁ σ₁ n₁ → StateWhole (state Γ₁ σ₁ n₁) → n₁ ≤ 1000 → RunNarrow c (again (state Γ₁ σ₁ n₁)))
+      → RunNarrow (suc c) (onward limits E s e os o again)
+  onward-narrow c Q s e os (finished (state Γ₁ σ₁ n₁)) again k w g f =
+      add-narrow c (step s e os (finished (state Γ₁ σ₁ n₁))) (again (state Γ₁ σ₁ n₁)) (f Γ₁ σ₁ n₁ (k .0) w g)
+  onward-narrow c Q s e os (refused r ts (state Γ₁ σ₁ n₁)) again k w g f = (omega arith, g .1, g .0)
+
+  run-narrow : (c : ℕ) (Γ : Board) (σ : Solutions) (n : ℕ) → Inv Plain Γ σ n → StateWhole (state Γ σ n) → n ≤ 1000
+      → RunNarrow c (runFrom limits E c (state Γ σ n))
+  unfolding runFrom
+  run-narrow zero [] σ n i w l = (omega arith, tt, l)
+  run-narrow zero (e ∷ Γ) σ n i w l = (omega arith, tt, l)
+  run-narrow (suc c) [] σ n i w l = (omega arith, tt, l)
+  run-narrow (suc c) (e ∷ Γ) σ n i w l =
+      let j : Inv Plain Γ σ n = record { entries = i .entries .1; fine = i .fine; solutions = i .solutions } in
+      onward-narrow c (Explains Plain σ e) (state (e ∷ Γ) σ n) e (operations limits (rule E e) Γ σ n) (perform limits (rule E e) Γ σ n) (λ s. runFrom limits E c s)
+      (perform-kept Plain limits (Explains Plain σ e) (rule E e) Γ σ n j (rule-good Plain E hE Γ σ n j e (i .entries .0)))
+      (perform-whole limits (rule E e) Γ σ n (w .0 .1) (w .1) (rule-whole E wE e (w .0 .0)))
+      (perform-narrow (rule E e) Γ σ n l (rule-brief Γ σ n j l e (i .entries .0) (w .0 .0)))
+      (λ Γ₁ σ₁ n₁ i₁ w₁ l₁. run-narrow c Γ₁ σ₁ n₁ i₁ w₁ l₁)
+
+---------------------------------------------------------------- a plan
+end-small : (d : End) → EndNarrow d → (endNumber d ≤ 25) × (endDetails d .0 ≤ 9999) × (endDetails d .1 ≤ 1024)
+end-small accepted h = omega arith
+end-small ceiling h = omega arith
+end-small (refusedBy r ts) h = h
+
+result-narrow : (c : ℕ) (plain : Bool) → c ≤ 10000 → (R : Run) → RunNarrow c R → Narrow (resultOf plain R .answer)
+unfolding resultOf
+result-narrow c plain l (run ss d (state Γ σ n)) h =
+    let e = end-small d (h .1) in
+    record {
+      number = e .0;
+      line = omega arith;
+      taken = omega (arith, h .0);
+      fresh = h .2;
+      detail1 = e .1;
+      detail2 = e .2;
+      plain = cond-ind (λ (k : ℕ). k ≤ 1) plain (λ _. omega arith) (λ _. omega arith);
+    }
+
+nodes-length : (ls : List Triple) → length (nodesOf ls) ≡ length ls
+nodes-length [] = refl
+nodes-length (l ∷ ls) = ap suc (nodes-length ls)
+
+bindings-short : (k : ℕ) (ls : List Triple) (es : List Declaration) → length ls ≤ 2000 → All Short (bindingsIn k ls es)
+unfolding bindingsIn
+bindings-short k ls [] h = tt
+bindings-short k ls (e ∷ es) h =
+    let t : List Triple = take (e .count) (drop (e .line) ls) in
+    cond-ind (All Short) (eqb (e .head .kind) k)
+    (λ _. (omega (arith, nodes-length t, length-take (e .count) (drop (e .line) ls), length-drop (e .line) ls), bindings-short k ls es h))
+    (λ _. bindings-short k ls es h)
+
+plan-short : (ls : List Triple) → length ls ≤ 2000 → All Short (planOf ls .constructors)
+unfolding planOf
+plan-short ls h = bindings-short 1 ls (declarations ls 0 0) h
+
+judge-narrow : (s : List ℕ) (c : ℕ) → c ≤ 10000 → check s ≡ Plan → Narrow (judge limits c (triples s) .answer)
+unfolding judge runOf checkType
+judge-narrow s c l e =
+    let p : PlanOf = planOf (triples s) in
+    let g = sheet-plan s e in
+    let w = plan-whole s e in
+    let first : Board = chk (p .term) (p .expected) ∷ [] in
+    result-narrow c (p .plain) l (runFrom limits (envOf p) c (state first [] 0))
+    (run-narrow (p .plain ≡ true) (envOf p) (plan-env p g) (w .0) (plan-short (triples s) (plan-few s e)) c first [] 0 (plan-inv p g) ((w .1, tt), tt) (omega arith))
+
+---------------------------------------------------------------- a whole call
+before-run : (number line : ℕ) → number ≤ 25 → line ≤ 2001 → Narrow (refusedAt number line)
+before-run number line h k =
+    record { number = h; line = k; taken = omega arith; fresh = omega arith; detail1 = omega arith; detail2 = omega arith; plain = omega arith }
+
+check-narrow : (s : List ℕ) (c : ℕ) (b : Buffers) → c ≤ 10000 → (k : Check) → check s ≡ k → checkLine k ≤ 2001 → Narrow (byCheck s c b k .answer)
+check-narrow s c b l Plan e h = judge-narrow s c l e
+check-narrow s c b l Length e h = before-run 3 0 (omega arith) (omega arith)
+check-narrow s c b l (Misspelt i) e h = before-run 4 i (omega arith) h
+check-narrow s c b l (Unfit i) e h = before-run 5 i (omega arith) h
+
+-- NARROW: for all bytes, every ceiling and any buffers
+pub narrow : (s : List ℕ) (c : ℕ) (b : Buffers) → Narrow (call s c b .answer)
+unfolding call
+narrow s c b =
+    let N : Called → Type 0 = λ k. Narrow (k .answer) in
+    cond-ind N (ltb 10000 c) (λ _. before-run 1 0 (omega arith) (omega arith))
+    (λ e. cond-ind N (tooShort b) (λ _. before-run 2 0 (omega arith) (omega arith))
+    (λ _. check-narrow s c b (ltb-false 10000 c e) (check s) refl (line-small s)))
