@@ -6,3 +6,5 @@ pub mod Ending
 pub mod Starting
 pub mod Finishing
 pub mod Answering
+pub mod Walking
+pub mod Lending

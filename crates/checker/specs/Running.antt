@@ -28,6 +28,8 @@ use Rattle.operations.specs.declared.Halt.{Halt}
 use Rattle.operations.specs.declared.Halt.the-variants.{Going, Refused}
 use Rattle.operations.specs.declared.Run.{Run}
 use Rattle.operations.specs.State.{reported, outcomeOf, WellFormed, going}
+use Rattle.checker.specs.declared.Counters.{Counters}
+use Rattle.checker.specs.declared.Kept.{Kept}
 use Rattle.subtyping.specs.Subtyping.{Sound}
 use Rattle.applying.specs.Applying.{envOn}
 use Rattle.inferring.specs.Inferring.{CaseRoom}
@@ -82,6 +84,22 @@ answerBy plain e taken fresh = record {
   detail2 = endDetails e .1;
   plain = cond plain 1 0;
 }
+
+-- ---- a run's counters, and what it has beside them
+abbrev pub joined : Counters → Kept → Run
+joined n k = record {
+  taken = n .taken;
+  fresh = n .fresh;
+  board = record { entries = n .entries; nodes = n .nodes };
+  book = k .book;
+  halt = k .halt;
+}
+
+abbrev pub countersOf : Run → Counters
+countersOf r = record { taken = r .taken; fresh = r .fresh; entries = r .board .entries; nodes = r .board .nodes }
+
+abbrev pub keptOf : Run → Kept
+keptOf r = record { book = r .book; halt = r .halt }
 
 -- ---- what a step asks
 -- the rows of a sheet that is taken

@@ -15,7 +15,7 @@ ghost use Rattle.judgment.specs.Result.{endNumber, endDetails, limits, judge, r
 ghost use Rattle.operations.specs.State.{outcomeOf, stateOf, reported, WellFormed, Does, going};
 ghost use Rattle.applying.specs.Applying.{envOn};
 ghost use Rattle.judgment.specs.Board.{finished};
-ghost use Rattle.checker.specs.Running.{startOf, told, endBy, endOf, reportEnd, answerBy, topEntry, StartAsk, JudgeAsk, Reached, StepAsk, Lent};
+ghost use Rattle.checker.specs.Running.{startOf, told, endBy, endOf, reportEnd, answerBy, topEntry, StartAsk, JudgeAsk, Reached, StepAsk, Lent, joined, countersOf, keptOf};
 ghost use Rattle.checker.specs.Calling.{PlanAsk, RunAsk, RowsAsk, Ran, FrontAsk, Fronted, Answered};
 use applying::solve_inf_app;
 use board::Board;
@@ -46,6 +46,25 @@ use sheet::is_plain;
 use sheet::part_line;
 use sheet::read_rows;
 use subtyping::solve_subtype;
+
+// The counters of a run: entries taken, fresh numbers, the board's entries and their nodes. A step is lent them.
+pub struct Counters {
+    pub taken: u32,
+    pub fresh: u32,
+    pub entries: usize,
+    pub nodes: usize,
+}
+
+// What a run has beside its counters.
+struct Kept {
+    book: Book,
+    halt: Halt,
+}
+
+struct Stepped {
+    counters: Counters,
+    kept: Kept,
+}
 
 // Performs the rule of an entry that was taken off the board. A type is copied where the rule's pushes would write over it; a TVar or a Var is dropped.
 fn solve_judgment(
@@ -85,7 +104,131 @@ fn solve_judgment(
     c
 }
 
-// One step: takes the newest entry.
+// The run that counters and the rest make together.
+fn run_of(n: Counters, k: Kept) -> Run
+    ensures { λ r. ⌜ r ≡ joined n k ⌝ }
+{
+    let book = k.book;
+    let halt = k.halt;
+    Run {
+        taken: n.taken,
+        fresh: n.fresh,
+        board: Board {
+            entries: n.entries,
+            nodes: n.nodes,
+        },
+        book,
+        halt,
+    }
+}
+
+fn counters_of(run: Run) -> Counters
+    ensures { λ r. ⌜ r ≡ countersOf run ⌝ }
+{
+    let board = run.board;
+    Counters {
+        taken: run.taken,
+        fresh: run.fresh,
+        entries: board.entries,
+        nodes: board.nodes,
+    }
+}
+
+fn kept_of(run: Run) -> Kept
+    ensures { λ r. ⌜ r ≡ keptOf run ⌝ }
+{
+    let book = run.book;
+    let halt = run.halt;
+    Kept { book, halt }
+}
+
+// One step: takes the newest entry. The slices have one lifetime here and in the two functions below, so that a proof by hand has one token for them all.
+fn step_apart<'a>(
+    c: Counters,
+    kept: Kept,
+    board: &'a mut [u32],
+    book: &'a mut [u32],
+    report: &'a mut [u32],
+    s: &'a [u64],
+    t: &'a mut [u32],
+    l: &'a mut [u32],
+    r: &'a mut [u32],
+    w: &'a mut [usize],
+    v: &'a mut [usize],
+) -> Stepped
+    requires { ⌜ StepAsk (now s) (now board) (now book) (now report) (joined c kept) (now t) (now l) (now r) (now w) (now v) ⌝ }
+    ensures { λ q. ⌜ Reached (now (s .entry)) (now (board .exit)) (now (book .exit)) (now (report .exit)) (joined (q .counters) (q .kept)) × (q .counters .taken ≡ c .taken + 1) ⌝ }
+{
+    let b = Board {
+        entries: c.entries,
+        nodes: c.nodes,
+    };
+    let o = pop(board, b);
+    let rest = o.rest;
+    let solved = kept.book;
+    let halt = kept.halt;
+    let taken = Run {
+        taken: c.taken + 1,
+        fresh: c.fresh,
+        board: rest,
+        book: solved,
+        halt,
+    };
+    let q = solve_judgment(board, book, report, taken, o, s, t, l, r, w, v);
+    Stepped {
+        counters: counters_of(q),
+        kept: kept_of(q),
+    }
+}
+
+// The same with the counters lent: they are changed where they stand.
+fn step_lent<'c, 'a>(
+    c: &'c mut Counters,
+    kept: Kept,
+    board: &'a mut [u32],
+    book: &'a mut [u32],
+    report: &'a mut [u32],
+    s: &'a [u64],
+    t: &'a mut [u32],
+    l: &'a mut [u32],
+    r: &'a mut [u32],
+    w: &'a mut [usize],
+    v: &'a mut [usize],
+) -> Kept
+    requires { ⌜ StepAsk (now s) (now board) (now book) (now report) (joined (now c) kept) (now t) (now l) (now r) (now w) (now v) ⌝ }
+    ensures { λ q. ⌜ Reached (now (s .entry)) (now (board .exit)) (now (book .exit)) (now (report .exit)) (joined (now (c .exit)) q) × (now (c .exit) .taken ≡ now (c .entry) .taken + 1) ⌝ }
+{
+    let q = step_apart(*c, kept, board, book, report, s, t, l, r, w, v);
+    *c = q.counters;
+    q.kept
+}
+
+// Lends them. Its parameters are plain, so whoever calls it needs no proof by hand.
+fn lend_step<'a>(
+    c: Counters,
+    kept: Kept,
+    board: &'a mut [u32],
+    book: &'a mut [u32],
+    report: &'a mut [u32],
+    s: &'a [u64],
+    t: &'a mut [u32],
+    l: &'a mut [u32],
+    r: &'a mut [u32],
+    w: &'a mut [usize],
+    v: &'a mut [usize],
+) -> Stepped
+    requires { ⌜ StepAsk (now s) (now board) (now book) (now report) (joined c kept) (now t) (now l) (now r) (now w) (now v) ⌝ }
+    ensures { λ q. ⌜ Reached (now (s .entry)) (now (board .exit)) (now (book .exit)) (now (report .exit)) (joined (q .counters) (q .kept)) × (q .counters .taken ≡ c .taken + 1) ⌝ }
+{
+    let mut mine = c;
+    let k = step_lent(&mut mine, kept, board, book, report, s, t, l, r, w, v);
+    Stepped {
+        counters: mine,
+        kept: k,
+    }
+}
+
+// One step of a run, its counters lent.
 fn solve_step(
     board: &mut [u32],
     book: &mut [u32],
@@ -101,19 +244,12 @@ fn solve_step(
     requires { ⌜ StepAsk (now s) (now board) (now book) (now report) c (now t) (now l) (now r) (now w) (now v) ⌝ }
     ensures { λ q. ⌜ Reached (now (s .entry)) (now (board .exit)) (now (book .exit)) (now (report .exit)) q × (q .taken ≡ c .taken + 1) ⌝ }
 {
-    let b = c.board;
-    let o = pop(board, b);
-    let rest = o.rest;
-    let kept = c.book;
-    let halt = c.halt;
-    let taken = Run {
-        taken: c.taken + 1,
-        fresh: c.fresh,
-        board: rest,
-        book: kept,
-        halt,
-    };
-    solve_judgment(board, book, report, taken, o, s, t, l, r, w, v)
+    let counters = counters_of(c);
+    let kept = kept_of(c);
+    let q = lend_step(counters, kept, board, book, report, s, t, l, r, w, v);
+    let n = q.counters;
+    let k = q.kept;
+    run_of(n, k)
 }
 
 // An entry is to be taken: the run was not refused, one remains, and the ceiling is not reached.

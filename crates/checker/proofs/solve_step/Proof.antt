@@ -1,15 +1,18 @@
-use mathlib.Core.Path.{_≡_, refl, sym, ap, ap₂, _∙_}
-use Rattle.checker.proofs.Stepping.{step-asks, step-reached}
+use mathlib.Core.Path.{ap, _∙_}
+use Prim.Native.Nat.{_+_}
 use borrow.Author.Needs.{needs}
+use Rattle.checker.specs.declared.Counters.{Counters}
 use Rattle.checker.proofs.solve_step.Statement.{statement}
 use Rattle.checker.proofs.solve_step.Tie as tie
 
-solve-judgment-requires : tie.Need-solve-judgment-requires
-solve-judgment-requires c κs = step-asks (c .before .before .before .before .before .before .before .before .before .before .before .before .before .before .before .before .before .before .before .before .before .before .before .pre) _ (c .before .before .before .before .before .before .before .before .before .before .before .pop .ensures)
+lend-step-requires : tie.Need-lend-step-requires
+lend-step-requires c κs = rw (c .before .before .before .before .before .before .before .before .before .counters-of .ensures, c .before .before .before .before .before .before .before .before .kept-of .ensures) (c .before .before .before .before .before .before .before .before .before .before .before .before .before .before .before .before .before .before .before .pre)
 
 returns : tie.Need-returns
-returns c = step-reached (c .before .before .before .before .before .before .before .before .before .before .before .before .before .before .before .before .before .before .before .before .before .before .before .before .before .before .before .before .before .before .before .before .before .before .before .before .before .before .before .before .pre) _ (c .before .before .before .before .before .before .before .before .before .before .before .before .before .before .before .before .before .before .before .before .before .before .before .before .before .before .before .before .pop .ensures) (c .before .before .before .before .before .before .before .before .before .before .before .before .before .before .before .before .solve-judgment .ensures)
+returns c =
+    let e = c .before .before .before .before .before .before .before .before .before .before .before .before .before .before .before .before .before .before .before .lend-step .ensures in
+    rw (c .run-of .ensures) (e .0, e .1 ∙ ap (λ (n : Counters). n .taken + 1) (c .before .before .before .before .before .before .before .before .before .before .before .before .before .before .before .before .before .before .before .before .before .before .before .before .before .before .before .before .before .counters-of .ensures))
 
 pub solve-step-spec : {M : Type 1} → statement M
 solve-step-spec =
-    tie.close (tie.spec (λ c κs. search needs) (λ c. search needs) solve-judgment-requires (λ c. search needs) (λ c. search needs) (λ c. search needs) (λ c. search needs) (λ c. search needs) (λ c. search needs) (λ c. search needs) (λ c. search needs) returns)
+    tie.close (tie.spec (λ c κs. search needs) (λ c κs. search needs) lend-step-requires (λ c κs. search needs) (λ c. search needs) (λ c. search needs) (λ c. search needs) (λ c. search needs) (λ c. search needs) (λ c. search needs) (λ c. search needs) (λ c. search needs) returns)
