@@ -12,12 +12,12 @@ use lib.Seq.{sets, sets-eq}
 use borrow.Author.Tests.{lt-ltb, le-ltb, ltb-false}
 use Rattle.grammar.specs.declared.Check.{Check}
 use Rattle.grammar.specs.declared.Check.the-variants.{Plan, Length, Misspelt, Unfit}
-use Rattle.grammar.specs.Check.{check, checkLine}
+use Rattle.grammar.specs.Check.{check, checkNumber, checkLine}
 use Rattle.grammar.proofs.Lines.{line-small}
 use Rattle.sheet.specs.Plan.{triples, planOf}
 use Rattle.judgment.specs.declared.Answer.{Answer}
 use Rattle.judgment.specs.Board.{chk}
-use Rattle.judgment.specs.Result.{Result, Buffers, Called, limits, judge, refusedAt, tooShort, byCheck, call, boardWords, bookWords, reportWords}
+use Rattle.judgment.specs.Result.{Result, Buffers, Called, limits, judge, refusedAt, tooShort, refusedSheet, byCheck, call, boardWords, bookWords, reportWords}
 use Rattle.judgment.proofs.Promised.{promise}
 use Rattle.judgment.proofs.Words.{length-board, length-book, length-report}
 use Rattle.checker.specs.Calling.{Ran, FrontAsk, Fronted, Answered}
@@ -58,14 +58,9 @@ module _ (s : List ℕ) (c : ℕ) (b : Buffers) where
     unfolding call
     by-check v z = rw (le-ltb 10000 c h, sym t ∙ q, z) refl
 
-    pub bad-length : {a : Answer} → check s ≡ Length → a ≡ refusedAt 3 0 → Answered s c b a b
-    bad-length z e = called (by-check Length z ∙ rw e refl)
-
-    pub misspelt : {a : Answer} {l : ℕ} → check s ≡ Misspelt l → a ≡ refusedAt 4 l → Answered s c b a b
-    misspelt {l = l} z e = called (by-check (Misspelt l) z ∙ rw e refl)
-
-    pub unfit : {a : Answer} {l : ℕ} → check s ≡ Unfit l → a ≡ refusedAt 5 l → Answered s c b a b
-    unfit {l = l} z e = called (by-check (Unfit l) z ∙ rw e refl)
+    -- 3, 4 or 5
+    pub refused-by : (k : Check) {a : Answer} → check s ≡ k → byCheck s c b k ≡ refusedSheet k b → a ≡ refusedAt (checkNumber k) (checkLine k) → Answered s c b a b
+    refused-by k z p e = called (by-check k z ∙ p ∙ rw e refl)
 
     long-enough : tooShort b ≡ false → (16384 ≤ length (b .board)) × (10192 ≤ length (b .book)) × (4096 ≤ length (b .report))
     long-enough = go (ltb (length (b .board)) 16384) (ltb (length (b .book)) 10192) (ltb (length (b .report)) 4096) refl refl refl

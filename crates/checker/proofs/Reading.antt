@@ -1,19 +1,17 @@
 -- A sheet that is taken, and its rows: what is known of the one is known of the other. Assumes nothing.
 use mathlib.Core.Path.{_≡_, refl, ap, subst, subst⁻¹}
-use mathlib.Core.Bool.{Bool, true, false, cond}
 use mathlib.Core.List.{List}
 use Prim.Native.Nat.{ℕ, _+_, _*_, _/_, _≤_}
 use native.Mathlib.Omega.{arith}
 use lib.ListN.{length}
 use Rattle.spelling.specs.declared.Triple.{Triple}
-use Rattle.grammar.specs.declared.Check.{Check}
-use Rattle.grammar.specs.declared.Check.the-variants.{Plan, Length}
-use Rattle.grammar.specs.Check.{check, lengthOk}
-use Rattle.grammar.proofs.Lines.{few-lines}
+use Rattle.grammar.specs.declared.Check.the-variants.{Plan}
+use Rattle.grammar.specs.Check.{check}
 use Rattle.sheet.specs.Plan.{triples, planOf}
 use Rattle.sheet.specs.Rows.{rows, Ended}
 use Rattle.sheet.specs.Form.{Formed}
 use Rattle.sheet.proofs.Lines.{length-triples}
+use Rattle.sheet.proofs.Ranges.{plan-few}
 use Rattle.sheet.proofs.Formed.{formed}
 use Rattle.judgment.specs.Board.{chk}
 use Rattle.judgment.specs.declared.Answer.{Answer}
@@ -26,12 +24,7 @@ use Rattle.checker.specs.Calling.{Ran}
 
 -- at most 2,000 lines
 pub plan-lines : (s : List ℕ) → check s ≡ Plan → length s / 29 ≤ 2000
-unfolding check
-plan-lines s e = go (lengthOk (length s)) refl _ e
-  where
-    go : (b : Bool) → lengthOk (length s) ≡ b → (x : Check) → cond b x Length ≡ Plan → length s / 29 ≤ 2000
-    go true h x q = few-lines (length s) h
-    go false h x q = absurd (let z : _≡_ {A = ℕ} 0 1 = cc in omega arith)
+plan-lines s e = let n = length-triples s in let m = plan-few s e in omega arith
 
 module _ {d : List ℕ} (h : Read d) where
   pub read-few : length (rows d) ≤ 2000

@@ -4,8 +4,7 @@ use Prim.Native.Nat.{ℕ, _≤_, _<_}
 use native.Mathlib.Omega.{arith}
 use denote.Ref.{now}
 use Rattle.judgment.specs.Result.{Buffers}
-use Rattle.checker.proofs.Answering.{high-ceiling, short-buffer, bad-length, misspelt, unfit, front-asks, answered, line-word}
-use borrow.Author.Needs.{needs}
+use Rattle.checker.proofs.Answering.{high-ceiling, short-buffer, refused-by, front-asks, answered, line-word}
 use borrow.Author.Needs.{needs}
 use Rattle.checker.proofs.check_type.Statement.{statement}
 use Rattle.checker.proofs.check_type.Tie as tie
@@ -59,36 +58,15 @@ returns-3 c =
 
 returns-4 : tie.Need-returns-4
 returns-4 c =
-    let a = c .before .before .before .before .before .before .before .before .before .before .before .before .before .before .args in
-    let s = now (a .sheet) in
-    let B : Buffers = record { board = now (a .board); book = now (a .book); report = now (a .report) } in
-    let l = c .before .before .before .before .before .before .before .before .before .if1 .left in
-    let h : a .ceiling ≤ 10000 = omega arith in
-    let t = c .before .before .before .before .before .too-short .ensures in
-    let q = c .before .before .before .before .if2 .left in
-    bad-length s (a .ceiling) B h t q (sym (c .before .before .before .check-sheet .ensures) ∙ c .before .enum-told2 .given .1) (c .refused3 .ensures)
+    refused-by (now (c .before .before .before .before .before .before .before .before .before .before .before .before .before .before .args .sheet)) (c .before .before .before .before .before .before .before .before .before .before .before .before .before .before .args .ceiling) (record { board = now (c .before .before .before .before .before .before .before .before .before .before .before .before .before .before .args .board); book = now (c .before .before .before .before .before .before .before .before .before .before .before .before .before .before .args .book); report = now (c .before .before .before .before .before .before .before .before .before .before .before .before .before .before .args .report) }) (let l = c .before .before .before .before .before .before .before .before .before .if1 .left in omega arith) (c .before .before .before .before .before .too-short .ensures) (c .before .before .before .before .if2 .left) _ (sym (c .before .before .before .check-sheet .ensures) ∙ c .before .enum-told2 .given .1) refl (c .refused3 .ensures)
 
 returns-5 : tie.Need-returns-5
 returns-5 c =
-    let a = c .before .before .before .before .before .before .before .before .before .before .before .before .before .before .before .args in
-    let s = now (a .sheet) in
-    let B : Buffers = record { board = now (a .board); book = now (a .book); report = now (a .report) } in
-    let l = c .before .before .before .before .before .before .before .before .before .before .if1 .left in
-    let h : a .ceiling ≤ 10000 = omega arith in
-    let t = c .before .before .before .before .before .before .too-short .ensures in
-    let q = c .before .before .before .before .before .if2 .left in
-    misspelt s (a .ceiling) B h t q (sym (c .before .before .before .before .check-sheet .ensures) ∙ c .before .before .line .given .1) (c .refused4 .ensures)
+    refused-by (now (c .before .before .before .before .before .before .before .before .before .before .before .before .before .before .before .args .sheet)) (c .before .before .before .before .before .before .before .before .before .before .before .before .before .before .before .args .ceiling) (record { board = now (c .before .before .before .before .before .before .before .before .before .before .before .before .before .before .before .args .board); book = now (c .before .before .before .before .before .before .before .before .before .before .before .before .before .before .before .args .book); report = now (c .before .before .before .before .before .before .before .before .before .before .before .before .before .before .before .args .report) }) (let l = c .before .before .before .before .before .before .before .before .before .before .if1 .left in omega arith) (c .before .before .before .before .before .before .too-short .ensures) (c .before .before .before .before .before .if2 .left) _ (sym (c .before .before .before .before .check-sheet .ensures) ∙ c .before .before .line .given .1) refl (c .refused4 .ensures)
 
 returns-6 : tie.Need-returns-6
 returns-6 c =
-    let a = c .before .before .before .before .before .before .before .before .before .before .before .before .before .before .before .args in
-    let s = now (a .sheet) in
-    let B : Buffers = record { board = now (a .board); book = now (a .book); report = now (a .report) } in
-    let l = c .before .before .before .before .before .before .before .before .before .before .if1 .left in
-    let h : a .ceiling ≤ 10000 = omega arith in
-    let t = c .before .before .before .before .before .before .too-short .ensures in
-    let q = c .before .before .before .before .before .if2 .left in
-    unfit s (a .ceiling) B h t q (sym (c .before .before .before .before .check-sheet .ensures) ∙ c .before .before .line2 .given .1) (c .refused5 .ensures)
+    refused-by (now (c .before .before .before .before .before .before .before .before .before .before .before .before .before .before .before .args .sheet)) (c .before .before .before .before .before .before .before .before .before .before .before .before .before .before .before .args .ceiling) (record { board = now (c .before .before .before .before .before .before .before .before .before .before .before .before .before .before .before .args .board); book = now (c .before .before .before .before .before .before .before .before .before .before .before .before .before .before .before .args .book); report = now (c .before .before .before .before .before .before .before .before .before .before .before .before .before .before .before .args .report) }) (let l = c .before .before .before .before .before .before .before .before .before .before .if1 .left in omega arith) (c .before .before .before .before .before .before .too-short .ensures) (c .before .before .before .before .before .if2 .left) _ (sym (c .before .before .before .before .check-sheet .ensures) ∙ c .before .before .line2 .given .1) refl (c .refused5 .ensures)
 
 pub check-type-spec : {M : Type 1} → statement M
 check-type-spec =
