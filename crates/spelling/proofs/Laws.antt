@@ -1,15 +1,15 @@
 -- One byte of a field, and one line of a sheet, taken off the front.
 -- Assumes nothing.
 use mathlib.Core.Path.{_≡_, refl, sym, _∙_, ap, subst⁻¹}
-use mathlib.Core.Bool.{Bool, true, false, cond, _&&_}
+use mathlib.Core.Bool.{Bool, true, false, cond, _&&_, and-true, and-false, and-assoc, false≢true}
 use mathlib.Core.List.{List, [], _∷_}
 use Prim.Native.Nat.{ℕ, zero, suc, _+_, _*_, _-_, _/_, _≤_, _<_}
 use native.Mathlib.Omega.{arith}
 use native.Mathlib.Nat.{add-assoc, add-zero, zero-add, sub-zero}
 use lib.Dec.{T, ltb, eqb, eqb→eq}
-use borrow.Author.Tests.{ltb-true, ltb-false, ne-eqb}
+use borrow.Author.Tests.{ltb-true, ltb-false, eq-eqb, ne-eqb}
 use lib.ListN.{length, getD, List·getD-eq-default}
-use Rattle.spelling.specs.Spelling.{fieldFrom, spacesFrom, step, unsigned, magnitude, signOk, lineOf, lineAt, linesFrom, linesOf, firstMisspelt}
+use Rattle.spelling.specs.Spelling.{fieldFrom, blank, spacesFrom, step, unsigned, magnitude, signOk, lineOf, lineAt, linesFrom, linesOf, firstMisspelt}
 use Rattle.spelling.specs.declared.Field.{Field}
 use Rattle.spelling.specs.declared.Field.the-variants.{Blank}
 use Rattle.spelling.specs.declared.Triple.{Triple}
@@ -56,6 +56,35 @@ module _ (s : List ℕ) where
   pub space-done : (at w i : ℕ) → w ≤ i → i ≡ i + spacesFrom s (at + i) (w - i)
   unfolding spacesFrom
   space-done at w i h = let e : w - i ≡ 0 = omega arith in rw (e, add-zero)
+
+  -- bytes that are spaces, one more and passed over
+  blank-snoc : (i at : ℕ) → blank s at (suc i) ≡ (blank s at i && eqb (getD s (at + i) 0) 32)
+  unfolding blank
+  blank-snoc zero at = rw add-zero (and-true (eqb (getD s at 0) 32))
+  blank-snoc (suc i) at =
+      let e : at + 1 + i ≡ at + suc i = omega arith in
+      ap (λ (b : Bool). eqb (getD s at 0) 32 && b) (blank-snoc i (at + 1) ∙ rw e) ∙ sym (and-assoc (eqb (getD s at 0) 32) (blank s (at + 1) i) (eqb (getD s (at + suc i) 0) 32))
+
+  pub blank-again : (at i : ℕ) {a r : Bool} → a ≡ blank s at i → r ≡ (a && eqb (getD s (at + i) 0) 32) → r ≡ blank s at (i + 1)
+  blank-again at i e q =
+      let k : i + 1 ≡ suc i = omega arith in
+      q ∙ rw (e, k) (sym (blank-snoc i at))
+
+  pub blank-skip : (n at w : ℕ) → n ≤ w → blank s at n ≡ true → n + spacesFrom s (at + n) (w - n) ≡ spacesFrom s at w
+  unfolding blank spacesFrom
+  blank-skip zero at w h e = simp (zero-add, add-zero, sub-zero)
+  blank-skip (suc n) at zero h e = absurd (omega arith)
+  blank-skip (suc n) at (suc w) h e = go (eqb (getD s at 0) 32) (blank s (at + 1) n) refl refl e (λ q. blank-skip n (at + 1) w (omega arith) q)
+    where
+      go : (a b : Bool) → eqb (getD s at 0) 32 ≡ a → blank s (at + 1) n ≡ b → (a && b) ≡ true → (blank s (at + 1) n ≡ true → n + spacesFrom s (at + 1 + n) (w - n) ≡ spacesFrom s (at + 1) w)
+          → suc n + spacesFrom s (at + suc n) (suc w - suc n) ≡ cond (eqb (getD s at 0) 32) (suc (spacesFrom s (at + 1) w)) 0
+      go true true p q r again =
+          let k : at + suc n ≡ at + 1 + n = omega arith in
+          let m : suc w - suc n ≡ w - n = omega arith in
+          let u = again q in
+          rw (p, k, m) (omega arith)
+      go true false p q r again = absurd (false≢true r)
+      go false b p q r again = absurd (false≢true r)
 
   skip-none : (at w : ℕ) → fieldFrom s (at + 0) (w - 0) Blank ≡ fieldFrom s at w Blank
   skip-none at w = rw (add-zero, sub-zero)

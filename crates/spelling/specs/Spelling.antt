@@ -39,6 +39,11 @@ unfoldable pub spacesFrom : List ℕ → ℕ → ℕ → ℕ
 spacesFrom s at zero = 0
 spacesFrom s at (suc w) = cond (eqb (getD s at 0) 32) (suc (spacesFrom s (at + 1) w)) 0
 
+-- the w bytes from at are spaces
+unfoldable pub blank : List ℕ → ℕ → ℕ → Bool
+blank s at zero = true
+blank s at (suc w) = eqb (getD s at 0) 32 && blank s (at + 1) w
+
 -- a number with no minus sign
 abbrev pub unsigned : Field → Bool
 unsigned Blank = false

@@ -1,8 +1,10 @@
 // How a sheet's lines are spelt: fields of decimal numbers, lines of 29 bytes.
 ghost use mathlib.Core.Path.{_≡_};
+ghost use mathlib.Core.Bool.{_&&_};
 ghost use Prim.Native.Nat.{ℕ, _+_, _*_, _-_, _/_, _≤_, _<_};
+ghost use lib.Dec.{eqb};
 ghost use lib.ListN.{length, getD};
-ghost use Rattle.spelling.specs.Spelling.{digitStep, otherStep, step, fieldFrom, spacesFrom, unsigned, magnitude, minus, signOk, lineOf, lineAt, linesOf, firstMisspelt};
+ghost use Rattle.spelling.specs.Spelling.{digitStep, otherStep, step, fieldFrom, blank, spacesFrom, unsigned, magnitude, minus, signOk, lineOf, lineAt, linesOf, firstMisspelt};
 
 // What the bytes of a field read so far spell.
 pub enum Field {
@@ -93,12 +95,46 @@ fn byte_step(f: Field, b: u8) -> Field
     }
 }
 
+// Only spaces so far, and one more.
+fn still(all: bool, b: u8) -> bool
+    ensures { λ r. ⌜ r ≡ (all && eqb b 32) ⌝ }
+{
+    if b == 32 { all } else { false }
+}
+
+// The 16 bytes from at are spaces. No byte ends the loop, so they are compared at once.
+fn sixteen_spaces(s: &[u8], at: usize) -> bool
+    requires { ⌜ at + 16 ≤ length (now s) ⌝ }
+    ensures { λ r. ⌜ r ≡ blank (now (s .entry)) at 16 ⌝ }
+{
+    let mut all = true;
+    let mut i = 0;
+    while i < 16 {
+        all = still(all, s[at + i]);
+        i += 1;
+    }
+    all
+}
+
+// How many of the w bytes from at may be passed over as spaces at once: 16 or none.
+fn spaces_at_once(s: &[u8], at: usize, w: usize) -> usize
+    requires { ⌜ at + w ≤ length (now s) ⌝ }
+    ensures { λ r. ⌜ (r ≤ w) × (r + spacesFrom (now (s .entry)) (at + r) (w - r) ≡ spacesFrom (now (s .entry)) at w) ⌝ }
+{
+    if 16 <= w {
+        if sixteen_spaces(s, at) {
+            return 16;
+        }
+    }
+    0
+}
+
 // How many spaces stand at the front of the w bytes from at.
 fn spaces(s: &[u8], at: usize, w: usize) -> usize
     requires { ⌜ at + w ≤ length (now s) ⌝ }
     ensures { λ r. ⌜ r ≡ spacesFrom (now (s .entry)) at w ⌝ }
 {
-    let mut i = 0;
+    let mut i = spaces_at_once(s, at, w);
     while i < w {
         if s[at + i] != 32 {
             return i;

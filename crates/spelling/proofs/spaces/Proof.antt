@@ -2,7 +2,6 @@ use borrow.Author.Needs.{needs}
 use mathlib.Core.Path.{_≡_, refl, sym, _∙_}
 use Prim.Native.Nat.{ℕ, _+_, _-_, _≤_}
 use native.Mathlib.Omega.{arith}
-use native.Mathlib.Nat.{add-zero, zero-add, sub-zero}
 use lib.ListN.{length}
 use Rattle.spelling.specs.Spelling.{spacesFrom}
 use Rattle.spelling.proofs.Laws.{space-again, space-stop, space-done}
@@ -16,17 +15,17 @@ abbrev μ-loop : tie.MeasureT-loop
 μ-loop s at w i₀ i = w - i
 
 loop-holds : tie.Need-loop-holds Inv-loop μ-loop
-loop-holds c = (search needs, search needs, simp (zero-add, add-zero, sub-zero))
+loop-holds c = (c .spaces-at-once .ensures .0, search needs, c .spaces-at-once .ensures .1)
 
 returns : tie.Need-returns Inv-loop μ-loop
-returns c = space-stop (c .before .before .before .before .args .s .now) (c .before .before .before .before .args .at) (c .before .before .before .before .args .w) (c .before .before .before .loop .i) (c .if1 .taken) ∙ c .before .before .before .loop .inv .2
+returns c = space-stop (c .before .before .before .before .before .before .args .s .now) (c .before .before .before .before .before .before .args .at) (c .before .before .before .before .before .before .args .w) (c .before .before .before .loop .i) (c .if1 .taken) ∙ c .before .before .before .loop .inv .2
 
 loop-again : tie.Need-loop-again Inv-loop μ-loop
-loop-again c = (search needs, search needs, space-again (c .before .before .before .before .args .s .now) (c .before .before .before .before .args .at) (c .before .before .before .before .args .w) (c .before .before .before .loop .i) (c .before .before .loop-test .taken) (c .if1 .left) ∙ c .before .before .before .loop .inv .2)
+loop-again c = (search needs, search needs, space-again (c .before .before .before .before .before .before .args .s .now) (c .before .before .before .before .before .before .args .at) (c .before .before .before .before .before .before .args .w) (c .before .before .before .loop .i) (c .before .before .loop-test .taken) (c .if1 .left) ∙ c .before .before .before .loop .inv .2)
 
 returns-2 : tie.Need-returns-2 Inv-loop μ-loop
-returns-2 c = space-done (c .before .before .args .s .now) (c .before .before .args .at) (c .before .before .args .w) (c .before .loop .i) (omega arith) ∙ c .before .loop .inv .2
+returns-2 c = space-done (c .before .before .before .before .args .s .now) (c .before .before .before .before .args .at) (c .before .before .before .before .args .w) (c .before .loop .i) (omega arith) ∙ c .before .loop .inv .2
 
 pub spaces-spec : {M : Type 1} → statement M
 spaces-spec =
-    tie.close (tie.spec Inv-loop μ-loop loop-holds (λ c. search needs) (λ c. search needs) returns (λ c. search needs) (λ c. search needs) loop-again returns-2)
+    tie.close (tie.spec Inv-loop μ-loop (λ c κs. search needs) loop-holds (λ c. search needs) (λ c. search needs) returns (λ c. search needs) (λ c. search needs) loop-again returns-2)
