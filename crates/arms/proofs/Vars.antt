@@ -12,10 +12,12 @@ use Rattle.operations.specs.declared.Run.{Run}
 use Rattle.operations.specs.State.{Pushes}
 use Rattle.references.specs.declared.TypeRef.{TypeRef}
 use Rattle.references.specs.References.{typeOf, Good}
-use Rattle.tables.specs.Rows.{nameAt, refAt, bindingsAt, Sound}
+use Rattle.tables.specs.Rows.{nameAt, refAt, bindingsAt}
 use Rattle.tables.proofs.Tables.{bindings-cons}
 use Rattle.patterns.specs.Turns.{Ready, Turn}
+use Rattle.patterns.proofs.Opened.{good-fits}
 use Rattle.patterns.proofs.Steps.{turn-none, turn-then, turn-as, var-turn}
+use Rattle.arms.specs.Arms.{VarsAsk}
 
 module _ (ls : List Triple) (v : List ℕ) (n : ℕ) where
   abbrev pub Left : ℕ → (ℕ → Rule) → Rule
@@ -43,5 +45,10 @@ module _ (ls : List Triple) (v : List ℕ) (n : ℕ) where
   unfolding pushVars bindingsAt
   vars-end i h l = let z : n - i ≡ 0 = omega arith in turn-then h (turn-none _ _ (h .ready) (λ f. sym (rw z)))
 
-pub row-good : (ls : List Triple) (v : List ℕ) (n i : ℕ) (q : TypeRef) → Sound ls v n → i < n → q ≡ refAt v i → Good ls q
-row-good ls v n i q s l e = subst⁻¹ (Good ls) e (s i l .0)
+-- a row of the loop
+module _ {b : List ℕ} {c : Run} {ls : List Triple} {v : List ℕ} {n : ℕ} {l : List ℕ} (p : VarsAsk b c ls v n l) {i : ℕ} {q : TypeRef} (h : i < n) (e : q ≡ refAt v i) where
+  pub row-good : Good ls q
+  row-good = subst⁻¹ (Good ls) e (p .sound i h .0)
+
+  pub row-fits : q .at + q .count ≤ 4096
+  row-fits = good-fits row-good

@@ -25,7 +25,7 @@ use Rattle.operations.specs.declared.Halt.{Halt}
 use Rattle.operations.specs.declared.Halt.the-variants.{Going, Refused}
 use Rattle.operations.specs.declared.Run.{Run}
 use Rattle.operations.specs.declared.Zonked.{Zonked}
-use Rattle.operations.specs.State.{reported, outcomeBy, stateOf, outcomeOf, WellFormed, Does, going, stopped, made, freshRun, Solves, Zonks}
+use Rattle.operations.specs.State.{reported, outcomeBy, stateOf, outcomeOf, WellFormed, Does, Performs, PerformsOnBoard, PerformsOnBook, going, stopped, made, freshRun, Solves, SolveAsk, Zonks}
 
 -- ---- what an outcome holds, refused or not
 counter-is : (h : Halt) (rep : List ℕ) (Γ : Entries) (σ : Solutions) (n : ℕ) → counterOf (outcomeBy h rep (state Γ σ n)) ≡ n
@@ -105,6 +105,21 @@ module _ {w : ℕ} {ls : List Triple} {b k rep : List ℕ} {c : Run} {b₂ k₂ 
         (ap (λ (n : ℕ). performO (limitsWith w) (f n) (freshO (limitsWith w) (outcomeOf ls b k rep c))) (counter-is (c .halt) rep (entriesOf ls b (c .board .entries)) (sols k) (c .fresh)))
 
 -- ---- what every rule leaves
+-- an operation keeps what is well formed, whatever the limit, the lines and the report
+module _ {b k : List ℕ} {c r : Run} where
+  pub kept : {p : List ℕ → Rule} → Performs c p r → WellFormed b k c → WellFormed b k r
+  kept d f = d 0 [] b k [] f .kept
+
+  pub kept-board : {b' : List ℕ} {p : List Triple → Rule} → PerformsOnBoard b c p b' r → WellFormed b k c → WellFormed b' k r
+  kept-board d f = d 0 [] k [] f .kept
+
+  pub kept-book : {k' : List ℕ} {p : Rule} → PerformsOnBook k c p k' r → WellFormed b k c → WellFormed b k' r
+  kept-book d f = d 0 [] b [] f .kept
+
+-- what a solution asks of a run, from the state that it comes to
+pub solve-asks : {b k : List ℕ} {c : Run} {x : ℕ} {s : List ℕ} {at n : ℕ} → WellFormed b k c → 0 < n → at + 2 * n ≤ length s → (c .halt ≡ Going → Solves k c x (nodesAt s at n)) → SolveAsk k c x s at n
+solve-asks f h l g = record { book = f .book; numbers = f .numbers; some = h; within = l; solves = g }
+
 -- an outcome that goes on
 abbrev goes : Outcome → Bool
 goes (finished s) = true

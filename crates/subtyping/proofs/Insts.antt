@@ -1,25 +1,28 @@
 -- Instantiation by the view of its type. Assumes nothing.
 use mathlib.Core.Path.{_≡_, refl, sym, ap, _∙_, subst}
+use mathlib.Core.Logic.{_≢_}
 use mathlib.Core.Bool.{Bool, true, false, cond, not}
-use mathlib.Core.List.{List, [], _∷_, _++_}
-use Prim.Native.Nat.{ℕ, zero, suc, _+_, _*_, _-_, _≤_, _<_}
+use mathlib.Core.List.{List, _∷_}
+use Prim.Native.Nat.{ℕ, _+_, _-_}
 use native.Mathlib.Omega.{arith}
 use lib.Dec.{eqb}
 use lib.ListN.{length, getD}
 use borrow.Author.Tests.{ne-eqb, eqb-false}
-use Rattle.nodes.specs.Nodes.{Node, node, Ty, nodesAt}
+use Rattle.nodes.specs.Nodes.{Ty, nodesAt}
 use Rattle.nodes.specs.Lists.{All}
 use Rattle.spelling.specs.declared.Triple.{Triple}
-use Rattle.judgment.specs.Types.{unknown, first, rest, View, isArrow, isApp, isForall, isUnknown, isOther, view}
+use Rattle.judgment.specs.Types.{unknown, first, rest, View, isArrow, isApp, isUnknown, isOther, view}
 use Rattle.judgment.specs.Solutions.{Free, keys}
 use Rattle.judgment.specs.Board.{Rule, done, solve, look, before}
 use Rattle.judgment.specs.Board.{Board as Entries}
-use Rattle.judgment.specs.Rules.{Side, left, right, onSide, offSide, solveMonotype, instantiateBy, instantiateFrom, instantiate}
+use Rattle.judgment.specs.Rules.{solveMonotype, instantiateBy, instantiateFrom, instantiate}
+use Rattle.board.specs.Board.{entriesOf}
 use Rattle.book.specs.Book.{sols}
 use Rattle.operations.specs.declared.Run.{Run}
-use Rattle.operations.specs.State.{Solves}
+use Rattle.operations.specs.State.{Does, Solves}
+use Rattle.operations.proofs.Then.{does-as, look-then}
 use Rattle.subtyping.specs.Subtyping.{shapeOf, sideOf, Made, splitBy, SplitAsk, MonoAsk, InstAsk}
-use Rattle.subtyping.proofs.Shapes.{unknown-is}
+use Rattle.subtyping.proofs.Shapes.{arrow-view, app-view, unknown-view, other-view, unknown-is}
 
 -- ---- the rule by its view
 module _ (d : Bool) (x : ℕ) (t : Ty) where
@@ -30,24 +33,24 @@ module _ (d : Bool) (x : ℕ) (t : Ty) where
   unfolding instantiateFrom
   by-view e = ap (instantiateBy (sideOf d) x t again) (sym e)
 
-  pub inst-arrow : (u : Ty) → view t ≡ isArrow (first u) (rest u) → splitBy 13 x (sideOf (not d)) (sideOf d) u ≡ instantiate (sideOf d) x t
+  inst-arrow : (u : Ty) → view t ≡ isArrow (first u) (rest u) → splitBy 13 x (sideOf (not d)) (sideOf d) u ≡ instantiate (sideOf d) x t
   inst-arrow u e = turned d ∙ by-view e
     where
       turned : (d : Bool) → splitBy 13 x (sideOf (not d)) (sideOf d) u ≡ instantiateBy (sideOf d) x t (λ t′. instantiateFrom (length t) (sideOf d) x t′) (isArrow (first u) (rest u))
       turned true = refl
       turned false = refl
 
-  pub inst-app : (u : Ty) → view t ≡ isApp (first u) (rest u) → splitBy 15 x (sideOf d) (sideOf d) u ≡ instantiate (sideOf d) x t
+  inst-app : (u : Ty) → view t ≡ isApp (first u) (rest u) → splitBy 15 x (sideOf d) (sideOf d) u ≡ instantiate (sideOf d) x t
   inst-app u e = by-view e
 
-  pub inst-other : view t ≡ isOther → solveMonotype x t ≡ instantiate (sideOf d) x t
+  inst-other : view t ≡ isOther → solveMonotype x t ≡ instantiate (sideOf d) x t
   inst-other e = by-view e
 
   -- the choice between two unknowns
-  abbrev pub reach : ℕ → Entries → Rule
+  abbrev reach : ℕ → Entries → Rule
   reach y Γ = cond (before x y Γ) (solve y (unknown x) done) (solveMonotype x t)
 
-  pub inst-unknown : (y : ℕ) → view t ≡ isUnknown y → look (reach y) ≡ instantiate (sideOf d) x t
+  inst-unknown : (y : ℕ) → view t ≡ isUnknown y → look (reach y) ≡ instantiate (sideOf d) x t
   inst-unknown y e = by-view e
 
 -- ---- what the calls ask
@@ -74,3 +77,29 @@ module _ {b k rep : List ℕ} {c : Run} {x at n : ℕ} (a : InstAsk b k rep c x 
       let f = subst (All (Free (x ∷ keys (sols k)))) q (a .solves .free) in
       let z : eqb y x ≡ false = ne-eqb y x (λ i. eqb-false x y (f .0 .0) (sym i)) in
       record { made = m .0 refl; unsolved = f .0 .1; free = ((z, a .solves .unsolved), tt) }
+
+  -- ---- the branches of the code, by the shape that it has read
+  abbrev T : Ty
+  T = nodesAt rep at n
+
+  abbrev body : Ty
+  body = nodesAt rep (at + 2) (n - 1)
+
+  abbrev y : ℕ
+  y = getD rep (at + 1) 0
+
+  module _ (d : Bool) {s : ℕ} (e : s ≡ shapeOf (view T)) where
+    pub by-arrow : s ≡ 1 → splitBy 13 x (sideOf (not d)) (sideOf d) body ≡ instantiate (sideOf d) x T
+    by-arrow h = inst-arrow d x T body (arrow-view rep at n (sym e ∙ h))
+
+    pub by-app : s ≡ 2 → splitBy 15 x (sideOf d) (sideOf d) body ≡ instantiate (sideOf d) x T
+    by-app h = inst-app d x T body (app-view rep at n (sym e ∙ h))
+
+    pub by-unknown : s ≡ 4 → {w : ℕ} {ls : List Triple} {b₁ k₁ rep₁ : List ℕ} {c₁ : Run} {o p : Bool} → o ≡ before x y (entriesOf ls b (c .board .entries)) → o ≡ p
+        → Does w ls b k rep c (cond p (solve y (unknown x) done) (solveMonotype x T)) b₁ k₁ rep₁ c₁ → Does w ls b k rep c (instantiate (sideOf d) x T) b₁ k₁ rep₁ c₁
+    by-unknown h f q D =
+        does-as (λ _. inst-unknown d x T y (unknown-view rep at n (sym e ∙ h)))
+        (look-then {f = reach d x T y} (does-as (λ _. ap (λ (z : Bool). cond z (solve y (unknown x) done) (solveMonotype x T)) (sym q ∙ f)) D))
+
+    pub by-other : s ≢ 1 → s ≢ 2 → s ≢ 4 → solveMonotype x T ≡ instantiate (sideOf d) x T
+    by-other f g h = inst-other d x T (other-view rep at n (λ z. f (e ∙ z)) (λ z. g (e ∙ z)) (a .flat) (λ z. h (e ∙ z)))

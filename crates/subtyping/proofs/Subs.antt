@@ -3,22 +3,22 @@ use mathlib.Core.Path.{_≡_, refl, sym, ap, ap₂, _∙_, subst}
 use mathlib.Core.Logic.{_≢_}
 use mathlib.Core.Bool.{Bool, true, false, cond}
 use mathlib.Core.List.{List, [], _∷_, _++_}
-use Prim.Native.Nat.{ℕ, zero, suc, _+_, _*_, _-_, _≤_, _<_}
+use Prim.Native.Nat.{ℕ, _+_, _*_, _-_, _≤_, _<_}
 use native.Mathlib.Omega.{arith}
 use lib.ListN.{length, getD}
-use Rattle.nodes.specs.Nodes.{Node, node, Ty, nodesAt}
+use Rattle.nodes.specs.Nodes.{Ty, nodesAt}
 use Rattle.nodes.specs.Lists.{All}
 use Rattle.nodes.proofs.Laws.{length-nodesAt, nodesAt-append}
 use Rattle.judgment.specs.declared.TypeError.the-variants.{SubtypingError}
-use Rattle.judgment.specs.Types.{unknown, first, rest, View, isArrow, isApp, isForall, isUnknown, isOther, view, occurs}
+use Rattle.judgment.specs.Types.{unknown, View, isArrow, isApp, isForall, isUnknown, isOther, view, occurs}
 use Rattle.judgment.specs.Solutions.{Free, keys, Avoids}
 use Rattle.judgment.specs.Board.{Rule, refuse}
-use Rattle.judgment.specs.Rules.{left, right, instantiate, mismatch, forallRight, forallLeft, unknownRight, unknownLeft, subtypeBy}
+use Rattle.judgment.specs.Rules.{left, right, instantiate, mismatch, forallRight, forallLeft, unknownLeft, subtypeBy}
 use Rattle.judgment.proofs.RuleLaws.{occurs-false}
 use Rattle.book.specs.Book.{sols}
 use Rattle.operations.specs.declared.Run.{Run}
-use Rattle.operations.specs.State.{WellFormed, going, Solves}
-use Rattle.subtyping.specs.Subtyping.{shapeOf, Made, rightBy, partsBy, Written, InstAsk, PartsAsk, OpenAsk, SubAsk}
+use Rattle.operations.specs.State.{WellFormed, going}
+use Rattle.subtyping.specs.Subtyping.{shapeOf, rightBy, partsBy, Written, InstAsk, PartsAsk, OpenAsk, SubAsk}
 use Rattle.subtyping.proofs.Shapes.{arrow-view, app-view, forall-view, unknown-view, unknown-is}
 
 both-free : (x : ℕ) (ks : List ℕ) (t : Ty) → All (Avoids x) t → All (Free ks) t → All (Free (x ∷ ks)) t
@@ -26,7 +26,7 @@ both-free x ks [] a f = tt
 both-free x ks (n ∷ t) a f = ((a .0, f .0), both-free x ks t (a .1) (f .1))
 
 -- ---- the rule by views
-pub right-other : (l r : Ty) (v : View) → shapeOf v ≢ 4 → rightBy l r v ≡ mismatch l r
+right-other : (l r : Ty) (v : View) → shapeOf v ≢ 4 → mismatch l r ≡ rightBy l r v
 right-other l r (isArrow a b) h = refl
 right-other l r (isApp a b) h = refl
 right-other l r (isForall x b) h = refl
@@ -34,21 +34,21 @@ right-other l r (isUnknown k) h = absurd (h refl)
 right-other l r isOther h = refl
 
 module _ (l r : Ty) where
-  pub sub-forall-right : (v : View) (x : ℕ) (b : Ty) → forallRight l r x b ≡ subtypeBy l r v (isForall x b)
+  sub-forall-right : (v : View) (x : ℕ) (b : Ty) → forallRight l r x b ≡ subtypeBy l r v (isForall x b)
   sub-forall-right (isArrow a c) x b = refl
   sub-forall-right (isApp a c) x b = refl
   sub-forall-right (isForall y c) x b = refl
   sub-forall-right (isUnknown k) x b = refl
   sub-forall-right isOther x b = refl
 
-  pub sub-forall-left : (w : View) → shapeOf w ≢ 3 → (x : ℕ) (a : Ty) → forallLeft l r x a ≡ subtypeBy l r (isForall x a) w
+  sub-forall-left : (w : View) → shapeOf w ≢ 3 → (x : ℕ) (a : Ty) → forallLeft l r x a ≡ subtypeBy l r (isForall x a) w
   sub-forall-left (isArrow b c) h x a = refl
   sub-forall-left (isApp b c) h x a = refl
   sub-forall-left (isForall y c) h x a = absurd (h refl)
   sub-forall-left (isUnknown k) h x a = refl
   sub-forall-left isOther h x a = refl
 
-  pub sub-unknown-left : (w : View) → shapeOf w ≢ 3 → (k : ℕ) → unknownLeft l r k (rightBy l r w) ≡ subtypeBy l r (isUnknown k) w
+  sub-unknown-left : (w : View) → shapeOf w ≢ 3 → (k : ℕ) → unknownLeft l r k (rightBy l r w) ≡ subtypeBy l r (isUnknown k) w
   sub-unknown-left (isArrow b c) h k = refl
   sub-unknown-left (isApp b c) h k = refl
   sub-unknown-left (isForall y c) h k = absurd (h refl)
@@ -56,7 +56,7 @@ module _ (l r : Ty) where
   sub-unknown-left isOther h k = refl
 
   -- neither a quantifier, nor an unknown on the left, nor two Arrows or two Apps
-  pub sub-right : (v w : View) → shapeOf w ≢ 3 → shapeOf v ≢ 3 → shapeOf v ≢ 4 → (shapeOf v ≡ 1 → shapeOf w ≢ 1) → (shapeOf v ≡ 2 → shapeOf w ≢ 2) → rightBy l r w ≡ subtypeBy l r v w
+  sub-right : (v w : View) → shapeOf w ≢ 3 → shapeOf v ≢ 3 → shapeOf v ≢ 4 → (shapeOf v ≡ 1 → shapeOf w ≢ 1) → (shapeOf v ≡ 2 → shapeOf w ≢ 2) → rightBy l r w ≡ subtypeBy l r v w
   sub-right (isArrow a₁ a₂) (isArrow b₁ b₂) h g u p q = absurd (p refl refl)
   sub-right (isArrow a₁ a₂) (isApp b₁ b₂) h g u p q = refl
   sub-right (isArrow a₁ a₂) (isForall y b) h g u p q = absurd (h refl)
@@ -111,7 +111,7 @@ module _ {b k rep : List ℕ} {c : Run} {l r : ℕ} (a : SubAsk b k rep c l r) w
       let w4 = a .right .few in
       (omega arith, omega arith, omega arith, omega arith)
 
-  pub mismatch-is : refuse (SubtypingError l r) (nodesAt rep 0 (l + r)) ≡ mismatch L R
+  mismatch-is : refuse (SubtypingError l r) (nodesAt rep 0 (l + r)) ≡ mismatch L R
   mismatch-is =
       let z : 0 + 2 * l ≡ 2 * l = omega arith in
       let q : nodesAt rep 0 (l + r) ≡ L ++ R = nodesAt-append rep 0 l r ∙ ap (λ (p : ℕ). nodesAt rep 0 l ++ nodesAt rep p r) z in
@@ -134,8 +134,42 @@ module _ {b k rep : List ℕ} {c : Run} {l r : ℕ} (a : SubAsk b k rep c l r) w
   parts-asks =
       let w = a .within in
       let s = sizes in
-      let s0 = s .0 in
-      let s1 = s .1 in
-      let s2 = s .2 in
-      let s3 = s .3 in
       record { formed = (k, a .formed); left = omega arith; right = omega arith; fewLeft = omega arith; fewRight = omega arith }
+
+  -- ---- the branches of the code, by the shapes and the occurs checks that it has read
+  module _ {sl sr : ℕ} (el : sl ≡ shapeOf (view L)) (er : sr ≡ shapeOf (view R)) where
+    by : {v w : View} → view L ≡ v → view R ≡ w → subtypeBy L R v w ≡ subtypeBy L R (view L) (view R)
+    by p q = ap₂ (subtypeBy L R) (sym p) (sym q)
+
+    pub by-forall-right : sr ≡ 3 → forallRight L R (getD rep (2 * l + 1) 0) (nodesAt rep (2 * l + 2) (r - 1)) ≡ subtypeBy L R (view L) (view R)
+    by-forall-right e = sub-forall-right L R (view L) (getD rep (2 * l + 1) 0) (nodesAt rep (2 * l + 2) (r - 1)) ∙ by refl (forall-view rep (2 * l) r (sym er ∙ e))
+
+    pub by-forall-left : sr ≢ 3 → sl ≡ 3 → forallLeft L R (getD rep 1 0) (nodesAt rep 2 (l - 1)) ≡ subtypeBy L R (view L) (view R)
+    by-forall-left h e = sub-forall-left L R (view R) (λ z. h (er ∙ z)) (getD rep 1 0) (nodesAt rep 2 (l - 1)) ∙ by (forall-view rep 0 l (sym el ∙ e)) refl
+
+    pub by-unknown-left : sr ≢ 3 → sl ≡ 4 → unknownLeft L R (getD rep 1 0) (rightBy L R (view R)) ≡ subtypeBy L R (view L) (view R)
+    by-unknown-left h e = sub-unknown-left L R (view R) (λ z. h (er ∙ z)) (getD rep 1 0) ∙ by (unknown-view rep 0 l (sym el ∙ e)) refl
+
+    pub by-arrows : sl ≡ 1 → sr ≡ 1 → partsBy true (nodesAt rep 2 (l - 1)) (nodesAt rep (2 * l + 2) (r - 1)) ≡ subtypeBy L R (view L) (view R)
+    by-arrows e f = by (arrow-view rep 0 l (sym el ∙ e)) (arrow-view rep (2 * l) r (sym er ∙ f))
+
+    pub by-apps : sl ≡ 2 → sr ≡ 2 → partsBy false (nodesAt rep 2 (l - 1)) (nodesAt rep (2 * l + 2) (r - 1)) ≡ subtypeBy L R (view L) (view R)
+    by-apps e f = by (app-view rep 0 l (sym el ∙ e)) (app-view rep (2 * l) r (sym er ∙ f))
+
+    pub by-right : sr ≢ 3 → sl ≢ 3 → sl ≢ 4 → (sl ≡ 1 → sr ≢ 1) → (sl ≡ 2 → sr ≢ 2) → rightBy L R (view R) ≡ subtypeBy L R (view L) (view R)
+    by-right h g u p q = sub-right L R (view L) (view R) (λ z. h (er ∙ z)) (λ z. g (el ∙ z)) (λ z. u (el ∙ z)) (λ y z. p (el ∙ y) (er ∙ z)) (λ y z. q (el ∙ y) (er ∙ z))
+
+  pub by-left-occurs : {o p : Bool} → o ≡ occurs (getD rep 1 0) R → o ≡ p
+      → cond p (rightBy L R (view R)) (instantiate left (getD rep 1 0) R) ≡ unknownLeft L R (getD rep 1 0) (rightBy L R (view R))
+  by-left-occurs e q = ap (λ (z : Bool). cond z (rightBy L R (view R)) (instantiate left (getD rep 1 0) R)) (sym q ∙ e)
+
+  module _ {s : ℕ} (e : s ≡ shapeOf (view R)) where
+    pub by-right-occurs : s ≡ 4 → {o p : Bool} → o ≡ occurs (getD rep (2 * l + 1) 0) L → o ≡ p
+        → cond p (refuse (SubtypingError l r) (nodesAt rep 0 (l + r))) (instantiate right (getD rep (2 * l + 1) 0) L) ≡ rightBy L R (view R)
+    by-right-occurs h {p = p} f q =
+        ap (λ (m : Rule). cond p m (instantiate right (getD rep (2 * l + 1) 0) L)) mismatch-is
+        ∙ ap (λ (z : Bool). cond z (mismatch L R) (instantiate right (getD rep (2 * l + 1) 0) L)) (sym q ∙ f)
+        ∙ ap (rightBy L R) (sym (unknown-view rep (2 * l) r (sym e ∙ h)))
+
+    pub by-mismatch : s ≢ 4 → refuse (SubtypingError l r) (nodesAt rep 0 (l + r)) ≡ rightBy L R (view R)
+    by-mismatch h = mismatch-is ∙ right-other L R (view R) (λ z. h (e ∙ z))

@@ -1,17 +1,14 @@
 use borrow.Author.Needs.{needs}
-use mathlib.Core.Path.{_≡_, refl, sym, ap, _∙_}
-use Prim.Native.Nat.{ℕ, _+_, _*_, _-_, _≤_, _<_}
+use mathlib.Core.Path.{_≡_, refl, _∙_}
+use Prim.Native.Nat.{ℕ, _-_}
 use native.Mathlib.Omega.{arith}
 use denote.Ref.{now}
-use lib.ListN.{length, getD}
+use lib.ListN.{length}
 use Rattle.sheet.specs.Rows.{rows}
 use Rattle.judgment.specs.Rules.{pushVars}
-use Rattle.tables.specs.Rows.{refAt, bindingsAt}
-use Rattle.references.specs.declared.TypeRef.{TypeRef}
-use Rattle.references.specs.References.{Good}
+use Rattle.tables.specs.Rows.{bindingsAt}
 use Rattle.patterns.specs.Turns.{Turn}
-use Rattle.patterns.proofs.Opened.{good-fits}
-use Rattle.arms.proofs.Vars.{Left, vars-start, vars-turn, vars-end, row-good}
+use Rattle.arms.proofs.Vars.{Left, vars-start, vars-turn, vars-end, row-good, row-fits}
 use Rattle.arms.proofs.push_vars.Statement.{statement}
 use Rattle.arms.proofs.push_vars.Tie as tie
 
@@ -25,14 +22,7 @@ loop-holds : tie.Need-loop-holds Inv-loop μ-loop
 loop-holds c = (vars-start (rows (now (c .before .before .before .before .args .s))) (now (c .before .before .before .before .args .v)) (c .before .before .before .before .args .n) (c .before .before .before .before .pre .ready), refl, refl)
 
 get-requires : tie.Need-get-requires Inv-loop μ-loop
-get-requires c κs =
-    let a = c .before .before .before .before .before .before .args in
-    let p = c .before .before .before .before .before .before .pre in
-    let ls = rows (now (a .s)) in
-    let L = c .before .loop in
-    let t : L .i < a .n = c .loop-test .taken in
-    let rows : 6 * a .n ≤ length (now (a .v)) = p .rows in
-    omega arith
+get-requires c κs = omega (arith, c .before .before .before .before .before .before .pre .rows)
 
 mul-name : tie.Need-mul-name Inv-loop μ-loop
 mul-name c = omega (arith, c .before .loop-test .taken, c .before .before .before .before .before .before .before .pre .rows)
@@ -44,88 +34,35 @@ shared-slice-read-name : tie.Need-shared-slice-read-name Inv-loop μ-loop
 shared-slice-read-name c = omega (arith, c .before .before .loop-test .taken, c .before .before .before .before .before .before .before .before .pre .rows)
 
 cast-name : tie.Need-cast-name Inv-loop μ-loop
-cast-name c =
-    let a = c .before .before .before .before .before .before .before .before .args in
-    let p = c .before .before .before .before .before .before .before .before .pre in
-    let ls = rows (now (a .s)) in
-    let L = c .before .before .before .loop in
-    let t : L .i < a .n = c .before .before .loop-test .taken in
-    let rows : 6 * a .n ≤ length (now (a .v)) = p .rows in
-    let z : getD (now (a .v)) (6 * L .i) 0 < 4294967296 = p .sound (L .i) t .1 in
-    omega arith
+cast-name c = omega (arith, c .before .before .before .before .before .before .before .before .pre .sound (c .before .before .before .loop .i) (c .before .before .loop-test .taken) .1)
 
 mul-at : tie.Need-mul-at Inv-loop μ-loop
-mul-at c =
-    let a = c .before .before .before .before .before .before .before .before .before .args in
-    let p = c .before .before .before .before .before .before .before .before .before .pre in
-    let ls = rows (now (a .s)) in
-    let L = c .before .before .before .before .loop in
-    let t : L .i < a .n = c .before .before .before .loop-test .taken in
-    let rows : 6 * a .n ≤ length (now (a .v)) = p .rows in
-    let g : Good ls (c .before .before .get .result) = row-good ls (now (a .v)) (a .n) (L .i) (c .before .before .get .result) (p .sound) t (c .before .before .get .ensures) in
-    let f : c .before .before .get .result .at + c .before .before .get .result .count ≤ 4096 = good-fits g in
-    omega arith
+mul-at c = omega (arith, row-fits (c .before .before .before .before .before .before .before .before .before .pre) (c .before .before .before .loop-test .taken) (c .before .before .get .ensures))
 
 instance-requires : tie.Need-instance-requires Inv-loop μ-loop
 instance-requires c κs =
-    let a = c .before .before .before .before .before .before .before .before .before .before .args in
     let p = c .before .before .before .before .before .before .before .before .before .before .pre in
-    let ls = rows (now (a .s)) in
-    let L = c .before .before .before .before .before .loop in
-    let t : L .i < a .n = c .before .before .before .before .loop-test .taken in
-    let rows : 6 * a .n ≤ length (now (a .v)) = p .rows in
-    let g : Good ls (c .before .before .before .get .result) = row-good ls (now (a .v)) (a .n) (L .i) (c .before .before .before .get .result) (p .sound) t (c .before .before .before .get .ensures) in
-    let f : c .before .before .before .get .result .at + c .before .before .before .get .result .count ≤ 4096 = good-fits g in
-    let x = p .left in
-    let y = L .inv .2 in
-    let m = g .few in
+    let g = row-good p (c .before .before .before .before .loop-test .taken) (c .before .before .before .get .ensures) in
+    let y = c .before .before .before .before .before .loop .inv .2 in
     (g, omega arith, omega arith)
 
 push-var-requires : tie.Need-push-var-requires Inv-loop μ-loop
 push-var-requires c κs =
-    let a = c .before .before .before .before .before .before .before .before .before .before .before .before .before .before .before .args in
-    let p = c .before .before .before .before .before .before .before .before .before .before .before .before .before .before .before .pre in
-    let ls = rows (now (a .s)) in
     let L = c .before .before .before .before .before .before .before .before .before .before .loop in
-    let t : L .i < a .n = c .before .before .before .before .before .before .before .before .before .loop-test .taken in
-    let rows : 6 * a .n ≤ length (now (a .v)) = p .rows in
-    let g : Good ls (c .before .before .before .before .before .before .before .before .get .result) = row-good ls (now (a .v)) (a .n) (L .i) (c .before .before .before .before .before .before .before .before .get .result) (p .sound) t (c .before .before .before .before .before .before .before .before .get .ensures) in
-    let f : c .before .before .before .before .before .before .before .before .get .result .at + c .before .before .before .before .before .before .before .before .get .result .count ≤ 4096 = good-fits g in
-    let x = p .left in
-    let y = L .inv .2 in
-    let k = c .before .before .before .before .instance .kept .0 in
-    (L .inv .0 .ready .board, omega arith)
+    let f = row-fits (c .before .before .before .before .before .before .before .before .before .before .before .before .before .before .before .pre) (c .before .before .before .before .before .before .before .before .before .loop-test .taken) (c .before .before .before .before .before .before .before .before .get .ensures) in
+    (L .inv .0 .ready .board, omega (arith, c .before .before .before .before .before .before .before .before .before .before .before .before .before .before .before .pre .left, L .inv .2, c .before .before .before .before .instance .kept .0))
 
 add-i : tie.Need-add-i Inv-loop μ-loop
-add-i c =
-    let a = c .before .before .before .before .before .before .before .before .before .before .before .before .before .before .before .before .before .before .args in
-    let p = c .before .before .before .before .before .before .before .before .before .before .before .before .before .before .before .before .before .before .pre in
-    let ls = rows (now (a .s)) in
-    let L = c .before .before .before .before .before .before .before .before .before .before .before .before .before .loop in
-    let t : L .i < a .n = c .before .before .before .before .before .before .before .before .before .before .before .before .loop-test .taken in
-    let rows : 6 * a .n ≤ length (now (a .v)) = p .rows in
-    let m = p .few in
-    omega arith
+add-i c = omega (arith, c .before .before .before .before .before .before .before .before .before .before .before .before .loop-test .taken, c .before .before .before .before .before .before .before .before .before .before .before .before .before .before .before .before .before .before .pre .few)
 
 loop-less : tie.Need-loop-less Inv-loop μ-loop
-loop-less c =
-    let a = c .before .before .before .before .before .before .before .before .before .before .before .before .before .before .before .before .before .before .args in
-    let p = c .before .before .before .before .before .before .before .before .before .before .before .before .before .before .before .before .before .before .pre in
-    let ls = rows (now (a .s)) in
-    let L = c .before .before .before .before .before .before .before .before .before .before .before .before .before .loop in
-    let t : L .i < a .n = c .before .before .before .before .before .before .before .before .before .before .before .before .loop-test .taken in
-    let rows : 6 * a .n ≤ length (now (a .v)) = p .rows in
-    omega arith
+loop-less c = omega (arith, c .before .before .before .before .before .before .before .before .before .before .before .before .loop-test .taken)
 
 loop-again : tie.Need-loop-again Inv-loop μ-loop
 loop-again c =
     let a = c .before .before .before .before .before .before .before .before .before .before .before .before .before .before .before .before .before .before .args in
-    let p = c .before .before .before .before .before .before .before .before .before .before .before .before .before .before .before .before .before .before .pre in
-    let ls = rows (now (a .s)) in
     let L = c .before .before .before .before .before .before .before .before .before .before .before .before .before .loop in
-    let t : L .i < a .n = c .before .before .before .before .before .before .before .before .before .before .before .before .loop-test .taken in
-    let rows : 6 * a .n ≤ length (now (a .v)) = p .rows in
-    (vars-turn ls (now (a .v)) (a .n) (L .i) (c .before .before .before .before .before .before .before .before .before .before .before .get .result) _ (L .inv .0) t (c .before .before .before .before .before .before .before .before .before .before .before .get .ensures) (c .before .before .before .before .before .before .before .instance .ensures) (c .before .before .push-var .ensures), c .before .before .push-var .kept .0 ∙ L .inv .1, c .before .before .before .before .before .before .before .instance .kept .0 ∙ L .inv .2)
+    (vars-turn (rows (now (a .s))) (now (a .v)) (a .n) (L .i) (c .before .before .before .before .before .before .before .before .before .before .before .get .result) _ (L .inv .0) (c .before .before .before .before .before .before .before .before .before .before .before .before .loop-test .taken) (c .before .before .before .before .before .before .before .before .before .before .before .get .ensures) (c .before .before .before .before .before .before .before .instance .ensures) (c .before .before .push-var .ensures), c .before .before .push-var .kept .0 ∙ L .inv .1, c .before .before .before .before .before .before .before .instance .kept .0 ∙ L .inv .2)
 
 same-length : tie.Need-same-length Inv-loop μ-loop
 same-length c = c .before .loop .inv .1

@@ -1,20 +1,10 @@
-use mathlib.Core.Path.{_∙_}
-use lib.ListN.{length-set}
+use mathlib.Core.Path.{ap, _∙_}
+use lib.ListN.{length}
+use lib.Seq.{length-sets}
 use Rattle.columns.proofs.Laws.{answer-written}
 use borrow.Author.Needs.{needs}
 use Rattle.columns.proofs.write_answer.Statement.{statement}
 use Rattle.columns.proofs.write_answer.Tie as tie
-
-same-length : tie.Need-same-length
-same-length c =
-    let w₇ = c .before .before in
-    let w₆ = w₇ .before .before .before .before in
-    let w₅ = w₆ .before .before .before .before in
-    let w₄ = w₅ .before .before .before .before in
-    let w₃ = w₄ .before .before .before .before in
-    let w₂ = w₃ .before .before .before .before in
-    let w₁ = w₂ .before .before .before .before in
-    simp length-set (w₇ .write-column7 .kept .0 ∙ w₆ .write-column6 .kept .0 ∙ w₅ .write-column5 .kept .0 ∙ w₄ .write-column4 .kept .0 ∙ w₃ .write-column3 .kept .0 ∙ w₂ .write-column2 .kept .0 ∙ w₁ .write-column .kept .0)
 
 returns : tie.Need-returns
 returns c =
@@ -26,6 +16,9 @@ returns c =
     let w₂ = w₃ .before .before .before .before in
     let w₁ = w₂ .before .before .before .before in
     answer-written (w₁ .before .before .before .args .a) (w₁ .write-column .ensures) (w₂ .write-column2 .ensures) (w₃ .write-column3 .ensures) (w₄ .write-column4 .ensures) (w₅ .write-column5 .ensures) (w₆ .write-column6 .ensures) (w₇ .write-column7 .ensures)
+
+same-length : tie.Need-same-length
+same-length c = ap length (returns c .0) ∙ simp length-sets
 
 pub write-answer-spec : {M : Type 1} → statement M
 write-answer-spec =

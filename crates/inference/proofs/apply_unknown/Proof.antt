@@ -1,80 +1,38 @@
-use mathlib.Core.Path.{_≡_, ap, _∙_}
-use mathlib.Core.Bool.{true}
-use mathlib.Core.List.{List, []}
-use Prim.Native.Nat.{ℕ, _≤_}
+use mathlib.Core.Path.{ap, _∙_}
+use mathlib.Core.List.{[]}
+use native.Mathlib.Nat.{le-trans}
 use native.Mathlib.Omega.{arith}
 use Rattle.nodes.specs.Nodes.{nodesAt}
-use Rattle.spelling.specs.declared.Triple.{Triple}
 use Rattle.operations.specs.State.{going}
 use Rattle.operations.proofs.Latch.{going-is}
-use Rattle.operations.proofs.Then.{push-then, solve-then, fresh-then, alive, grows, pair-solves}
+use Rattle.operations.proofs.Then.{push-then, solve-then, fresh-then, kept, kept-board, kept-book, alive, grows, pair-solves, solve-asks}
 use borrow.Author.Needs.{needs}
 use Rattle.inference.proofs.apply_unknown.Statement.{statement}
 use Rattle.inference.proofs.apply_unknown.Tie as tie
 
 push-tvar-requires : tie.Need-push-tvar-requires
-push-tvar-requires c κs =
-    let ls : List Triple = [] in
-    let R : List ℕ = [] in
-    let D1 = c .before .before .fresh-evar .ensures .1 0 ls _ _ R (c .before .before .before .before .before .before .pre .0) in
-    let D2 = c .before .fresh-evar2 .ensures .1 0 ls _ _ R (D1 .kept) in
-    (D2 .kept .board, omega arith)
+push-tvar-requires c κs = (kept (c .before .fresh-evar2 .ensures .1) (kept (c .before .before .fresh-evar .ensures .1) (c .before .before .before .before .before .before .pre .0)) .board, omega arith)
 
 push-tvar-requires-2 : tie.Need-push-tvar-requires-2
-push-tvar-requires-2 c κs =
-    let ls : List Triple = [] in
-    let R : List ℕ = [] in
-    let D1 = c .before .before .before .before .before .before .fresh-evar .ensures .1 0 ls _ _ R (c .before .before .before .before .before .before .before .before .before .before .pre .0) in
-    let D2 = c .before .before .before .before .before .fresh-evar2 .ensures .1 0 ls _ _ R (D1 .kept) in
-    let D3 = c .before .before .before .push-tvar .ensures .2 0 ls _ R (D2 .kept) in
-    (D3 .kept .board, omega arith)
+push-tvar-requires-2 c κs = (kept-board (c .before .before .before .push-tvar .ensures .2) (kept (c .before .before .before .before .before .fresh-evar2 .ensures .1) (kept (c .before .before .before .before .before .before .fresh-evar .ensures .1) (c .before .before .before .before .before .before .before .before .before .before .pre .0))) .board, omega arith)
 
 solve-evar-requires : tie.Need-solve-evar-requires
 unfolding nodesAt
 solve-evar-requires c κs =
-    let ls : List Triple = [] in
-    let R : List ℕ = [] in
-    let D1 = c .before .before .before .before .before .before .before .before .before .before .before .fresh-evar .ensures .1 0 ls _ _ R (c .before .before .before .before .before .before .before .before .before .before .before .before .before .before .before .pre .0) in
-    let D2 = c .before .before .before .before .before .before .before .before .before .before .fresh-evar2 .ensures .1 0 ls _ _ R (D1 .kept) in
-    let D3 = c .before .before .before .before .before .before .before .before .push-tvar .ensures .2 0 ls _ R (D2 .kept) in
-    let D4 = c .before .before .before .before .push-tvar2 .ensures .2 0 ls _ R (D3 .kept) in
-    record {
-      book = D4 .kept .book;
-      numbers = D4 .kept .numbers;
-      some = omega arith;
-      within = search needs;
-      solves = λ h.
-          let g : going (c .before .before .before .before .before .before .before .before .before .before .before .before .before .before .before .args .c .halt) ≡ true = alive D1 (alive D2 (alive D3 (alive D4 (ap going h)))) in
-          let l1 : c .before .before .before .before .before .before .before .before .before .before .before .before .before .before .before .args .c .fresh ≤ c .before .before .before .before .before .before .before .before .before .before .before .fresh-evar .result .fresh = grows D1 in
-          let l2 : c .before .before .before .before .before .before .before .before .before .before .before .fresh-evar .result .fresh ≤ c .before .before .before .before .before .before .before .before .before .before .fresh-evar2 .result .fresh = grows D2 in
-          let l3 : c .before .before .before .before .before .before .before .before .before .before .fresh-evar2 .result .fresh ≤ c .before .before .before .before .before .before .before .before .push-tvar .result .fresh = grows D3 in
-          let l4 : c .before .before .before .before .before .before .before .before .push-tvar .result .fresh ≤ c .before .before .before .before .push-tvar2 .result .fresh = grows D4 in
-          let o = c .before .before .before .before .before .before .before .before .before .before .before .before .before .before .before .pre .1 (going-is _ g) in
-          pair-solves (c .before .before .before .before .push-tvar2 .result) 13 (c .before .before .before .before .before .before .before .before .before .before .before .before .before .before .before .args .x) (c .before .before .before .before .before .before .before .before .before .before .before .fresh-evar .result .fresh) (λ e. omega arith) (c .before .before .before .before .before .before .before .before .before .before .before .before .before .before .before .pre .0) (o .0) (o .1) l1 (omega arith);
-    }
+    let D1 = c .before .before .before .before .before .before .before .before .before .before .before .fresh-evar .ensures .1 0 [] _ _ [] (c .before .before .before .before .before .before .before .before .before .before .before .before .before .before .before .pre .0) in
+    let D2 = c .before .before .before .before .before .before .before .before .before .before .fresh-evar2 .ensures .1 0 [] _ _ [] (D1 .kept) in
+    let D3 = c .before .before .before .before .before .before .before .before .push-tvar .ensures .2 0 [] _ [] (D2 .kept) in
+    let D4 = c .before .before .before .before .push-tvar2 .ensures .2 0 [] _ [] (D3 .kept) in
+    solve-asks (D4 .kept) (omega arith) (search needs)
+    (λ h.
+    let o = c .before .before .before .before .before .before .before .before .before .before .before .before .before .before .before .pre .1 (going-is _ (alive D1 (alive D2 (alive D3 (alive D4 (ap going h)))))) in
+    pair-solves (c .before .before .before .before .push-tvar2 .result) 13 (c .before .before .before .before .before .before .before .before .before .before .before .before .before .before .before .args .x) (c .before .before .before .before .before .before .before .before .before .before .before .fresh-evar .result .fresh) (λ e. omega arith) (c .before .before .before .before .before .before .before .before .before .before .before .before .before .before .before .pre .0) (o .0) (o .1) (grows D1) (le-trans (grows D1) (le-trans (grows D2) (le-trans (grows D3) (grows D4)))))
 
 push-sub-requires : tie.Need-push-sub-requires
-push-sub-requires c κs =
-    let ls : List Triple = [] in
-    let R : List ℕ = [] in
-    let D1 = c .before .before .before .before .before .before .before .before .before .before .before .before .before .before .before .before .fresh-evar .ensures .1 0 ls _ _ R (c .before .before .before .before .before .before .before .before .before .before .before .before .before .before .before .before .before .before .before .before .pre .0) in
-    let D2 = c .before .before .before .before .before .before .before .before .before .before .before .before .before .before .before .fresh-evar2 .ensures .1 0 ls _ _ R (D1 .kept) in
-    let D3 = c .before .before .before .before .before .before .before .before .before .before .before .before .before .push-tvar .ensures .2 0 ls _ R (D2 .kept) in
-    let D4 = c .before .before .before .before .before .before .before .before .before .push-tvar2 .ensures .2 0 ls _ R (D3 .kept) in
-    let D5 = c .before .before .before .before .solve-evar .ensures .2 0 ls _ R (D4 .kept) in
-    (D5 .kept .board, search needs, c .before .before .before .before .before .before .before .before .before .before .before .before .before .before .before .before .before .before .before .before .pre .2)
+push-sub-requires c κs = (kept-book (c .before .before .before .before .solve-evar .ensures .2) (kept-board (c .before .before .before .before .before .before .before .before .before .push-tvar2 .ensures .2) (kept-board (c .before .before .before .before .before .before .before .before .before .before .before .before .before .push-tvar .ensures .2) (kept (c .before .before .before .before .before .before .before .before .before .before .before .before .before .before .before .fresh-evar2 .ensures .1) (kept (c .before .before .before .before .before .before .before .before .before .before .before .before .before .before .before .before .fresh-evar .ensures .1) (c .before .before .before .before .before .before .before .before .before .before .before .before .before .before .before .before .before .before .before .before .pre .0))))) .board, search needs, c .before .before .before .before .before .before .before .before .before .before .before .before .before .before .before .before .before .before .before .before .pre .2)
 
 push-chk-requires : tie.Need-push-chk-requires
-push-chk-requires c κs =
-    let ls : List Triple = [] in
-    let R : List ℕ = [] in
-    let D1 = c .before .before .before .before .before .before .before .before .before .before .before .before .before .before .before .before .before .before .before .before .before .fresh-evar .ensures .1 0 ls _ _ R (c .before .before .before .before .before .before .before .before .before .before .before .before .before .before .before .before .before .before .before .before .before .before .before .before .before .pre .0) in
-    let D2 = c .before .before .before .before .before .before .before .before .before .before .before .before .before .before .before .before .before .before .before .before .fresh-evar2 .ensures .1 0 ls _ _ R (D1 .kept) in
-    let D3 = c .before .before .before .before .before .before .before .before .before .before .before .before .before .before .before .before .before .before .push-tvar .ensures .2 0 ls _ R (D2 .kept) in
-    let D4 = c .before .before .before .before .before .before .before .before .before .before .before .before .before .before .push-tvar2 .ensures .2 0 ls _ R (D3 .kept) in
-    let D5 = c .before .before .before .before .before .before .before .before .before .solve-evar .ensures .2 0 ls _ R (D4 .kept) in
-    let D6 = c .before .before .before .before .push-sub .ensures .2 0 ls _ R (D5 .kept) in
-    (D6 .kept .board, search needs)
+push-chk-requires c κs = (kept-board (c .before .before .before .before .push-sub .ensures .2) (kept-book (c .before .before .before .before .before .before .before .before .before .solve-evar .ensures .2) (kept-board (c .before .before .before .before .before .before .before .before .before .before .before .before .before .before .push-tvar2 .ensures .2) (kept-board (c .before .before .before .before .before .before .before .before .before .before .before .before .before .before .before .before .before .before .push-tvar .ensures .2) (kept (c .before .before .before .before .before .before .before .before .before .before .before .before .before .before .before .before .before .before .before .before .fresh-evar2 .ensures .1) (kept (c .before .before .before .before .before .before .before .before .before .before .before .before .before .before .before .before .before .before .before .before .before .fresh-evar .ensures .1) (c .before .before .before .before .before .before .before .before .before .before .before .before .before .before .before .before .before .before .before .before .before .before .before .before .before .pre .0)))))) .board, search needs)
 
 same-length : tie.Need-same-length
 same-length c = c .before .before .push-chk .kept .0 ∙ c .before .before .before .before .before .before .before .push-sub .kept .0 ∙ c .before .before .before .before .before .before .before .before .before .before .before .before .before .before .before .before .before .push-tvar2 .kept .0 ∙ c .before .before .before .before .before .before .before .before .before .before .before .before .before .before .before .before .before .before .before .before .before .push-tvar .kept .0

@@ -1,34 +1,31 @@
-use mathlib.Core.Path.{_≡_, refl, sym, ap, ap₂, _∙_}
+use mathlib.Core.Path.{ap₂, _∙_}
 use mathlib.Core.Logic.{inl}
-use mathlib.Core.List.{List, []}
-use Prim.Native.Nat.{ℕ, _+_, _*_, _-_, _≤_}
+use mathlib.Core.List.{List}
+use Prim.Native.Nat.{ℕ, _+_, _*_, _-_}
 use native.Mathlib.Omega.{arith}
 use denote.Ref.{now}
-use lib.ListN.{length, getD}
-use Rattle.nodes.specs.Nodes.{node, Ty, nodesAt}
+use lib.ListN.{getD}
+use Rattle.nodes.specs.Nodes.{node, Ty}
 use Rattle.spelling.specs.declared.Triple.{Triple}
-use Rattle.judgment.specs.Types.{substitute}
-use Rattle.judgment.specs.Board.{Rule, sub, push, done}
+use Rattle.judgment.specs.Board.{sub, push, done}
 use Rattle.operations.specs.State.{WellFormed}
-use Rattle.operations.proofs.Then.{push-then, fresh-then, does-as, report-free}
+use Rattle.operations.proofs.Then.{push-then, fresh-then, does-as, report-free, kept, kept-board}
 use Rattle.core_types.proofs.Substituted.{substituted-at, beside}
 use borrow.Author.Needs.{needs}
 use Rattle.subtyping.proofs.open_right.Statement.{statement}
 use Rattle.subtyping.proofs.open_right.Tie as tie
 
 substitute-type-requires : tie.Need-substitute-type-requires
-substitute-type-requires c κs = (omega (arith, c .before .before .before .before .pre .0 .within, c .before .before .before .before .pre .1, c .before .before .before .before .pre .0 .fewLeft, c .before .before .before .before .pre .0 .fewRight), omega (arith, c .before .before .before .before .pre .0 .within, c .before .before .before .before .pre .1, c .before .before .before .before .pre .0 .fewLeft, c .before .before .before .before .pre .0 .fewRight))
+substitute-type-requires c κs = (omega arith, omega arith)
 
 push-tvar-requires : tie.Need-push-tvar-requires
-push-tvar-requires c κs =
-    let D1 = c .before .fresh-evar .ensures .1 0 [] _ _ [] (c .before .before .before .before .before .before .before .before .before .pre .0 .formed .1) in
-    (D1 .kept .board, omega arith)
+push-tvar-requires c κs = (kept (c .before .fresh-evar .ensures .1) (c .before .before .before .before .before .before .before .before .before .pre .0 .formed .1) .board, omega arith)
 
 push-sub-requires : tie.Need-push-sub-requires
 push-sub-requires c κs =
-    let D1 = c .before .before .before .before .before .before .fresh-evar .ensures .1 0 [] _ _ [] (c .before .before .before .before .before .before .before .before .before .before .before .before .before .before .pre .0 .formed .1) in
-    let D2 = c .before .before .before .before .push-tvar .ensures .2 0 [] _ [] (D1 .kept) in
-    (D2 .kept .board, omega (arith, c .before .before .before .before .before .before .before .before .before .substitute-type .kept .0, c .before .before .before .before .before .before .before .before .before .before .before .before .before .before .pre .0 .within, c .before .before .before .before .before .before .before .before .before .before .before .before .before .before .pre .1, c .before .before .before .before .before .before .before .before .before .before .before .before .before .before .pre .0 .fewLeft, c .before .before .before .before .before .before .before .before .before .before .before .before .before .before .pre .0 .fewRight), omega (arith, c .before .before .before .before .before .before .before .before .before .substitute-type .kept .0, c .before .before .before .before .before .before .before .before .before .before .before .before .before .before .pre .0 .within, c .before .before .before .before .before .before .before .before .before .before .before .before .before .before .pre .1, c .before .before .before .before .before .before .before .before .before .before .before .before .before .before .pre .0 .fewLeft, c .before .before .before .before .before .before .before .before .before .before .before .before .before .before .pre .0 .fewRight))
+    let p = c .before .before .before .before .before .before .before .before .before .before .before .before .before .before .pre in
+    let k = c .before .before .before .before .before .before .before .before .before .substitute-type .kept .0 in
+    (kept-board (c .before .before .before .before .push-tvar .ensures .2) (kept (c .before .before .before .before .before .before .fresh-evar .ensures .1) (p .0 .formed .1)) .board, omega arith, omega arith)
 
 same-length : tie.Need-same-length
 same-length c = c .before .before .push-sub .kept .0 ∙ c .before .before .before .before .before .before .before .push-tvar .kept .0
@@ -40,6 +37,7 @@ returns : tie.Need-returns
 returns c =
     λ (w : ℕ) (ls : List Triple) (k : List ℕ) (f : WellFormed (now (c .before .before .before .before .before .before .before .before .before .before .before .before .before .before .before .before .before .args .board)) k (c .before .before .before .before .before .before .before .before .before .before .before .before .before .before .before .before .before .args .c)).
     let a = c .before .before .before .before .before .before .before .before .before .before .before .before .before .before .before .before .before .args in
+    let p = c .before .before .before .before .before .before .before .before .before .before .before .before .before .before .before .before .before .pre in
     let R = now (a .report) in
     let R' = c .before .before .before .before .before .before .before .before .before .before .before .before .substitute-type .last .0 in
     let D1 = c .before .before .before .before .before .before .before .before .before .fresh-evar .ensures .1 w ls _ k R' f in
@@ -48,8 +46,8 @@ returns c =
     let e = c .before .before .before .before .before .before .before .before .before .before .before .before .substitute-type .ensures in
     let x : ℕ = getD R (2 * a .l + 1) 0 in
     let e1 = beside x (node 18 (a .c .fresh)) R R' (2 * a .l + 2) (a .r - 1) e 0 (a .l) (inl (omega arith)) in
-    let e2 = substituted-at x (node 18 (a .c .fresh)) R R' (2 * a .l + 2) (a .r - 1) e (omega (arith, c .before .before .before .before .before .before .before .before .before .before .before .before .before .before .before .before .before .pre .0 .within, c .before .before .before .before .before .before .before .before .before .before .before .before .before .before .before .before .before .pre .1, c .before .before .before .before .before .before .before .before .before .before .before .before .before .before .before .before .before .pre .0 .fewLeft, c .before .before .before .before .before .before .before .before .before .before .before .before .before .before .before .before .before .pre .0 .fewRight)) in
-    report-free (c .before .before .before .before .before .before .before .before .before .before .before .before .before .before .before .before .before .pre .0 .goes) (fresh-then D1 (push-then D2 (does-as (λ _. ap₂ (λ (x y : Ty). push (sub x y) done) e1 e2) D3)))
+    let e2 = substituted-at x (node 18 (a .c .fresh)) R R' (2 * a .l + 2) (a .r - 1) e (omega arith) in
+    report-free (p .0 .goes) (fresh-then D1 (push-then D2 (does-as (λ _. ap₂ (λ (x y : Ty). push (sub x y) done) e1 e2) D3)))
 
 pub open-right-spec : {M : Type 1} → statement M
 open-right-spec =

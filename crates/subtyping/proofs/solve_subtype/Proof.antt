@@ -1,4 +1,4 @@
-use mathlib.Core.Path.{_≡_, sym, _∙_}
+use mathlib.Core.Path.{sym, _∙_}
 use mathlib.Core.List.{List}
 use Prim.Native.Nat.{_*_}
 use native.Mathlib.Omega.{arith}
@@ -13,12 +13,6 @@ use Rattle.subtyping.proofs.solve_subtype.Tie as tie
 
 zonk-requires : tie.Need-zonk-requires
 zonk-requires c κs = first-asks (c .before .before .before .before .before .before .pre)
-
-mul-next : tie.Need-mul-next
-mul-next c = omega (arith, c .before .before .before .before .before .before .before .before .before .before .pre .within)
-
-add-next : tie.Need-add-next
-add-next c = omega (arith, c .before .before .before .before .before .before .before .before .before .before .pre .within)
 
 zonk-requires-2 : tie.Need-zonk-requires-2
 zonk-requires-2 c κs = second-asks (c .before .before .before .before .before .before .before .before .before .before .before .before .before .pre) (c .before .before .before .before .before .before .zonk .ensures .0) (c .before .before .before .before .before .before .zonk .ensures .2) (c .before .before .before .before .before .before .zonk .kept .1 .1 .1 .1 .1 .0)
@@ -56,4 +50,4 @@ returns-3 c =
 
 pub solve-subtype-spec : {M : Type 1} → statement M
 solve-subtype-spec =
-    tie.close (tie.spec zonk-requires mul-next add-next zonk-requires-2 (λ c κs. search needs) mul-same-type same-type-requires (λ c. search needs) (λ c. search needs) (λ c. search needs) returns subtype-shapes-requires (λ c. search needs) (λ c. search needs) same-length-6 returns-2 (λ c. search needs) (λ c. search needs) (λ c. search needs) returns-3)
+    tie.close (tie.spec zonk-requires (λ c. search needs) (λ c. search needs) zonk-requires-2 (λ c κs. search needs) mul-same-type same-type-requires (λ c. search needs) (λ c. search needs) (λ c. search needs) returns subtype-shapes-requires (λ c. search needs) (λ c. search needs) same-length-6 returns-2 (λ c. search needs) (λ c. search needs) (λ c. search needs) returns-3)

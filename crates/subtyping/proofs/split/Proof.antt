@@ -1,28 +1,17 @@
-use mathlib.Core.Path.{_≡_, refl, sym, ap, _∙_}
-use mathlib.Core.List.{List, [], _∷_}
-use mathlib.Core.Bool.{false}
-use Prim.Native.Nat.{ℕ, _+_, _*_, _-_, _≤_, _<_}
+use mathlib.Core.Path.{ap, _∙_}
+use mathlib.Core.List.{List, []}
+use Prim.Native.Nat.{ℕ}
 use native.Mathlib.Nat.{le-trans}
 use native.Mathlib.Omega.{arith}
 use denote.Ref.{now}
-use lib.Dec.{eqb}
-use lib.ListN.{length}
-use borrow.Author.Tests.{ne-eqb}
-use Rattle.nodes.specs.Nodes.{nodesAt}
-use Rattle.nodes.proofs.Laws.{length-nodesAt}
+use Rattle.nodes.specs.Nodes.{Ty, nodesAt}
 use Rattle.spelling.specs.declared.Triple.{Triple}
-use Rattle.judgment.specs.Types.{first, rest}
-use Rattle.judgment.specs.Solutions.{keys}
-use Rattle.book.specs.Book.{sols}
-use Rattle.operations.specs.State.{going}
-use Rattle.operations.proofs.Then.{push-then, solve-then, fresh-then, alive, grows, pair-solves}
-use Rattle.core_types.proofs.Walks.{first-within, first-nodes, rest-nodes}
 use Rattle.judgment.specs.Types.{unknown}
+use Rattle.judgment.specs.Board.{push, done}
 use Rattle.judgment.specs.Rules.{onSide}
-use Rattle.judgment.specs.Board.{Rule, push, done}
+use Rattle.core_types.proofs.Walks.{first-within, first-nodes, rest-nodes}
+use Rattle.operations.proofs.Then.{does-as, push-then, solve-then, fresh-then, kept, kept-board, kept-book, grows, pair-solves, solve-asks}
 use Rattle.subtyping.specs.Subtyping.{sideOf}
-use Rattle.nodes.specs.Nodes.{Ty}
-use Rattle.operations.proofs.Then.{does-as}
 use borrow.Author.Needs.{needs}
 use Rattle.subtyping.proofs.split.Statement.{statement}
 use Rattle.subtyping.proofs.split.Tie as tie
@@ -42,64 +31,23 @@ sub-more c = first-within (now (c .before .before .before .before .args .t)) (c 
 solve-evar-requires : tie.Need-solve-evar-requires
 unfolding nodesAt
 solve-evar-requires c κs =
-    let ls : List Triple = [] in
-    let rep : List ℕ = [] in
     let f = c .before .before .before .before .before .before .before .before .pre .formed in
-    let D1 = c .before .before .before .fresh-evar .ensures .1 0 ls _ _ rep f in
-    let D2 = c .before .before .fresh-evar2 .ensures .1 0 ls _ _ rep (D1 .kept) in
-    record {
-      book = D2 .kept .book;
-      numbers = D2 .kept .numbers;
-      some = omega arith;
-      within = search needs;
-      solves = λ _. pair-solves (c .before .before .fresh-evar2 .result) (c .before .before .before .before .before .before .before .before .args .kind) (c .before .before .before .before .before .before .before .before .args .x) (c .before .before .before .fresh-evar .result .fresh) (c .before .before .before .before .before .before .before .before .pre .pair) f (c .before .before .before .before .before .before .before .before .pre .known) (c .before .before .before .before .before .before .before .before .pre .unsolved) (grows D1) (le-trans (grows D1) (grows D2));
-    }
+    let D1 = c .before .before .before .fresh-evar .ensures .1 0 [] _ _ [] f in
+    let D2 = c .before .before .fresh-evar2 .ensures .1 0 [] _ _ [] (D1 .kept) in
+    solve-asks (D2 .kept) (omega arith) (search needs)
+    (λ _. pair-solves (c .before .before .fresh-evar2 .result) (c .before .before .before .before .before .before .before .before .args .kind) (c .before .before .before .before .before .before .before .before .args .x) (c .before .before .before .fresh-evar .result .fresh) (c .before .before .before .before .before .before .before .before .pre .pair) f (c .before .before .before .before .before .before .before .before .pre .known) (c .before .before .before .before .before .before .before .before .pre .unsolved) (grows D1) (le-trans (grows D1) (grows D2)))
 
 push-tvar-requires : tie.Need-push-tvar-requires
-push-tvar-requires c κs =
-    let ls : List Triple = [] in
-    let rep : List ℕ = [] in
-    let f = c .before .before .before .before .before .before .before .before .before .before .before .before .pre .formed in
-    let D1 = c .before .before .before .before .before .before .before .fresh-evar .ensures .1 0 ls _ _ rep f in
-    let D2 = c .before .before .before .before .before .before .fresh-evar2 .ensures .1 0 ls _ _ rep (D1 .kept) in
-    let D3 = c .before .before .before .solve-evar .ensures .2 0 ls _ rep (D2 .kept) in
-    (D3 .kept .board, omega arith)
+push-tvar-requires c κs = (kept-book (c .before .before .before .solve-evar .ensures .2) (kept (c .before .before .before .before .before .before .fresh-evar2 .ensures .1) (kept (c .before .before .before .before .before .before .before .fresh-evar .ensures .1) (c .before .before .before .before .before .before .before .before .before .before .before .before .pre .formed))) .board, omega arith)
 
 push-tvar-requires-2 : tie.Need-push-tvar-requires-2
-push-tvar-requires-2 c κs =
-    let ls : List Triple = [] in
-    let rep : List ℕ = [] in
-    let f = c .before .before .before .before .before .before .before .before .before .before .before .before .before .before .before .before .pre .formed in
-    let D1 = c .before .before .before .before .before .before .before .before .before .before .before .fresh-evar .ensures .1 0 ls _ _ rep f in
-    let D2 = c .before .before .before .before .before .before .before .before .before .before .fresh-evar2 .ensures .1 0 ls _ _ rep (D1 .kept) in
-    let D3 = c .before .before .before .before .before .before .before .solve-evar .ensures .2 0 ls _ rep (D2 .kept) in
-    let D4 = c .before .before .before .push-tvar .ensures .2 0 ls _ rep (D3 .kept) in
-    (D4 .kept .board, omega arith)
+push-tvar-requires-2 c κs = (kept-board (c .before .before .before .push-tvar .ensures .2) (kept-book (c .before .before .before .before .before .before .before .solve-evar .ensures .2) (kept (c .before .before .before .before .before .before .before .before .before .before .fresh-evar2 .ensures .1) (kept (c .before .before .before .before .before .before .before .before .before .before .before .fresh-evar .ensures .1) (c .before .before .before .before .before .before .before .before .before .before .before .before .before .before .before .before .pre .formed)))) .board, omega arith)
 
 push-on-requires : tie.Need-push-on-requires
-push-on-requires c κs =
-    let ls : List Triple = [] in
-    let rep : List ℕ = [] in
-    let f = c .before .before .before .before .before .before .before .before .before .before .before .before .before .before .before .before .before .before .before .before .before .pre .formed in
-    let D1 = c .before .before .before .before .before .before .before .before .before .before .before .before .before .before .before .before .fresh-evar .ensures .1 0 ls _ _ rep f in
-    let D2 = c .before .before .before .before .before .before .before .before .before .before .before .before .before .before .before .fresh-evar2 .ensures .1 0 ls _ _ rep (D1 .kept) in
-    let D3 = c .before .before .before .before .before .before .before .before .before .before .before .before .solve-evar .ensures .2 0 ls _ rep (D2 .kept) in
-    let D4 = c .before .before .before .before .before .before .before .before .push-tvar .ensures .2 0 ls _ rep (D3 .kept) in
-    let D5 = c .before .before .before .before .push-tvar2 .ensures .2 0 ls _ rep (D4 .kept) in
-    (D5 .kept .board, search needs, omega (arith, first-within (now (c .before .before .before .before .before .before .before .before .before .before .before .before .before .before .before .before .before .before .before .before .before .args .t)) (c .before .before .before .before .before .before .before .before .before .before .before .before .before .before .before .before .before .before .before .before .before .args .at) (c .before .before .before .before .before .before .before .before .before .before .before .before .before .before .before .before .before .before .before .before .before .args .n) (c .before .before .before .before .before .before .before .before .before .before .before .before .before .before .before .before .before .first-part .result) (c .before .before .before .before .before .before .before .before .before .before .before .before .before .before .before .before .before .first-part .ensures), c .before .before .before .before .before .before .before .before .before .before .before .before .before .before .before .before .before .before .before .before .before .pre .within))
+push-on-requires c κs = (kept-board (c .before .before .before .before .push-tvar2 .ensures .2) (kept-board (c .before .before .before .before .before .before .before .before .push-tvar .ensures .2) (kept-book (c .before .before .before .before .before .before .before .before .before .before .before .before .solve-evar .ensures .2) (kept (c .before .before .before .before .before .before .before .before .before .before .before .before .before .before .before .fresh-evar2 .ensures .1) (kept (c .before .before .before .before .before .before .before .before .before .before .before .before .before .before .before .before .fresh-evar .ensures .1) (c .before .before .before .before .before .before .before .before .before .before .before .before .before .before .before .before .before .before .before .before .before .pre .formed))))) .board, search needs, omega (arith, first-within (now (c .before .before .before .before .before .before .before .before .before .before .before .before .before .before .before .before .before .before .before .before .before .args .t)) (c .before .before .before .before .before .before .before .before .before .before .before .before .before .before .before .before .before .before .before .before .before .args .at) (c .before .before .before .before .before .before .before .before .before .before .before .before .before .before .before .before .before .before .before .before .before .args .n) (c .before .before .before .before .before .before .before .before .before .before .before .before .before .before .before .before .before .first-part .result) (c .before .before .before .before .before .before .before .before .before .before .before .before .before .before .before .before .before .first-part .ensures), c .before .before .before .before .before .before .before .before .before .before .before .before .before .before .before .before .before .before .before .before .before .pre .within))
 
 push-on-requires-2 : tie.Need-push-on-requires-2
-push-on-requires-2 c κs =
-    let ls : List Triple = [] in
-    let rep : List ℕ = [] in
-    let f = c .before .before .before .before .before .before .before .before .before .before .before .before .before .before .before .before .before .before .before .before .before .before .before .before .before .before .pre .formed in
-    let D1 = c .before .before .before .before .before .before .before .before .before .before .before .before .before .before .before .before .before .before .before .before .before .fresh-evar .ensures .1 0 ls _ _ rep f in
-    let D2 = c .before .before .before .before .before .before .before .before .before .before .before .before .before .before .before .before .before .before .before .before .fresh-evar2 .ensures .1 0 ls _ _ rep (D1 .kept) in
-    let D3 = c .before .before .before .before .before .before .before .before .before .before .before .before .before .before .before .before .before .solve-evar .ensures .2 0 ls _ rep (D2 .kept) in
-    let D4 = c .before .before .before .before .before .before .before .before .before .before .before .before .before .push-tvar .ensures .2 0 ls _ rep (D3 .kept) in
-    let D5 = c .before .before .before .before .before .before .before .before .before .push-tvar2 .ensures .2 0 ls _ rep (D4 .kept) in
-    let D6 = c .before .before .before .before .push-on .ensures 0 ls _ rep (D5 .kept) in
-    (D6 .kept .board, search needs, omega (arith, first-within (now (c .before .before .before .before .before .before .before .before .before .before .before .before .before .before .before .before .before .before .before .before .before .before .before .before .before .before .args .t)) (c .before .before .before .before .before .before .before .before .before .before .before .before .before .before .before .before .before .before .before .before .before .before .before .before .before .before .args .at) (c .before .before .before .before .before .before .before .before .before .before .before .before .before .before .before .before .before .before .before .before .before .before .before .before .before .before .args .n) (c .before .before .before .before .before .before .before .before .before .before .before .before .before .before .before .before .before .before .before .before .before .before .first-part .result) (c .before .before .before .before .before .before .before .before .before .before .before .before .before .before .before .before .before .before .before .before .before .before .first-part .ensures), c .before .before .before .before .before .before .before .before .before .before .before .before .before .before .before .before .before .before .before .before .before .before .before .before .before .before .pre .within))
+push-on-requires-2 c κs = (kept-board (c .before .before .before .before .push-on .ensures) (kept-board (c .before .before .before .before .before .before .before .before .before .push-tvar2 .ensures .2) (kept-board (c .before .before .before .before .before .before .before .before .before .before .before .before .before .push-tvar .ensures .2) (kept-book (c .before .before .before .before .before .before .before .before .before .before .before .before .before .before .before .before .before .solve-evar .ensures .2) (kept (c .before .before .before .before .before .before .before .before .before .before .before .before .before .before .before .before .before .before .before .before .fresh-evar2 .ensures .1) (kept (c .before .before .before .before .before .before .before .before .before .before .before .before .before .before .before .before .before .before .before .before .before .fresh-evar .ensures .1) (c .before .before .before .before .before .before .before .before .before .before .before .before .before .before .before .before .before .before .before .before .before .before .before .before .before .before .pre .formed)))))) .board, search needs, omega (arith, first-within (now (c .before .before .before .before .before .before .before .before .before .before .before .before .before .before .before .before .before .before .before .before .before .before .before .before .before .before .args .t)) (c .before .before .before .before .before .before .before .before .before .before .before .before .before .before .before .before .before .before .before .before .before .before .before .before .before .before .args .at) (c .before .before .before .before .before .before .before .before .before .before .before .before .before .before .before .before .before .before .before .before .before .before .before .before .before .before .args .n) (c .before .before .before .before .before .before .before .before .before .before .before .before .before .before .before .before .before .before .before .before .before .before .first-part .result) (c .before .before .before .before .before .before .before .before .before .before .before .before .before .before .before .before .before .before .before .before .before .before .first-part .ensures), c .before .before .before .before .before .before .before .before .before .before .before .before .before .before .before .before .before .before .before .before .before .before .before .before .before .before .pre .within))
 
 same-length : tie.Need-same-length
 same-length c = c .before .before .push-on2 .kept .0 ∙ c .before .before .before .before .before .before .before .push-on .kept .0 ∙ c .before .before .before .before .before .before .before .before .before .before .before .before .push-tvar2 .kept .0 ∙ c .before .before .before .before .before .before .before .before .before .before .before .before .before .before .before .before .push-tvar .kept .0

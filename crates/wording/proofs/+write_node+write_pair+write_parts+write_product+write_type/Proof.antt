@@ -156,71 +156,9 @@ write-type-returns-2 t c = (opened _ _ (c .before .before .before .before .befor
 
 pub +write-node+write-pair+write-parts+write-product+write-type-spec : {M : Type 1} → statement M
 +write-node+write-pair+write-parts+write-product+write-type-spec =
-    close
-    μ-write-node
-    μ-write-pair
-    μ-write-parts
-    μ-write-product
-    μ-write-type
-    (λ t. write-node-lts.spec (write-node-given t) (write-node-at t) write-node.Post
-    (λ c κs. search needs)
-    (λ c. search needs)
-    (write-node-returns t)
-    (λ c κs. search needs)
-    (λ c κs. search needs)
-    (λ c. search needs)
-    (write-node-returns-2 t)
-    (λ c κs. search needs)
-    (λ c. search needs)
-    (write-node-returns-3 t)
-    (λ c κs. search needs)
-    (λ c. search needs)
-    (write-node-returns-4 t)
-    (λ c κs. search needs)
-    (λ c. search needs)
-    (write-node-returns-5 t))
-    (λ t. write-pair-lts.spec (write-pair-given t) (write-pair-at t) write-pair.Post
-    (λ c κs. search needs)
-    (λ c κs. search needs)
-    (λ c. search needs)
-    (write-pair-returns t))
-    (λ t. write-parts-lts.spec (write-parts-given t) (write-parts-at t) write-parts.Post
-    (write-parts-returns t)
-    (write-parts-returns-2 t)
-    (λ c κs. search needs)
-    (λ c. search needs)
-    (write-parts-write-parts-requires t)
-    (λ c. search needs)
-    (write-parts-returns-3 t))
-    (λ t. write-product-lts.spec (write-product-given t) (write-product-at t) write-product.Post
-    (λ c. search needs)
-    (λ c κs. search needs)
-    (λ c κs. search needs)
-    (λ c. search needs)
-    (λ c. search needs)
-    (λ c κs. search needs)
-    (λ c. search needs)
-    (λ c κs. search needs)
-    (λ c. search needs)
-    (write-product-returns t))
-    λ t. write-type-lts.spec (write-type-given t) (write-type-at t) write-type.Post
-    (write-type-returns t)
-    (λ c. search needs)
-    (λ c. search needs)
-    (λ c. search needs)
-    (λ c. search needs)
-    (λ c. search needs)
-    (λ c. search needs)
-    (λ c. search needs)
-    (λ c κs. search needs)
-    (λ c κs. search needs)
-    (λ c. search needs)
-    (λ c. search needs)
-    (λ c κs. search needs)
-    (λ c. search needs)
-    (λ c κs. search needs)
-    (λ c. search needs)
-    (λ c. search needs)
-    (λ c κs. search needs)
-    (λ c. search needs)
-    (write-type-returns-2 t)
+    close μ-write-node μ-write-pair μ-write-parts μ-write-product μ-write-type
+    (λ t. write-node-lts.spec (write-node-given t) (write-node-at t) write-node.Post (λ c κs. search needs) (λ c. search needs) (write-node-returns t) (λ c κs. search needs) (λ c κs. search needs) (λ c. search needs) (write-node-returns-2 t) (λ c κs. search needs) (λ c. search needs) (write-node-returns-3 t) (λ c κs. search needs) (λ c. search needs) (write-node-returns-4 t) (λ c κs. search needs) (λ c. search needs) (write-node-returns-5 t))
+    (λ t. write-pair-lts.spec (write-pair-given t) (write-pair-at t) write-pair.Post (λ c κs. search needs) (λ c κs. search needs) (λ c. search needs) (write-pair-returns t))
+    (λ t. write-parts-lts.spec (write-parts-given t) (write-parts-at t) write-parts.Post (write-parts-returns t) (write-parts-returns-2 t) (λ c κs. search needs) (λ c. search needs) (write-parts-write-parts-requires t) (λ c. search needs) (write-parts-returns-3 t))
+    (λ t. write-product-lts.spec (write-product-given t) (write-product-at t) write-product.Post (λ c. search needs) (λ c κs. search needs) (λ c κs. search needs) (λ c. search needs) (λ c. search needs) (λ c κs. search needs) (λ c. search needs) (λ c κs. search needs) (λ c. search needs) (write-product-returns t))
+    λ t. write-type-lts.spec (write-type-given t) (write-type-at t) write-type.Post (write-type-returns t) (λ c. search needs) (λ c. search needs) (λ c. search needs) (λ c. search needs) (λ c. search needs) (λ c. search needs) (λ c. search needs) (λ c κs. search needs) (λ c κs. search needs) (λ c. search needs) (λ c. search needs) (λ c κs. search needs) (λ c. search needs) (λ c κs. search needs) (λ c. search needs) (λ c. search needs) (λ c κs. search needs) (λ c. search needs) (write-type-returns-2 t)
