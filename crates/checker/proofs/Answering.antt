@@ -1,8 +1,8 @@
 -- The entry call by its tests, one after the other. Assumes nothing.
-use mathlib.Core.Path.{_≡_, refl, sym, ap, ap₂, _∙_}
+use mathlib.Core.Path.{_≡_, refl, sym, ap, _∙_}
 use mathlib.Core.Logic.{_⊎_, inl, inr}
-use mathlib.Core.Bool.{Bool, true, false, cond, _||_}
-use mathlib.Core.List.{List, [], _++_}
+use mathlib.Core.Bool.{Bool, true, false, _||_}
+use mathlib.Core.List.{List, _++_}
 use Prim.Native.Nat.{ℕ, _+_, _≤_, _<_}
 use native.Mathlib.Nat.{zero-add}
 use native.Mathlib.Omega.{arith}
@@ -11,12 +11,11 @@ use lib.ListN.{length, drop}
 use lib.Seq.{sets, sets-eq}
 use borrow.Author.Tests.{lt-ltb, le-ltb, ltb-false}
 use Rattle.grammar.specs.declared.Check.{Check}
-use Rattle.grammar.specs.declared.Check.the-variants.{Plan, Length, Misspelt, Unfit}
+use Rattle.grammar.specs.declared.Check.the-variants.{Plan, Misspelt, Unfit}
 use Rattle.grammar.specs.Check.{check, checkNumber, checkLine}
 use Rattle.grammar.proofs.Lines.{line-small}
-use Rattle.sheet.specs.Plan.{triples, planOf}
+use Rattle.sheet.specs.Plan.{triples}
 use Rattle.judgment.specs.declared.Answer.{Answer}
-use Rattle.judgment.specs.Board.{chk}
 use Rattle.judgment.specs.Result.{Result, Buffers, Called, limits, judge, refusedAt, tooShort, refusedSheet, byCheck, call, boardWords, bookWords, reportWords}
 use Rattle.judgment.proofs.Promised.{promise}
 use Rattle.judgment.proofs.Words.{length-board, length-book, length-report}

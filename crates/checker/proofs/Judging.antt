@@ -24,7 +24,9 @@ use Rattle.judgment.specs.Rules.{Env, subtype, inferBy, checkBy, inferApp, rule
 use Rattle.board.specs.declared.Top.{Top}
 use Rattle.board.specs.Board.{termAt, entryOf}
 use Rattle.operations.specs.declared.Run.{Run}
-use Rattle.operations.specs.State.{WellFormed}
+use Rattle.operations.specs.State.{WellFormed, Does}
+use Rattle.operations.proofs.Then.{does-as}
+use Rattle.inference.proofs.Written.{copied}
 use Rattle.patterns.specs.Turns.{Ready}
 use Rattle.subtyping.specs.Subtyping.{Sound, SubtypeAsk}
 use Rattle.checking.specs.Checking.{CheckAsk}
@@ -129,3 +131,14 @@ module _ {s b k rep : List ℕ} {c : Run} {o : Top} {t l r w v : List ℕ} (a : 
         short = let x = a .few in omega arith;
         room = omega arith;
       }
+
+  -- the rule of an Inf or a Chk on a copy of the taken type is that of the entry
+  module _ {t' : List ℕ} (e : t' ≡ sets t 0 (words (nodesAt b (o .at) (o .left)))) where
+    same-type : nodesAt t' 0 (o .left) ≡ nodesAt b (o .at) (o .left)
+    same-type = copied t (nodesAt b (o .at) (o .left)) (o .left) (length-nodesAt b (o .at) (o .left)) (let x = copy-asks .0 in omega arith) e
+
+    pub inferred : (E : Env) {b' k' rep' : List ℕ} {q : Run} → o .kind ≡ 4 → Does 1024 ls b k rep c (inferBy E (nodesAt t' 0 (o .left)) (termView (termAt ls (o .number)))) b' k' rep' q → Does 1024 ls b k rep c (rule E (topEntry ls b o)) b' k' rep' q
+    inferred E h = does-as (λ _. ap (λ (X : Ty). inferBy E X (termView (termAt ls (o .number)))) same-type ∙ ap (rule E) (sym (is-inf ls (o .number) _ _ (o .kind) h)))
+
+    pub checked : (E : Env) {b' k' rep' : List ℕ} {q : Run} → o .kind ≡ 5 → Does 1024 ls b k rep c (checkBy E (termAt ls (o .number)) (nodesAt t' 0 (o .left)) (view (nodesAt t' 0 (o .left)))) b' k' rep' q → Does 1024 ls b k rep c (rule E (topEntry ls b o)) b' k' rep' q
+    checked E h = does-as (λ _. ap (λ (X : Ty). checkBy E (termAt ls (o .number)) X (view X)) same-type ∙ ap (rule E) (sym (is-chk ls (o .number) _ _ (o .kind) h)))

@@ -1,9 +1,10 @@
 -- A sheet that is taken, and its rows: what is known of the one is known of the other. Assumes nothing.
-use mathlib.Core.Path.{_≡_, refl, ap, subst, subst⁻¹}
+use mathlib.Core.Path.{_≡_, ap, subst, subst⁻¹}
 use mathlib.Core.List.{List}
 use Prim.Native.Nat.{ℕ, _+_, _*_, _/_, _≤_}
 use native.Mathlib.Omega.{arith}
-use lib.ListN.{length}
+use lib.ListN.{length, take}
+use lib.Seq.{length-take-le}
 use Rattle.spelling.specs.declared.Triple.{Triple}
 use Rattle.grammar.specs.declared.Check.the-variants.{Plan}
 use Rattle.grammar.specs.Check.{check}
@@ -20,7 +21,7 @@ use Rattle.judgment.proofs.WholeRun.{EntryWhole, EnvWhole, plan-whole}
 use Rattle.judgment.proofs.Promised.{GoodPlan, sheet-plan}
 use Rattle.inferring.specs.Inferring.{CaseRoom}
 use Rattle.checker.specs.Running.{Read}
-use Rattle.checker.specs.Calling.{Ran}
+use Rattle.checker.specs.Calling.{RunAsk, RowsAsk, Ran}
 
 -- at most 2,000 lines
 pub plan-lines : (s : List ℕ) → check s ≡ Plan → length s / 29 ≤ 2000
@@ -51,6 +52,11 @@ case-room s e x y z =
     let n = length-triples s in
     let m = ap length e in
     record { right = omega arith; frames = omega arith; bound = omega arith }
+
+-- rows and room that are long enough
+pub rows-asks : (d : List ℕ) {s b k rep r w v : List ℕ} → RunAsk s b k rep → 4 * (length s / 29) ≤ length d → 2 * (length s / 29) + 2 ≤ length r → 6 * (length s / 29) + 12 ≤ length w → 6 * (length s / 29) + 6 ≤ length v
+    → RowsAsk s b k rep (take (4 * (length s / 29)) d) r w v
+rows-asks d {s} p h x y z = record { run = p; rows = length-take-le (4 * (length s / 29)) d h; right = x; frames = y; bound = z }
 
 pub ran-as : {ls ms : List Triple} (c : ℕ) {b k rep : List ℕ} {a : Answer} → ls ≡ ms → Ran (judge limits c ls) b k rep a → Ran (judge limits c ms) b k rep a
 ran-as c {b} {k} {rep} {a} e r = subst (λ (ls : List Triple). Ran (judge limits c ls) b k rep a) e r

@@ -1,9 +1,7 @@
-use mathlib.Core.Path.{_≡_, refl, sym, ap, ap₂, _∙_}
-use Prim.Native.Nat.{ℕ, _+_, _*_, _≤_, _<_}
-use native.Mathlib.Omega.{arith}
+use mathlib.Core.Path.{sym}
 use denote.Ref.{now}
 use lib.Seq.{length-take-le}
-use Rattle.checker.proofs.Reading.{plan-lines}
+use Rattle.checker.proofs.Reading.{plan-lines, rows-asks}
 use borrow.Author.Needs.{needs}
 use Rattle.checker.proofs.run_long.Statement.{statement}
 use Rattle.checker.proofs.run_long.Tie as tie
@@ -15,10 +13,7 @@ slice-aggregate-run-rows : tie.Need-slice-aggregate-run-rows
 slice-aggregate-run-rows c = let h = plan-lines (now (c .before .before .before .before .before .before .before .before .args .s)) (c .before .before .before .before .before .before .before .before .pre .plan) in sym (length-take-le _ _ (search needs))
 
 run-rows-requires : tie.Need-run-rows-requires
-run-rows-requires c κs =
-    let p = c .before .before .before .before .before .before .before .before .before .before .before .pre in
-    let h = plan-lines (now (c .before .before .before .before .before .before .before .before .before .before .before .args .s)) (c .before .before .before .before .before .before .before .before .before .before .before .pre .plan) in
-    record { run = p; rows = length-take-le _ _ (search needs); right = search needs; frames = search needs; bound = search needs }
+run-rows-requires c κs = let h = plan-lines (now (c .before .before .before .before .before .before .before .before .before .before .before .args .s)) (c .before .before .before .before .before .before .before .before .before .before .before .pre .plan) in rows-asks _ (c .before .before .before .before .before .before .before .before .before .before .before .pre) (search needs) (search needs) (search needs) (search needs)
 
 pub run-long-spec : {M : Type 1} → statement M
 run-long-spec =

@@ -1,9 +1,6 @@
-use mathlib.Core.Path.{_≡_, refl, sym, ap, ap₂, _∙_}
-use Prim.Native.Nat.{ℕ, _+_, _*_, _≤_, _<_}
-use native.Mathlib.Omega.{arith}
-use denote.Ref.{now}
+use mathlib.Core.Path.{sym}
 use lib.Seq.{length-take-le}
-use Rattle.checker.proofs.Reading.{plan-lines}
+use Rattle.checker.proofs.Reading.{rows-asks}
 use borrow.Author.Needs.{needs}
 use Rattle.checker.proofs.run_middle.Statement.{statement}
 use Rattle.checker.proofs.run_middle.Tie as tie
@@ -12,10 +9,7 @@ slice-aggregate-run-rows : tie.Need-slice-aggregate-run-rows
 slice-aggregate-run-rows c = let h = c .before .before .before .before .before .before .before .before .pre .1 in sym (length-take-le _ _ (search needs))
 
 run-rows-requires : tie.Need-run-rows-requires
-run-rows-requires c κs =
-    let p = c .before .before .before .before .before .before .before .before .before .before .before .pre in
-    let h = c .before .before .before .before .before .before .before .before .before .before .before .pre .1 in
-    record { run = p .0; rows = length-take-le _ _ (search needs); right = search needs; frames = search needs; bound = search needs }
+run-rows-requires c κs = let h = c .before .before .before .before .before .before .before .before .before .before .before .pre .1 in rows-asks _ (c .before .before .before .before .before .before .before .before .before .before .before .pre .0) (search needs) (search needs) (search needs) (search needs)
 
 pub run-middle-spec : {M : Type 1} → statement M
 run-middle-spec =

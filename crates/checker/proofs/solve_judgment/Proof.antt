@@ -1,20 +1,12 @@
-use mathlib.Core.Path.{_≡_, refl, sym, ap, ap₂, _∙_}
-use mathlib.Core.List.{List}
-use Prim.Native.Nat.{ℕ, _+_, _*_, _≤_, _<_}
-use native.Mathlib.Omega.{arith}
+use mathlib.Core.Path.{sym, ap}
+use Prim.Native.Nat.{_+_, _*_}
 use denote.Ref.{now}
-use lib.ListN.{length}
 use Rattle.nodes.specs.Nodes.{Ty, nodesAt}
 use Rattle.sheet.specs.Rows.{rows}
-use Rattle.judgment.specs.Types.{view}
-use Rattle.judgment.specs.Terms.{termView}
-use Rattle.judgment.specs.Rules.{rule, inferBy, checkBy}
-use Rattle.board.specs.Board.{termAt}
+use Rattle.judgment.specs.Rules.{rule}
 use Rattle.operations.proofs.Then.{does-as, done-does}
 use Rattle.applying.specs.Applying.{envOn}
-use Rattle.checker.proofs.Judging.{is-sub, is-inf, is-chk, is-app, is-other, subtype-asks, app-asks, infer-asks, check-asks, copy-asks}
-use Rattle.inference.proofs.Written.{copied}
-use Rattle.nodes.proofs.Laws.{length-nodesAt}
+use Rattle.checker.proofs.Judging.{is-sub, is-app, is-other, subtype-asks, app-asks, infer-asks, check-asks, copy-asks, inferred, checked}
 use borrow.Author.Needs.{needs}
 use Rattle.checker.proofs.solve_judgment.Statement.{statement}
 use Rattle.checker.proofs.solve_judgment.Tie as tie
@@ -40,16 +32,8 @@ solve-inference-requires c κs = (infer-asks (c .before .before .before .before 
 
 returns-2 : tie.Need-returns-2
 returns-2 c =
-    let a = c .before .before .before .before .before .before .before .before .before .before .before .before .before .before .before .before .before .before .before .before .before .before .before .before .before .before .before .before .before .before .before .before .before .args in
-    let ls = rows (now (a .s)) in
-    let E = envOn (now (a .s)) in
-    let B = now (a .board) in
-    let T : Ty = nodesAt B (a .o .at) (a .o .left) in
-    let U : Ty = nodesAt B (a .o .at + 2 * a .o .left) (a .o .right) in
-    let k = now (a .book) in
-    let rep = now (a .report) in
-    let e = copied (now (a .t)) T (a .o .left) (length-nodesAt B (a .o .at) (a .o .left)) (let x = copy-asks (c .before .before .before .before .before .before .before .before .before .before .before .before .before .before .before .before .before .before .before .before .before .before .before .before .before .before .before .before .before .before .before .before .before .pre) .0 in omega arith) (c .before .before .before .before .before .before .before .before .before .before .before .before .before .before .before .before .before .before .before .copy-nodes .ensures) in
-    does-as (λ _. ap (λ (X : Ty). inferBy E X (termView (termAt ls (a .o .number)))) e ∙ ap (rule E) (sym (is-inf ls (a .o .number) T U (a .o .kind) (c .before .before .before .before .before .before .before .before .before .before .before .before .before .before .before .before .before .before .before .before .before .before .if2 .taken)))) (c .before .before .before .before .before .before .before .before .before .before .solve-inference .ensures 1024 k rep (c .before .before .before .before .before .before .before .before .before .before .before .before .before .before .before .before .before .before .before .before .before .before .before .before .before .before .before .before .before .before .before .before .before .pre .formed))
+    let E = envOn (now (c .before .before .before .before .before .before .before .before .before .before .before .before .before .before .before .before .before .before .before .before .before .before .before .before .before .before .before .before .before .before .before .before .before .args .s)) in
+    inferred (c .before .before .before .before .before .before .before .before .before .before .before .before .before .before .before .before .before .before .before .before .before .before .before .before .before .before .before .before .before .before .before .before .before .pre) (c .before .before .before .before .before .before .before .before .before .before .before .before .before .before .before .before .before .before .before .copy-nodes .ensures) E (c .before .before .before .before .before .before .before .before .before .before .before .before .before .before .before .before .before .before .before .before .before .before .if2 .taken) (c .before .before .before .before .before .before .before .before .before .before .solve-inference .ensures 1024 _ _ (c .before .before .before .before .before .before .before .before .before .before .before .before .before .before .before .before .before .before .before .before .before .before .before .before .before .before .before .before .before .before .before .before .before .pre .formed))
 
 copy-nodes-requires-2 : tie.Need-copy-nodes-requires-2
 copy-nodes-requires-2 c κs = copy-asks (c .before .before .before .before .before .before .before .before .before .before .before .before .before .before .pre)
@@ -59,16 +43,8 @@ solve-checking-requires c κs = check-asks (c .before .before .before .before .b
 
 returns-3 : tie.Need-returns-3
 returns-3 c =
-    let a = c .before .before .before .before .before .before .before .before .before .before .before .before .before .before .before .before .before .before .before .before .before .before .before .before .before .before .before .args in
-    let ls = rows (now (a .s)) in
-    let E = envOn (now (a .s)) in
-    let B = now (a .board) in
-    let T : Ty = nodesAt B (a .o .at) (a .o .left) in
-    let U : Ty = nodesAt B (a .o .at + 2 * a .o .left) (a .o .right) in
-    let k = now (a .book) in
-    let rep = now (a .report) in
-    let e = copied (now (a .t)) T (a .o .left) (length-nodesAt B (a .o .at) (a .o .left)) (let x = copy-asks (c .before .before .before .before .before .before .before .before .before .before .before .before .before .before .before .before .before .before .before .before .before .before .before .before .before .before .before .pre) .0 in omega arith) (c .before .before .before .before .before .before .before .before .before .before .before .before .copy-nodes2 .ensures) in
-    does-as (λ _. ap (λ (X : Ty). checkBy E (termAt ls (a .o .number)) X (view X)) e ∙ ap (rule E) (sym (is-chk ls (a .o .number) T U (a .o .kind) (c .before .before .before .before .before .before .before .before .before .before .before .before .before .before .before .if3 .taken)))) (c .before .before .before .before .before .before .solve-checking .ensures 1024 E k rep (c .before .before .before .before .before .before .before .before .before .before .before .before .before .before .before .before .before .before .before .before .before .before .before .before .before .before .before .pre .formed))
+    let E = envOn (now (c .before .before .before .before .before .before .before .before .before .before .before .before .before .before .before .before .before .before .before .before .before .before .before .before .before .before .before .args .s)) in
+    checked (c .before .before .before .before .before .before .before .before .before .before .before .before .before .before .before .before .before .before .before .before .before .before .before .before .before .before .before .pre) (c .before .before .before .before .before .before .before .before .before .before .before .before .copy-nodes2 .ensures) E (c .before .before .before .before .before .before .before .before .before .before .before .before .before .before .before .if3 .taken) (c .before .before .before .before .before .before .solve-checking .ensures 1024 E _ _ (c .before .before .before .before .before .before .before .before .before .before .before .before .before .before .before .before .before .before .before .before .before .before .before .before .before .before .before .pre .formed))
 
 solve-inf-app-requires : tie.Need-solve-inf-app-requires
 solve-inf-app-requires c κs = app-asks (c .before .before .before .before .before .before .before .before .before .before .before .before .before .before .before .before .pre) (c .before .before .before .if4 .taken)
