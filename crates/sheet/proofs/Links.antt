@@ -12,11 +12,11 @@ use lib.Seq.{getD-set-same, getD-set-other, ext-getD}
 use Rattle.spelling.specs.declared.Triple.{Triple}
 use Rattle.sheet.specs.declared.Found.{Found}
 use Rattle.sheet.specs.declared.Found.the-variants.{At, Nothing}
-use Rattle.sheet.specs.Plan.{noTriple, partLine, isEntry, named, Declaration, findIn, findEntry}
-use Rattle.sheet.specs.Rows.{rows, rowTriple, lineCount, endAt, EndsFrom, firstAt, nextAt, linkedFrom, linked, placed, Ended, inFront, linkEntry, Unlinked}
+use Rattle.sheet.specs.Plan.{noTriple, partLine, isEntry, named, Declaration, declarations, findIn, findEntry}
+use Rattle.sheet.specs.Rows.{rows, rowTriple, lineCount, endAt, EndsFrom, firstAt, nextAt, linkedFrom, linked, placed, Ended, inFront, linkEntry, Unlinked, unlinkedWords, linkAll, sheetWords}
 use Rattle.sheet.proofs.RowLaws.{length-rows, row-is}
 use Rattle.sheet.proofs.Lines.{line-from, line-inside}
-use Rattle.sheet.proofs.Declarations.{from, from-past, from-none, find-hit, find-turn, find-past}
+use Rattle.sheet.proofs.Declarations.{from, from-past, from-none, from-one, find-hit, find-turn, find-past}
 
 -- ---- what a store behind the rows leaves
 module _ (d : List ℕ) (j v : ℕ) (h : 2 * lineCount d ≤ j) where
@@ -168,6 +168,17 @@ none : (ls : List Triple) (at : ℕ) → from ls at ≡ [] → (k x : ℕ) → N
 unfolding findIn
 none ls at e k x = rw e
 
+-- linking what is left of the entries
+all-none : (d : List ℕ) (es : List Declaration) → es ≡ [] → d ≡ linkAll d es
+unfolding linkAll
+all-none d es e = rw e
+
+all-turn : (ls : List Triple) (d : List ℕ) (at : ℕ) → at < length ls → isEntry (getD ls at noTriple) ≡ true → linkAll (linkEntry d at) (from ls (partLine ls (at + 1) 1)) ≡ linkAll d (from ls at)
+unfolding linkAll
+all-turn ls d at h e =
+    let k : at ≡ at + 1 - 1 = omega arith in
+    ap (λ (i : ℕ). linkAll (linkEntry d i) (from ls (partLine ls (at + 1) 1))) k ∙ sym (ap (linkAll d) (from-one ls at h e))
+
 module _ {ls : List Triple} {d : List ℕ} {at : ℕ} (L : Linking ls d at) where
   count : lineCount d ≡ length ls
   count = sym (length-rows d) ∙ ap length (L .same)
@@ -184,8 +195,8 @@ module _ {ls : List Triple} {d : List ℕ} {at : ℕ} (L : Linking ls d at) wher
       let f = placed ls (linkedFrom (length ls) d k x (firstAt d (x % length ls))) in
       ap (placed ls) (linked-is k x) ∙ sym (done-rest f) ∙ ap (firstOf f) (none ls at e k x) ∙ L .rest k x (length ls) (omega arith) (L .within)
 
-  pub linking-done : from ls at ≡ [] → (rows d ≡ ls) × Ended d
-  linking-done e = (L .same, record { ends = subst⁻¹ (λ (xs : List Triple). EndsFrom xs d 0) (L .same) (L .ends); found = λ k x. rw (L .same) (found-all e k x (length ls) refl) })
+  pub linking-done : from ls at ≡ [] → (rows d ≡ ls) × Ended d × (d ≡ linkAll d (from ls at))
+  linking-done e = (L .same, record { ends = subst⁻¹ (λ (xs : List Triple). EndsFrom xs d 0) (L .same) (L .ends); found = λ k x. rw (L .same) (found-all e k x (length ls) refl) }, all-none d (from ls at) e)
 
 -- ---- one entry more
 named-is : (k x : ℕ) (t : Triple) → named k x t ≡ true → (t .kind ≡ k) × (t .value ≡ x)
@@ -423,18 +434,23 @@ module _ {ls : List Triple} {d : List ℕ} {at : ℕ} (L : Linking ls d at) wher
   line-here e = e ∙ ap (λ (ts : List Triple). getD ts at noTriple) (L .same)
 
   pub linking-next : at < length ls → isEntry (getD ls at noTriple) ≡ true → {d' : List ℕ} → d' ≡ linkEntry d at → {r : ℕ} → ((ms : List Triple) → length ms ≡ length ls → EndsFrom ms d' (at + 1) → r ≡ partLine ms (at + 1) 1)
-      → Linking ls d' r × (at < r)
+      → Linking ls d' r × (at < r) × (linkAll d' (from ls r) ≡ linkAll d (from ls at))
   linking-next h entry {d'} e {r} f =
       let N : Linking ls d' (partLine ls (at + 1) 1) = subst⁻¹ (λ (x : List ℕ). Linking ls x (partLine ls (at + 1) 1)) e (linking-turn L h entry) in
       let g = f ls refl (λ i l j. N .ends i (omega arith) j) in
       let u = line-from ls (at + 1) 1 in
-      rw g (N, omega arith)
+      rw g (N, omega arith, ap (λ (x : List ℕ). linkAll x (from ls (partLine ls (at + 1) 1))) e ∙ all-turn ls d at h entry)
 
-  pub linking-none : at < length ls → isEntry (getD ls at noTriple) ≡ false → (rows d ≡ ls) × Ended d
+  pub linking-none : at < length ls → isEntry (getD ls at noTriple) ≡ false → (rows d ≡ ls) × Ended d × (d ≡ linkAll d (from ls at))
   linking-none h e = linking-done L (from-none ls at h e)
 
-  pub linking-past : length ls ≤ at → (rows d ≡ ls) × Ended d
+  pub linking-past : length ls ≤ at → (rows d ≡ ls) × Ended d × (d ≡ linkAll d (from ls at))
   linking-past h = linking-done L (from-past ls at h)
+
+-- the lines read, and then every entry linked
+pub words-linked : (ls : List Triple) {d d' : List ℕ} → d ≡ unlinkedWords ls → rows d ≡ ls → d' ≡ linkAll d (declarations (rows d) 0 0) → d' ≡ sheetWords ls
+unfolding sheetWords
+words-linked ls e f g = g ∙ ap₂ (λ (x : List ℕ) (ts : List Triple). linkAll x (declarations ts 0 0)) e f
 
 -- where the type of an entry stands
 pub placed-at : (ls : List Triple) (at : ℕ) {end : ℕ} → (at ≡ 0 → ⊥) → end ≡ partLine ls at 1 → At at (end - at) ≡ placed ls at

@@ -1,18 +1,19 @@
--- Laws of `rows`: what a row holds, and that a sheet read row by row is the sheet. Assumes nothing.
+-- Laws of `rows`: what a row holds, that a sheet read row by row is the sheet, and its words. Assumes nothing.
 use mathlib.Core.Path.{_≡_, refl, sym, ap, ap₂, _∙_, subst⁻¹}
 use mathlib.Core.Bool.{Bool, true, false, cond}
-use mathlib.Core.List.{List, [], _∷_}
+use mathlib.Core.List.{List, [], _∷_, _++_}
 use Prim.Native.Nat.{ℕ, zero, suc, _+_, _*_, _-_, _/_, _%_, _≤_, _<_}
-use native.Mathlib.Nat.{zero-add}
+use native.Mathlib.Nat.{zero-add, add-zero}
 use native.Mathlib.Omega.{arith}
 use lib.Dec.{T, ltb, eqb, eqb→eq}
 use borrow.Author.Tests.{ltb-true, ltb-false, eqb-false}
-use lib.ListN.{length, getD, set, drop, length-set, List·getD-eq-default}
+use lib.ListN.{length, getD, set, drop, length-set, length-replicate, getD-replicate, List·getD-eq-default}
 use lib.Seq.{getD-set-same, getD-set-other, getD-drop, ext-getD}
+use Rattle.nodes.specs.Nodes.{zeros}
 use Rattle.spelling.specs.declared.Triple.{Triple}
 use Rattle.kinds.specs.Kinds.{partsOf}
 use Rattle.sheet.specs.Plan.{noTriple, triples, partLine}
-use Rattle.sheet.specs.Rows.{packed, rowTriple, rowsFrom, rows, lineCount, endAt, EndsFrom, setRow, Unlinked}
+use Rattle.sheet.specs.Rows.{packed, rowTriple, rowsFrom, rows, lineCount, endAt, EndsFrom, setRow, Unlinked, rowWords, unlinkedWords}
 use Rattle.sheet.proofs.Lines.{length-triples, kind-small, count-small, line-turn, line-within}
 
 -- ---- what a row holds
@@ -92,7 +93,36 @@ module _ (d : List ℕ) (a b e f x y j : ℕ) where
   other p q r s =
       getD-set-other (set (set (set d a x) b y) e 0) f j 0 0 s ∙ getD-set-other (set (set d a x) b y) e j 0 0 r ∙ getD-set-other (set d a x) b j y 0 q ∙ getD-set-other d a j x 0 p
 
+-- words that are all 0
+zeros-are : (m : ℕ) (d : List ℕ) → length d ≡ m → ((i : ℕ) → i < m → getD d i 0 ≡ 0) → d ≡ zeros m
+unfolding zeros
+zeros-are m d e f = let n = length-replicate {A = ℕ} m 0 in ext-getD 0 d (zeros m) (e ∙ sym n) (λ i h. f i (omega arith) ∙ sym (getD-replicate m i 0 0 (omega arith)))
+
 module _ (ls : List Triple) where
+  -- d starts with the rows of the lines ts, which are those of ls from line `at` on
+  abbrev StartsWith : List ℕ → ℕ → List Triple → Type 0
+  StartsWith d at ts =
+      (i : ℕ) → i < length ts → (getD d (2 * i) 0 ≡ getD ts i noTriple .value) × (getD d (2 * i + 1) 0 ≡ packed (getD ts i noTriple) (partLine ls (at + i) 1))
+
+  starts-next : (a b : ℕ) (d : List ℕ) (at : ℕ) (t : Triple) (ts : List Triple) → StartsWith (a ∷ b ∷ d) at (t ∷ ts) → StartsWith d (at + 1) ts
+  starts-next a b d at t ts f i h =
+      let p : 2 * suc i + 1 ≡ suc (suc (2 * i + 1)) = omega arith in
+      let q : 2 * suc i ≡ suc (suc (2 * i)) = omega arith in
+      let k : at + suc i ≡ at + 1 + i = omega arith in
+      rw (p, q, k) at (f (suc i) (omega arith))
+
+  -- rows, and then m words that are 0
+  words-are : (m : ℕ) (ts : List Triple) (at : ℕ) (d : List ℕ) → length d ≡ 2 * length ts + m → StartsWith d at ts → ((i : ℕ) → i < m → getD d (2 * length ts + i) 0 ≡ 0) → d ≡ rowWords ls at ts ++ zeros m
+  unfolding rowWords
+  words-are m [] at d e f g = zeros-are m d (omega arith) (λ i h. rw zero-add at (g i h))
+  words-are m (t ∷ ts) at [] e f g = absurd (omega arith)
+  words-are m (t ∷ ts) at (a ∷ []) e f g = absurd (omega arith)
+  words-are m (t ∷ ts) at (a ∷ b ∷ d) e f g =
+      let p = f 0 (omega arith) in
+      let q : (i : ℕ) → 2 * suc (length ts) + i ≡ suc (suc (2 * length ts + i)) = λ i. omega arith in
+      let again = words-are m ts (at + 1) d (omega arith) (starts-next a b d at t ts f) (λ i h. rw (q i) at (g i h)) in
+      λ i. p .0 i ∷ (rw add-zero at (p .1)) i ∷ again i
+
   -- from line `at` on, the rows are those of the lines ls, and nothing is linked
   abbrev pub RowsFrom : List ℕ → ℕ → Type 0
   RowsFrom d at =
@@ -181,6 +211,18 @@ module _ (ls : List Triple) where
       rows-unlinked =
           let n : lineCount d ≡ length ls = omega arith in
           record { none = λ i h. rw n (f i (omega arith) (omega arith) .2); alone = λ i h. rw n (f i (omega arith) (omega arith) .3) }
+
+      -- the words behind the rows
+      behind : (i : ℕ) → i < 2 * length ls → (b : Bool) → ltb i (length ls) ≡ b → getD d (2 * length ls + i) 0 ≡ 0
+      behind i h true p = f i (omega arith) (ltb-true i (length ls) p) .2
+      behind i h false p =
+          let l = ltb-false i (length ls) p in
+          let k : 2 * length ls + i ≡ 3 * length ls + (i - length ls) = omega arith in
+          rw k (f (i - length ls) (omega arith) (omega arith) .3)
+
+      pub rows-words : d ≡ unlinkedWords ls
+      unfolding unlinkedWords
+      rows-words = words-are (2 * length ls) ls 0 d (omega arith) (λ i h. let w = f i (omega arith) h in (w .0, rw zero-add (w .1))) (λ i h. behind i h (ltb i (length ls)) refl)
 
 -- of the lines of a sheet
 pub lines-small : (s : List ℕ) → Small (triples s)

@@ -2,14 +2,15 @@
 -- Assumes nothing: these are definitions.
 use mathlib.Core.Path.{_≡_}
 use mathlib.Core.Bool.{cond}
-use mathlib.Core.List.{List, [], _∷_}
+use mathlib.Core.List.{List, [], _∷_, _++_}
 use Prim.Native.Nat.{ℕ, zero, suc, _+_, _*_, _-_, _/_, _%_, _≤_, _<_}
 use lib.Dec.{eqb, ltb}
 use lib.ListN.{length, getD, set, drop}
+use Rattle.nodes.specs.Nodes.{zeros}
 use Rattle.spelling.specs.declared.Triple.{Triple}
 use Rattle.sheet.specs.declared.Found.{Found}
 use Rattle.sheet.specs.declared.Found.the-variants.{At, Nothing}
-use Rattle.sheet.specs.Plan.{noTriple, triples, partLine, named, findEntry}
+use Rattle.sheet.specs.Plan.{noTriple, triples, partLine, named, Declaration, declarations, findEntry}
 
 -- the second word: 10 bits of kind, one of sign, 17 of count, and then the line
 abbrev pub packed : Triple → ℕ → ℕ
@@ -69,6 +70,7 @@ pub record Ended (d : List ℕ) : Type 0 where
 abbrev pub inFront : List ℕ → ℕ → ℕ → List ℕ
 inFront d slot i = set (set d (3 * lineCount d + i) (firstAt d slot)) (2 * lineCount d + slot) (i + 1)
 
+-- the entry at line i linked, unless one of its kind and name is
 abbrev pub linkEntry : List ℕ → ℕ → List ℕ
 linkEntry d i = let t = getD (rows d) i noTriple in cond (eqb (linked d (t .kind) (t .value)) 0) (inFront d (t .value % lineCount d) i) d
 
@@ -87,3 +89,22 @@ pub record RowAsk (d s : List ℕ) (i : ℕ) : Type 0 where
   pub few : length (triples s) ≤ 2000
   pub stands : i < length (triples s)
   pub after : EndsFrom (triples s) d (i + 1)
+
+-- ---- every word of a sheet that was read
+-- the rows of the lines ts, which are those of ls from line `at` on
+unfoldable pub rowWords : List Triple → ℕ → List Triple → List ℕ
+rowWords ls at [] = []
+rowWords ls at (t ∷ ts) = t .value ∷ packed t (partLine ls at 1) ∷ rowWords ls (at + 1) ts
+
+-- the rows of all lines, and no entry linked
+unfoldable pub unlinkedWords : List Triple → List ℕ
+unlinkedWords ls = rowWords ls 0 ls ++ zeros (2 * length ls)
+
+-- entries linked one after the other; an entry's own line is the one before its type
+unfoldable pub linkAll : List ℕ → List Declaration → List ℕ
+linkAll d [] = d
+linkAll d (e ∷ es) = linkAll (linkEntry d (e .line - 1)) es
+
+-- what a sheet of the lines ls is read to
+unfoldable pub sheetWords : List Triple → List ℕ
+sheetWords ls = linkAll (unlinkedWords ls) (declarations ls 0 0)

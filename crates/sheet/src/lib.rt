@@ -14,8 +14,8 @@ ghost use lib.Seq.{sets};
 ghost use Rattle.nodes.specs.Nodes.{number, words};
 ghost use Rattle.nodes.specs.Lists.{All};
 ghost use Rattle.kinds.specs.Kinds.{partsOf};
-ghost use Rattle.sheet.specs.Plan.{noTriple, triples, partLine, lineNode, nodesOf, Narrow, isEntry, named, findEntry, entriesEnd, placesOf, isPlain as plainMark};
-ghost use Rattle.sheet.specs.Rows.{packed, rowTriple, rows, endAt, EndsFrom, Ended, setRow, RowAsk, linked, linkEntry, Unlinked};
+ghost use Rattle.sheet.specs.Plan.{noTriple, triples, partLine, lineNode, nodesOf, Narrow, isEntry, named, declarations, findEntry, entriesEnd, placesOf, isPlain as plainMark};
+ghost use Rattle.sheet.specs.Rows.{packed, rowTriple, rows, endAt, EndsFrom, Ended, setRow, RowAsk, linked, linkEntry, Unlinked, unlinkedWords, linkAll, sheetWords};
 
 // How many lines there are: each has a row of two words, and behind the rows two words that link the entries.
 pub fn line_count(s: &[u64]) -> usize
@@ -131,7 +131,7 @@ fn read_row(d: &mut [u64], s: &[u8], i: usize)
 // The lines of a sheet, the last one first.
 fn read_lines(d: &mut [u64], s: &[u8])
     requires { ⌜ (length (now d) ≡ 4 * (length (now s) / 29)) × (length (now s) / 29 ≤ 2000) ⌝ }
-    ensures { λ _. ⌜ (rows (now (d .exit)) ≡ triples (now (s .entry))) × EndsFrom (rows (now (d .exit))) (now (d .exit)) 0 × Unlinked (now (d .exit)) ⌝ }
+    ensures { λ _. ⌜ (rows (now (d .exit)) ≡ triples (now (s .entry))) × EndsFrom (rows (now (d .exit))) (now (d .exit)) 0 × Unlinked (now (d .exit)) × (now (d .exit) ≡ unlinkedWords (triples (now (s .entry)))) ⌝ }
 {
     let mut i = s.len() / 29;
     while 0 < i {
@@ -140,10 +140,10 @@ fn read_lines(d: &mut [u64], s: &[u8])
     }
 }
 
-// Reads a sheet.
+// Reads a sheet: every word is fixed, those of the links too.
 pub fn read_rows(d: &mut [u64], s: &[u8])
     requires { ⌜ (length (now d) ≡ 4 * (length (now s) / 29)) × (length (now s) / 29 ≤ 2000) ⌝ }
-    ensures { λ _. ⌜ (rows (now (d .exit)) ≡ triples (now (s .entry))) × Ended (now (d .exit)) ⌝ }
+    ensures { λ _. ⌜ (rows (now (d .exit)) ≡ triples (now (s .entry))) × Ended (now (d .exit)) × (now (d .exit) ≡ sheetWords (triples (now (s .entry)))) ⌝ }
 {
     read_lines(d, s);
     link_entries(d);
@@ -225,7 +225,7 @@ fn link_entry(d: &mut [u64], at: usize)
 // Links every entry, so that one is found by a look or two and not by going through them.
 fn link_entries(d: &mut [u64])
     requires { ⌜ EndsFrom (rows (now d)) (now d) 0 × Unlinked (now d) ⌝ }
-    ensures { λ _. ⌜ (rows (now (d .exit)) ≡ rows (now (d .entry))) × Ended (now (d .exit)) ⌝ }
+    ensures { λ _. ⌜ (rows (now (d .exit)) ≡ rows (now (d .entry))) × Ended (now (d .exit)) × (now (d .exit) ≡ linkAll (now (d .entry)) (declarations (rows (now (d .entry))) 0 0)) ⌝ }
 {
     let lines = line_count(d);
     let mut at = 0;

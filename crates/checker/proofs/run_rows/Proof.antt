@@ -15,7 +15,7 @@ check-plan-requires c κs =
     let p = c .before .before .before .before .before .before .before .before .before .before .before .before .before .before .before .before .before .before .before .before .before .pre in
     let q = c .before .before .before .before .before .before .before .before .before .before .before .read-rows .ensures in
     record {
-      plan = was-read (now (c .before .before .before .before .before .before .before .before .before .before .before .before .before .before .before .before .before .before .before .before .before .args .s)) (p .run .plan) q;
+      plan = was-read (now (c .before .before .before .before .before .before .before .before .before .before .before .before .before .before .before .before .before .before .before .before .before .args .s)) (p .run .plan) (q .0, q .1);
       board = p .run .board;
       book = p .run .book;
       report = p .run .report;

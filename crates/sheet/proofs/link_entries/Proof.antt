@@ -3,22 +3,22 @@ use Prim.Native.Nat.{ℕ, _+_, _*_, _-_, _≤_, _<_}
 use native.Mathlib.Omega.{arith}
 use lib.ListN.{length}
 use Rattle.sheet.specs.Plan.{isEntry}
-use Rattle.sheet.specs.Rows.{rows}
+use Rattle.sheet.specs.Rows.{rows, linkAll}
 use Rattle.sheet.proofs.RowLaws.{length-rows}
-use Rattle.sheet.proofs.Declarations.{seen}
+use Rattle.sheet.proofs.Declarations.{from, seen}
 use Rattle.sheet.proofs.Links.{Linking, linking-start, line-here, linking-next, linking-none, linking-past}
 use borrow.Author.Needs.{needs}
 use Rattle.sheet.proofs.link_entries.Statement.{statement}
 use Rattle.sheet.proofs.link_entries.Tie as tie
 
 abbrev Inv-loop : tie.InvT-loop
-Inv-loop d₀ lines at₀ d at = Linking (rows d₀) d at × (length d ≡ length d₀) × (lines ≡ length (rows d₀))
+Inv-loop d₀ lines at₀ d at = Linking (rows d₀) d at × (length d ≡ length d₀) × (lines ≡ length (rows d₀)) × (linkAll d (from (rows d₀) at) ≡ linkAll d₀ (from (rows d₀) 0))
 
 abbrev μ-loop : tie.MeasureT-loop
 μ-loop d₀ lines at₀ d at = lines - at
 
 loop-holds : tie.Need-loop-holds Inv-loop μ-loop
-loop-holds c = (linking-start (c .before .before .before .args .d .now) (c .before .before .before .pre .0) (c .before .before .before .pre .1), refl, c .line-count .ensures)
+loop-holds c = (linking-start (c .before .before .before .args .d .now) (c .before .before .before .pre .0) (c .before .before .before .pre .1), refl, c .line-count .ensures, refl)
 
 link-entry-requires : tie.Need-link-entry-requires Inv-loop μ-loop
 link-entry-requires c κs = let L = c .before .before .before .before .before .before .loop in let t = c .before .before .before .before .before .loop-test .taken in let e = ap length (L .inv .0 .same) in let n = L .inv .2 in omega arith
@@ -43,7 +43,8 @@ loop-again c =
     let L = c .before .before .before .before .before .before .before .before .before .before .before .loop in
     let n = L .inv .2 in
     let t = c .before .before .before .before .before .before .before .before .before .before .loop-test .taken in
-    (linking-next (L .inv .0) (omega arith) (seen isEntry (line-here (L .inv .0) (c .before .before .before .before .before .before .before .before .triple-at .ensures)) (c .before .before .before .before .before .before .before .is-entry .ensures) (c .before .before .before .before .before .before .if1 .taken)) (c .before .before .before .before .link-entry .ensures) (λ ms e f. c .after-parts .ensures ms (e ∙ sym n) f) .0, c .before .before .before .before .link-entry .kept .0 ∙ L .inv .1, n)
+    let x = linking-next (L .inv .0) (omega arith) (seen isEntry (line-here (L .inv .0) (c .before .before .before .before .before .before .before .before .triple-at .ensures)) (c .before .before .before .before .before .before .before .is-entry .ensures) (c .before .before .before .before .before .before .if1 .taken)) (c .before .before .before .before .link-entry .ensures) (λ ms e f. c .after-parts .ensures ms (e ∙ sym n) f) in
+    (x .0, c .before .before .before .before .link-entry .kept .0 ∙ L .inv .1, n, x .2 ∙ L .inv .3)
 
 same-length : tie.Need-same-length Inv-loop μ-loop
 same-length c = c .before .before .before .before .before .loop .inv .1
@@ -53,7 +54,8 @@ returns c =
     let L = c .before .before .before .before .before .loop in
     let n = L .inv .2 in
     let t = c .before .before .before .before .loop-test .taken in
-    linking-none (L .inv .0) (omega arith) (seen isEntry (line-here (L .inv .0) (c .before .before .triple-at .ensures)) (c .before .is-entry .ensures) (c .if1 .left))
+    let x = linking-none (L .inv .0) (omega arith) (seen isEntry (line-here (L .inv .0) (c .before .before .triple-at .ensures)) (c .before .is-entry .ensures) (c .if1 .left)) in
+    (x .0, x .1, x .2 ∙ L .inv .3)
 
 same-length-2 : tie.Need-same-length-2 Inv-loop μ-loop
 same-length-2 c = c .before .loop .inv .1
@@ -63,7 +65,8 @@ returns-2 c =
     let L = c .before .loop in
     let n = L .inv .2 in
     let t = c .loop-test .left in
-    linking-past (L .inv .0) (omega arith)
+    let x = linking-past (L .inv .0) (omega arith) in
+    (x .0, x .1, x .2 ∙ L .inv .3)
 
 pub link-entries-spec : {M : Type 1} → statement M
 link-entries-spec =

@@ -8,7 +8,7 @@ use Rattle.spelling.specs.declared.Triple.{Triple}
 use Rattle.sheet.specs.Plan.{triples}
 use Rattle.sheet.specs.Rows.{EndsFrom}
 use Rattle.sheet.proofs.Lines.{length-triples}
-use Rattle.sheet.proofs.RowLaws.{RowsFrom, row-set, row-ends, rows-are, rows-ended, rows-unlinked, lines-small}
+use Rattle.sheet.proofs.RowLaws.{RowsFrom, row-set, row-ends, rows-are, rows-ended, rows-unlinked, rows-words, lines-small}
 use Rattle.sheet.proofs.read_lines.Statement.{statement}
 use Rattle.sheet.proofs.read_lines.Tie as tie
 
@@ -52,10 +52,10 @@ returns : tie.Need-returns Inv-loop μ-loop
 returns c =
     let L = c .before .loop in
     let z = c .loop-test .left in
-    let m = lines-small (c .before .before .before .before .args .s .now) in
-    let f : RowsFrom (triples (c .before .before .before .before .args .s .now)) (L .d) 0 = λ j h l. L .inv .4 j (omega arith) l in
-    let e = rows-are (triples (c .before .before .before .before .args .s .now)) (L .d) m (L .inv .1) f in
-    (e, rows-ended (triples (c .before .before .before .before .args .s .now)) (L .d) m (L .inv .1) f, rows-unlinked (triples (c .before .before .before .before .args .s .now)) (L .d) m (L .inv .1) f)
+    let s = c .before .before .before .before .args .s .now in
+    let m = lines-small s in
+    let f : RowsFrom (triples s) (L .d) 0 = λ j h l. L .inv .4 j (omega arith) l in
+    (rows-are (triples s) (L .d) m (L .inv .1) f, rows-ended (triples s) (L .d) m (L .inv .1) f, rows-unlinked (triples s) (L .d) m (L .inv .1) f, rows-words (triples s) (L .d) m (L .inv .1) f)
 
 pub read-lines-spec : {M : Type 1} → statement M
 read-lines-spec =
