@@ -5,18 +5,18 @@ use mathlib.Core.List.{List, [], _∷_}
 use Prim.Native.Nat.{ℕ, zero, suc, _+_, _*_, _-_, _≤_, _<_}
 use native.Mathlib.Omega.{arith}
 use borrow.Author.Tests.{eq-eqb, ne-eqb}
-use lib.Dec.{ltb}
+use lib.Dec.{ltb, leb·suc-suc}
 use lib.ListN.{length, set, take, drop, length-drop}
 use Rattle.nodes.specs.Nodes.{node, Ty, nodeParts, words, nodesAt}
 use Rattle.nodes.proofs.Laws.{nodesAt-same, drop-nodesAt}
 use Rattle.nodes.proofs.PartLaws.{is-take, is-drop, length-take}
 use Rattle.spelling.specs.declared.Triple.{Triple}
 use Rattle.judgment.specs.Types.{first, rest, Renaming, rename, frontNames}
-use Rattle.constructors.specs.Opening.{Copied}
+use Rattle.constructors.specs.Opening.{openedOut, Copied}
 use Rattle.constructors.proofs.Openings.{nodes-of-lines}
 use Rattle.references.specs.Signatures.{arrowHead, params}
 use Rattle.references.specs.declared.TypeRef.{TypeRef}
-use Rattle.references.specs.References.{wholeOf, openedAt, typeOf, pendingOf, Good, Frame, parameterOf, othersOf, Halved}
+use Rattle.references.specs.References.{wholeOf, openedAt, typeOf, instanceOut, pendingOf, Good, Frame, parameterOf, othersOf, Halved}
 use Rattle.references.proofs.Signs.{params-enough}
 use Rattle.references.proofs.Cuts.{drop-drop, cut-cut, take-whole, cut, length-rename, cut-rename, after-drop}
 
@@ -47,6 +47,10 @@ instance-part ls r o o' q h g x =
     ∙ ap (λ (u : Ty). rename m (take (r .count) u)) (drop-drop q i t ∙ ap (λ (p : ℕ). drop p t) f)
     ∙ sym (type-is ls r h)
 
+pub whole-out : (ls : List Triple) (r : TypeRef) (o o' : List ℕ) → 0 < r .lines → o' ≡ openedOut (wholeOf ls r) (r .base) o → o' ≡ instanceOut ls r o
+unfolding instanceOut
+whole-out ls r o o' h e = rw (ne-eqb (r .lines) 0 (omega arith)) e
+
 one-node : (o : List ℕ) (u : ℕ) → 2 ≤ length o → nodesAt (set (set o 0 17) 1 u) 0 1 ≡ node 17 u ∷ []
 unfolding words
 one-node o u h = nodesAt-same (node 17 u ∷ []) o 0 (omega arith)
@@ -57,6 +61,10 @@ instance-alone ls r o z g h =
     let q = g .alone z in
     let a : 2 * r .at ≡ 0 = (let x = q .0 in omega arith) in
     rw (a, q .1, eq-eqb (r .lines) 0 z) (one-node o (r .base) h)
+
+pub alone-out : (ls : List Triple) (r : TypeRef) (o : List ℕ) → r .lines ≡ 0 → set (set o 0 17) 1 (r .base) ≡ instanceOut ls r o
+unfolding instanceOut
+alone-out ls r o z = rw (eq-eqb (r .lines) 0 z)
 
 -- ---- the first parameter, and those after it
 some-params : (n : ℕ) (t : Ty) → 0 < length (params n t) → (0 < n) × (params n t ≡ first (drop 1 t) ∷ params (n - 1) (rest (drop 1 t)))
@@ -169,15 +177,18 @@ module _ (ls : List Triple) (r : TypeRef) (f : Frame ls r) (h : 0 < r .lines) (o
       ∙ part-is (1 + m) (r .count - 1 - m) (omega arith)
       ∙ ap (λ (p : ℕ). rename M (take (r .count - 1 - m) (drop p (wholeOf ls r)))) (let x : r .at + (1 + m) ≡ r .at + 1 + m = omega arith in x)
       ∙ sym (type-is ls (othersOf r m) h) in
+      let pending : pendingOf ls r ≡ typeOf ls (parameterOf r m) ∷ pendingOf ls (othersOf r m) =
+      pending-is ls r h
+      ∙ some-params (r .count) X s .1
+      ∙ ap₂ (λ (x : Ty) (t : Ty). x ∷ params (r .count - 1) t) first-is rest-is
+      ∙ ap (λ (u : List Ty). typeOf ls (parameterOf r m) ∷ u)
+      (params-enough (r .count - 1) (r .count - 1 - m) (typeOf ls (othersOf r m)) (omega arith) (omega arith) ∙ sym (pending-is ls (othersOf r m) h)) in
+      let more : ltb 0 a ≡ ltb 0 (length (pendingOf ls (othersOf r m))) = ap (ltb 0) (q ∙ ap (λ (t : Ty). length (params (r .count - 1 - m) t)) y ∙ ap length (sym (pending-is ls (othersOf r m) h))) in
       record {
         short = short;
         first = first-good;
         others = others-good;
-        pending =
-            pending-is ls r h
-            ∙ some-params (r .count) X s .1
-            ∙ ap₂ (λ (x : Ty) (t : Ty). x ∷ params (r .count - 1) t) first-is rest-is
-            ∙ ap (λ (u : List Ty). typeOf ls (parameterOf r m) ∷ u)
-            (params-enough (r .count - 1) (r .count - 1 - m) (typeOf ls (othersOf r m)) (omega arith) (omega arith) ∙ sym (pending-is ls (othersOf r m) h));
-        more = ap (ltb 0) (q ∙ ap (λ (t : Ty). length (params (r .count - 1 - m) t)) y ∙ ap length (sym (pending-is ls (othersOf r m) h)));
+        pending = pending;
+        more = more;
+        answer = ap₂ (λ (n : ℕ) (b : Bool). record { count = n; more = b }) size (more ∙ sym (ap (λ (l : List Ty). ltb 1 (length l)) pending ∙ leb·suc-suc 1 (length (pendingOf ls (othersOf r m)))));
       }

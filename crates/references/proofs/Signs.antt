@@ -9,12 +9,12 @@ use lib.Dec.{eqb}
 use lib.ListN.{length, getD}
 use Rattle.nodes.specs.Nodes.{node, Ty, nodeParts, nodesAt}
 use Rattle.nodes.specs.Parts.{dropParts}
-use Rattle.nodes.proofs.Laws.{nodesAt-cons}
+use Rattle.nodes.proofs.Laws.{nodesAt-cons, length-nodesAt}
 use Rattle.nodes.proofs.ListLaws.{cond-ind}
 use Rattle.judgment.specs.Types.{first, rest, null, View, isArrow, isApp, isForall, isUnknown, isOther, view}
 use Rattle.judgment.specs.Board.{Rule}
 use Rattle.judgment.specs.Rules.{signatureBy, signatureFrom}
-use Rattle.references.specs.Signatures.{arrowHead, params, result}
+use Rattle.references.specs.Signatures.{arrowHead, params, result, endingOf}
 
 -- ---- this is what the definition's rule goes on with
 module _ (ps : List Ty) (t : Ty) (f : List Ty → Ty → Rule) (again : List Ty → Ty → Rule) where
@@ -121,6 +121,13 @@ sign-stop k at n i arity e h =
     let v = h .0 in
     let u : length (params (n - arity) (nodesAt k (at + 2 * i) (n - i))) ≡ 0 = ap length (t .0) in
     (omega arith, sym (h .1 ∙ t .1))
+
+pub sign-ending : (k : List ℕ) (at n i arity : ℕ) → i ≤ n → arity ≡ length (params n (nodesAt k at n)) → nodesAt k (at + 2 * i) (n - i) ≡ result n (nodesAt k at n)
+    → record { arity = arity; start = i } ≡ endingOf n (nodesAt k at n)
+sign-ending k at n i arity h a e =
+    let l : length (result n (nodesAt k at n)) ≡ n - i = ap length (sym e) ∙ length-nodesAt k (at + 2 * i) (n - i) in
+    let s : i ≡ n - length (result n (nodesAt k at n)) = omega arith in
+    ap₂ (λ (x y : ℕ). record { arity = x; start = y }) a s
 
 pub few-params : (n : ℕ) (t : Ty) → length (params n t) ≤ n
 unfolding params

@@ -5,12 +5,14 @@ use mathlib.Core.List.{List, [], _∷_}
 use Prim.Native.Nat.{ℕ, _+_, _-_, _≤_, _<_}
 use lib.Dec.{eqb, ltb}
 use lib.ListN.{length, take, drop}
+use lib.Seq.{sets}
 use Rattle.nodes.specs.Nodes.{Ty}
 use Rattle.nodes.specs.Lists.{All}
 use Rattle.spelling.specs.declared.Triple.{Triple}
 use Rattle.sheet.specs.Plan.{nodesOf, Narrow}
-use Rattle.judgment.specs.Types.{unknown, Renaming, rename, frontNames}
+use Rattle.judgment.specs.Types.{first, unknown, Renaming, rename, frontNames}
 use Rattle.core_types.specs.Names.{pairs}
+use Rattle.constructors.specs.Opening.{openedOut}
 use Rattle.references.specs.Signatures.{params}
 use Rattle.references.specs.declared.TypeRef.{TypeRef}
 use Rattle.references.specs.declared.Split.{Split}
@@ -25,6 +27,10 @@ openedAt t a = pairs (frontNames t) a []
 unfoldable pub typeOf : List Triple → TypeRef → Ty
 typeOf ls r =
     cond (eqb (r .lines) 0) (unknown (r .base)) (rename (openedAt (wholeOf ls r) (r .base)) (take (r .count) (drop (r .at) (wholeOf ls r))))
+
+-- a buffer with the opened whole at its front: every word, o are those before
+unfoldable pub instanceOut : List Triple → TypeRef → List ℕ → List ℕ
+instanceOut ls r o = cond (eqb (r .lines) 0) (sets o 0 (17 ∷ r .base ∷ [])) (openedOut (wholeOf ls r) (r .base) o)
 
 -- a reference within a type on the sheet, behind its quantifiers; or to an unknown
 pub record Good (ls : List Triple) (r : TypeRef) : Type 0 where
@@ -51,9 +57,14 @@ parameterOf r m = record { first = r .first; lines = r .lines; at = r .at + 1; c
 abbrev pub othersOf : TypeRef → ℕ → TypeRef
 othersOf r m = record { first = r .first; lines = r .lines; at = r .at + 1 + m; count = r .count - 1 - m; base = r .base }
 
+-- how many nodes the first parameter has, and whether others follow it
+abbrev pub splitOf : List Triple → TypeRef → Split
+splitOf ls r = record { count = length (first (drop 1 (typeOf ls r))); more = ltb 1 (length (pendingOf ls r)) }
+
 pub record Halved (ls : List Triple) (r : TypeRef) (h : Split) : Type 0 where
   pub short : 1 + h .count ≤ r .count
   pub first : Good ls (parameterOf r (h .count))
   pub others : Good ls (othersOf r (h .count))
   pub pending : pendingOf ls r ≡ typeOf ls (parameterOf r (h .count)) ∷ pendingOf ls (othersOf r (h .count))
   pub more : h .more ≡ ltb 0 (length (pendingOf ls (othersOf r (h .count))))
+  pub answer : h ≡ splitOf ls r

@@ -4,8 +4,8 @@ ghost use Prim.Native.Nat.{_+_, _*_, _-_, _≤_, _<_};
 ghost use lib.ListN.{length};
 ghost use Rattle.nodes.specs.Nodes.{node, nodesAt};
 ghost use Rattle.sheet.specs.Rows.{rows};
-ghost use Rattle.references.specs.Signatures.{arrowHead, params, result};
-ghost use Rattle.references.specs.References.{typeOf, Good, Frame, Halved};
+ghost use Rattle.references.specs.Signatures.{arrowHead, params, result, endingOf};
+ghost use Rattle.references.specs.References.{typeOf, instanceOut, Good, Frame, Halved};
 use constructors::copy_opened;
 use core_types::first_part;
 
@@ -36,7 +36,7 @@ pub struct Ending {
 // Counts the parameters of the type of n nodes at word `at` of k, and finds its result.
 pub fn signature(k: &[u32], at: usize, n: usize) -> Ending
     requires { ⌜ (at + 2 * n ≤ length (now k)) × (n ≤ 4096) ⌝ }
-    ensures { λ r. ⌜ (r .start ≤ n) × (r .arity ≡ length (params n (nodesAt (now (k .entry)) at n))) × (nodesAt (now (k .entry)) (at + 2 * r .start) (n - r .start) ≡ result n (nodesAt (now (k .entry)) at n)) ⌝ }
+    ensures { λ r. ⌜ (r .start ≤ n) × (r .arity ≡ length (params n (nodesAt (now (k .entry)) at n))) × (nodesAt (now (k .entry)) (at + 2 * r .start) (n - r .start) ≡ result n (nodesAt (now (k .entry)) at n)) × (r ≡ endingOf n (nodesAt (now (k .entry)) at n)) ⌝ }
 {
     let mut arity = 0;
     let mut i = 0;
@@ -56,7 +56,7 @@ pub fn signature(k: &[u32], at: usize, n: usize) -> Ending
 // Writes the whole type, opened, to the front of `out`: the part that is meant stands at its own place in it.
 pub fn instance(out: &mut [u32], s: &[u64], r: TypeRef)
     requires { ⌜ Good (rows (now s)) r × (2 * r .lines ≤ length (now out)) × (2 ≤ length (now out)) ⌝ }
-    ensures { λ _. ⌜ nodesAt (now (out .exit)) (2 * r .at) (r .count) ≡ typeOf (rows (now (s .entry))) r ⌝ }
+    ensures { λ _. ⌜ (nodesAt (now (out .exit)) (2 * r .at) (r .count) ≡ typeOf (rows (now (s .entry))) r) × (now (out .exit) ≡ instanceOut (rows (now (s .entry))) r (now (out .entry))) ⌝ }
 {
     let base = r.base as u32;
     let lines = r.lines;
@@ -77,7 +77,7 @@ pub struct Split {
 // Takes apart the parameters that a reference stands for.
 pub fn split_frame(out: &mut [u32], s: &[u64], r: TypeRef) -> Split
     requires { ⌜ Frame (rows (now s)) r × (0 < r .lines) × (8192 ≤ length (now out)) ⌝ }
-    ensures { λ h. ⌜ Halved (rows (now (s .entry))) r h ⌝ }
+    ensures { λ h. ⌜ Halved (rows (now (s .entry))) r h × (now (out .exit) ≡ instanceOut (rows (now (s .entry))) r (now (out .entry))) ⌝ }
 {
     let at = r.at;
     let count = r.count;

@@ -62,7 +62,7 @@ loop-again : tie.Need-loop-again Inv-loop μ-loop
 loop-again c =
     let a = c .before .before .before .before .before .before .before .before .before .before .before .before .before .before .before .before .before .before .args in
     let L = c .before .before .before .before .before .before .before .before .before .before .before .before .before .loop in
-    (vars-turn (rows (now (a .s))) (now (a .v)) (a .n) (L .i) (c .before .before .before .before .before .before .before .before .before .before .before .get .result) _ (L .inv .0) (c .before .before .before .before .before .before .before .before .before .before .before .before .loop-test .taken) (c .before .before .before .before .before .before .before .before .before .before .before .get .ensures) (c .before .before .before .before .before .before .before .instance .ensures) (c .before .before .push-var .ensures), c .before .before .push-var .kept .0 ∙ L .inv .1, c .before .before .before .before .before .before .before .instance .kept .0 ∙ L .inv .2)
+    (vars-turn (rows (now (a .s))) (now (a .v)) (a .n) (L .i) (c .before .before .before .before .before .before .before .before .before .before .before .get .result) _ (L .inv .0) (c .before .before .before .before .before .before .before .before .before .before .before .before .loop-test .taken) (c .before .before .before .before .before .before .before .before .before .before .before .get .ensures) (c .before .before .before .before .before .before .before .instance .ensures .0) (c .before .before .push-var .ensures), c .before .before .push-var .kept .0 ∙ L .inv .1, c .before .before .before .before .before .before .before .instance .kept .0 ∙ L .inv .2)
 
 same-length : tie.Need-same-length Inv-loop μ-loop
 same-length c = c .before .loop .inv .1

@@ -100,7 +100,7 @@ returns c =
     let st : c .before .before .before .before .before .before .before .before .before .signature .result .start ≤ o .nodes = S .0 in
     let r1 = opened-ready ls (a .first) (a .n) (a .count) (a .want) p O in
     let T = sub-turn {ls = ls} _ _ r1 (c .before .before .before .push-sub .ensures) in
-    parting ls (a .first) (a .n) (a .count) (a .want) p O (c .before .before .before .before .before .before .before .before .before .signature .result .start) (c .before .before .before .before .before .before .before .before .before .signature .result .arity) (S .1) _ (c .before .before .before .before .before .before .before .before .before .before .before .before .before .before .before .before .before .before .before .before .before .instance .ensures) (S .2) (c .before .before .before .push-sub .ensures .2) (c .check-arity .ensures ls _ (T .ready)) (T .taken)
+    parting ls (a .first) (a .n) (a .count) (a .want) p O (c .before .before .before .before .before .before .before .before .before .signature .result .start) (c .before .before .before .before .before .before .before .before .before .signature .result .arity) (S .1) _ (c .before .before .before .before .before .before .before .before .before .before .before .before .before .before .before .before .before .before .before .before .before .instance .ensures .0) (S .2) (c .before .before .before .push-sub .ensures .2) (c .check-arity .ensures ls _ (T .ready)) (T .taken)
 
 pub pattern-parts-spec : {M : Type 1} → statement M
 pattern-parts-spec =

@@ -1,9 +1,10 @@
 use mathlib.Core.Path.{_≡_}
+use Prim.Native.Nat.{_<_}
 use native.Mathlib.Omega.{arith}
 use lib.ListN.{length-set}
 use denote.Ref.{now}
 use Rattle.sheet.specs.Rows.{rows}
-use Rattle.references.proofs.Parts.{instance-part, instance-alone}
+use Rattle.references.proofs.Parts.{instance-part, whole-out, instance-alone, alone-out}
 use borrow.Author.Needs.{needs}
 use Rattle.references.proofs.instance.Statement.{statement}
 use Rattle.references.proofs.instance.Tie as tie
@@ -15,12 +16,14 @@ returns : tie.Need-returns
 returns c =
     let a = c .before .before .before .before .args in
     let p = c .before .before .before .before .pre in
-    instance-alone (rows (now (a .s))) (a .r) (now (a .out)) (c .if1 .taken) (p .0) (let l = p .1 in omega arith)
+    (instance-alone (rows (now (a .s))) (a .r) (now (a .out)) (c .if1 .taken) (p .0) (let l = p .1 in omega arith), alone-out (rows (now (a .s))) (a .r) (now (a .out)) (c .if1 .taken))
 
 returns-2 : tie.Need-returns-2
 returns-2 c =
     let a = c .before .before .before .before .before .before .before .before .args in
-    instance-part (rows (now (a .s))) (a .r) (now (a .out)) _ _ (let z = c .before .before .before .before .if1 .left in omega arith) (c .before .before .before .before .before .before .before .before .pre .0) (c .before .before .copy-opened .ensures)
+    let C = c .before .before .copy-opened .ensures in
+    let h : 0 < a .r .lines = (let z = c .before .before .before .before .if1 .left in omega arith) in
+    (instance-part (rows (now (a .s))) (a .r) (now (a .out)) _ _ h (c .before .before .before .before .before .before .before .before .pre .0) C, whole-out (rows (now (a .s))) (a .r) (now (a .out)) _ h (C .out))
 
 pub instance-spec : {M : Type 1} → statement M
 instance-spec =

@@ -4,7 +4,7 @@ use native.Mathlib.Omega.{arith}
 use denote.Ref.{now}
 use Prim.Native.Nat.{ℕ, _+_, _*_, _-_, _≤_}
 use Rattle.core_types.proofs.Walks.{first-within, first-nodes, rest-nodes}
-use Rattle.references.proofs.Signs.{Signing, sign-start, sign-turn, sign-stop}
+use Rattle.references.proofs.Signs.{Signing, sign-start, sign-turn, sign-stop, sign-ending}
 use Rattle.references.proofs.signature.Statement.{statement}
 use Rattle.references.proofs.signature.Tie as tie
 
@@ -45,12 +45,12 @@ loop-again c =
 returns : tie.Need-returns Inv-loop μ-loop
 returns c =
     let d = sign-stop _ _ _ _ _ (λ h. sym (c .before .is-arrow .ensures) ∙ c .if1 .left) (c .before .before .before .before .before .loop .inv .2) in
-    (search needs, d .0, d .1)
+    (search needs, d .0, d .1, sign-ending _ _ _ _ _ (search needs) (d .0) (d .1))
 
 returns-2 : tie.Need-returns-2 Inv-loop μ-loop
 returns-2 c =
     let d = sign-stop _ _ _ _ _ (λ h. absurd (let z = c .loop-test .left in omega arith)) (c .before .loop .inv .2) in
-    (search needs, d .0, d .1)
+    (search needs, d .0, d .1, sign-ending _ _ _ _ _ (search needs) (d .0) (d .1))
 
 pub signature-spec : {M : Type 1} → statement M
 signature-spec =

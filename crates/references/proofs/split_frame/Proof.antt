@@ -42,37 +42,37 @@ first-part-requires c κs =
 mul-q : tie.Need-mul-q
 mul-q c =
     let a = c .before .before .before .before .before .before .before .before .args in
-    let f : (1 + c .first-part .result ≤ a .r .count) × (a .r .at + a .r .count ≤ 4096) = others-fit (rows (now (a .s))) (a .r) (c .before .before .before .before .before .before .before .before .pre .0) (c .before .before .before .before .before .before .before .before .pre .1) _ (c .before .before .before .before .instance .ensures) (c .first-part .result) (c .first-part .ensures) in
+    let f : (1 + c .first-part .result ≤ a .r .count) × (a .r .at + a .r .count ≤ 4096) = others-fit (rows (now (a .s))) (a .r) (c .before .before .before .before .before .before .before .before .pre .0) (c .before .before .before .before .before .before .before .before .pre .1) _ (c .before .before .before .before .instance .ensures .0) (c .first-part .result) (c .first-part .ensures) in
     omega arith
 
 add-q : tie.Need-add-q
 add-q c =
     let a = c .before .before .before .before .before .before .before .before .args in
-    let f : (1 + c .first-part .result ≤ a .r .count) × (a .r .at + a .r .count ≤ 4096) = others-fit (rows (now (a .s))) (a .r) (c .before .before .before .before .before .before .before .before .pre .0) (c .before .before .before .before .before .before .before .before .pre .1) _ (c .before .before .before .before .instance .ensures) (c .first-part .result) (c .first-part .ensures) in
+    let f : (1 + c .first-part .result ≤ a .r .count) × (a .r .at + a .r .count ≤ 4096) = others-fit (rows (now (a .s))) (a .r) (c .before .before .before .before .before .before .before .before .pre .0) (c .before .before .before .before .before .before .before .before .pre .1) _ (c .before .before .before .before .instance .ensures .0) (c .first-part .result) (c .first-part .ensures) in
     omega arith
 
 sub-signature : tie.Need-sub-signature
 sub-signature c =
     let a = c .before .before .before .before .before .before .before .before .before .args in
-    let f : (1 + c .before .first-part .result ≤ a .r .count) × (a .r .at + a .r .count ≤ 4096) = others-fit (rows (now (a .s))) (a .r) (c .before .before .before .before .before .before .before .before .before .pre .0) (c .before .before .before .before .before .before .before .before .before .pre .1) _ (c .before .before .before .before .before .instance .ensures) (c .before .first-part .result) (c .before .first-part .ensures) in
+    let f : (1 + c .before .first-part .result ≤ a .r .count) × (a .r .at + a .r .count ≤ 4096) = others-fit (rows (now (a .s))) (a .r) (c .before .before .before .before .before .before .before .before .before .pre .0) (c .before .before .before .before .before .before .before .before .before .pre .1) _ (c .before .before .before .before .before .instance .ensures .0) (c .before .first-part .result) (c .before .first-part .ensures) in
     omega arith
 
 sub-signature-2 : tie.Need-sub-signature-2
 sub-signature-2 c =
     let a = c .before .before .before .before .before .before .before .before .before .args in
-    let f : (1 + c .before .first-part .result ≤ a .r .count) × (a .r .at + a .r .count ≤ 4096) = others-fit (rows (now (a .s))) (a .r) (c .before .before .before .before .before .before .before .before .before .pre .0) (c .before .before .before .before .before .before .before .before .before .pre .1) _ (c .before .before .before .before .before .instance .ensures) (c .before .first-part .result) (c .before .first-part .ensures) in
+    let f : (1 + c .before .first-part .result ≤ a .r .count) × (a .r .at + a .r .count ≤ 4096) = others-fit (rows (now (a .s))) (a .r) (c .before .before .before .before .before .before .before .before .before .pre .0) (c .before .before .before .before .before .before .before .before .before .pre .1) _ (c .before .before .before .before .before .instance .ensures .0) (c .before .first-part .result) (c .before .first-part .ensures) in
     omega arith
 
 signature-requires : tie.Need-signature-requires
 signature-requires c κs =
     let a = c .before .before .before .before .before .before .before .before .before .args in
-    let f : (1 + c .before .first-part .result ≤ a .r .count) × (a .r .at + a .r .count ≤ 4096) = others-fit (rows (now (a .s))) (a .r) (c .before .before .before .before .before .before .before .before .before .pre .0) (c .before .before .before .before .before .before .before .before .before .pre .1) _ (c .before .before .before .before .before .instance .ensures) (c .before .first-part .result) (c .before .first-part .ensures) in
+    let f : (1 + c .before .first-part .result ≤ a .r .count) × (a .r .at + a .r .count ≤ 4096) = others-fit (rows (now (a .s))) (a .r) (c .before .before .before .before .before .before .before .before .before .pre .0) (c .before .before .before .before .before .before .before .before .before .pre .1) _ (c .before .before .before .before .before .instance .ensures .0) (c .before .first-part .result) (c .before .first-part .ensures) in
     (search needs, omega arith)
 
 returns : tie.Need-returns
 returns c =
     let a = c .before .before .before .before .before .before .before .before .before .before .before .args in
-    halved (rows (now (a .s))) (a .r) (c .before .before .before .before .before .before .before .before .before .before .before .pre .0) (c .before .before .before .before .before .before .before .before .before .before .before .pre .1) _ (c .before .before .before .before .before .before .before .instance .ensures) (c .before .before .before .first-part .result) (c .before .before .before .first-part .ensures) (c .before .signature .result .arity) (c .before .signature .ensures .1)
+    (halved (rows (now (a .s))) (a .r) (c .before .before .before .before .before .before .before .before .before .before .before .pre .0) (c .before .before .before .before .before .before .before .before .before .before .before .pre .1) _ (c .before .before .before .before .before .before .before .instance .ensures .0) (c .before .before .before .first-part .result) (c .before .before .before .first-part .ensures) (c .before .signature .result .arity) (c .before .signature .ensures .1), c .before .before .before .before .before .before .before .instance .ensures .1)
 
 pub split-frame-spec : {M : Type 1} → statement M
 split-frame-spec =

@@ -21,31 +21,31 @@ split-frame-requires c κs =
 sub-rest : tie.Need-sub-rest
 sub-rest c =
     let z = c .before .before .before .before .before .if1 .left in
-    let f = bounds (c .before .before .before .split-frame .ensures) (omega arith) in
+    let f = bounds (c .before .before .before .split-frame .ensures .0) (omega arith) in
     omega arith
 
 sub-rest-2 : tie.Need-sub-rest-2
 sub-rest-2 c =
     let z = c .before .before .before .before .before .if1 .left in
-    let f = bounds (c .before .before .before .split-frame .ensures) (omega arith) in
+    let f = bounds (c .before .before .before .split-frame .ensures .0) (omega arith) in
     omega arith
 
 add-t20 : tie.Need-add-t20
 add-t20 c =
     let z = c .before .before .before .before .before .if1 .left in
-    let f = bounds (c .before .before .before .split-frame .ensures) (omega arith) in
+    let f = bounds (c .before .before .before .split-frame .ensures .0) (omega arith) in
     omega arith
 
 add-t24 : tie.Need-add-t24
 add-t24 c =
     let z = c .before .before .before .before .before .before .before .if1 .left in
-    let f = bounds (c .before .before .before .before .before .split-frame .ensures) (omega arith) in
+    let f = bounds (c .before .before .before .before .before .split-frame .ensures .0) (omega arith) in
     omega arith
 
 add-t25 : tie.Need-add-t25
 add-t25 c =
     let z = c .before .before .before .before .before .before .before .if1 .left in
-    let f = bounds (c .before .before .before .before .before .split-frame .ensures) (omega arith) in
+    let f = bounds (c .before .before .before .before .before .split-frame .ensures .0) (omega arith) in
     omega arith
 
 returns-2 : tie.Need-returns-2
@@ -53,14 +53,14 @@ returns-2 c =
     let a = c .before .before .before .before .before .before .before .before .before .before .before .before .before .before .before .before .args in
     let p = c .before .before .before .before .before .before .before .before .before .before .before .before .before .before .before .before .pre in
     let z = c .before .before .before .before .before .before .before .before .before .before .if1 .left in
-    taken-more (rows (now (a .s))) (now (a .w)) (a .depth) _ (p .1) (p .0) (c .before .before .before .before .before .before .before .before .before .before .before .get .ensures) (omega arith) _ (c .before .before .before .before .before .before .before .before .split-frame .ensures) _ (p .2) (c .before .before .put .ensures) (c .before .before .before .before .if2 .taken)
+    taken-more (rows (now (a .s))) (now (a .w)) (a .depth) _ (p .1) (p .0) (c .before .before .before .before .before .before .before .before .before .before .before .get .ensures) (omega arith) _ (c .before .before .before .before .before .before .before .before .split-frame .ensures .0) _ (p .2) (c .before .before .put .ensures) (c .before .before .before .before .if2 .taken)
 
 returns-3 : tie.Need-returns-3
 returns-3 c =
     let a = c .before .before .before .before .before .before .before .before .before .before .before .before .args in
     let p = c .before .before .before .before .before .before .before .before .before .before .before .before .pre in
     let z = c .before .before .before .before .before .before .if1 .left in
-    taken-last (rows (now (a .s))) (now (a .w)) (a .depth) _ (p .1) (p .0) (c .before .before .before .before .before .before .before .get .ensures) (omega arith) _ (c .before .before .before .before .split-frame .ensures) (c .if2 .left)
+    taken-last (rows (now (a .s))) (now (a .w)) (a .depth) _ (p .1) (p .0) (c .before .before .before .before .before .before .before .get .ensures) (omega arith) _ (c .before .before .before .before .split-frame .ensures .0) (c .if2 .left)
 
 pub next-spec : {M : Type 1} → statement M
 next-spec =
