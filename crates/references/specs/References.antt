@@ -28,7 +28,7 @@ unfoldable pub typeOf : List Triple → TypeRef → Ty
 typeOf ls r =
     cond (eqb (r .lines) 0) (unknown (r .base)) (rename (openedAt (wholeOf ls r) (r .base)) (take (r .count) (drop (r .at) (wholeOf ls r))))
 
--- a buffer with the opened whole at its front: every word, o are those before
+-- every word of a buffer after the opened whole is written to its front; o are those before
 unfoldable pub instanceOut : List Triple → TypeRef → List ℕ → List ℕ
 instanceOut ls r o = cond (eqb (r .lines) 0) (sets o 0 (17 ∷ r .base ∷ [])) (openedOut (wholeOf ls r) (r .base) o)
 

@@ -1,21 +1,21 @@
 -- The next pending type. Assumes nothing.
 use mathlib.Core.Path.{_≡_, refl, sym, ap, ap₂, _∙_, subst, subst⁻¹}
-use mathlib.Core.Bool.{true, false}
+use mathlib.Core.Bool.{true, false, cond}
 use mathlib.Core.List.{List, [], _∷_, _++_}
 use Prim.Native.Nat.{ℕ, zero, suc, _+_, _*_, _-_, _≤_, _<_}
 use native.Mathlib.Nat.{not-suc-le-zero}
 use native.Mathlib.Omega.{arith}
-use lib.Dec.{ltb}
+use lib.Dec.{eqb, ltb}
 use lib.ListN.{length}
 use lib.Seq.{sets}
-use borrow.Author.Tests.{eq-eqb, ltb-true, ltb-false}
+use borrow.Author.Tests.{eq-eqb, ne-eqb, ltb-true, ltb-false}
 use Rattle.nodes.specs.Nodes.{Ty}
 use Rattle.spelling.specs.declared.Triple.{Triple}
 use Rattle.references.specs.declared.TypeRef.{TypeRef}
 use Rattle.references.specs.declared.Split.{Split}
-use Rattle.references.specs.References.{typeOf, pendingOf, parameterOf, othersOf, Frame, Halved}
-use Rattle.tables.specs.Rows.{refAt, row, Same, typesOf, Frames, Taken}
-use Rattle.tables.proofs.Tables.{ref-stored, other-row}
+use Rattle.references.specs.References.{typeOf, instanceOut, pendingOf, parameterOf, othersOf, splitOf, Frame, Halved}
+use Rattle.tables.specs.Rows.{refAt, row, typesOf, Frames, topOf, nextOf, nextWords, nextScratch, Taken}
+use Rattle.tables.proofs.Tables.{Same, ref-stored, other-row}
 
 none-left : (l : List Ty) → ltb 0 (length l) ≡ false → l ≡ []
 none-left [] e = refl
@@ -74,12 +74,43 @@ module _ (ls : List Triple) where
     types-r = types-top w n l ∙ ap (λ (q : TypeRef). pendingOf ls q ++ typesOf ls w (n - 1)) (sym e)
 
     pub taken-alone : r .lines ≡ 0 → Taken ls w n w (record { want = r; depth = n - 1 })
-    unfolding pendingOf
-    taken-alone z = record { good = top-frame .good; fewer = omega arith; frames = frames-top w n l f .1; types = types-r ∙ rw (eq-eqb (r .lines) 0 z) }
+    unfolding pendingOf nextWords nextOf
+    taken-alone z =
+        let b : eqb (r .lines) 0 ≡ true = eq-eqb (r .lines) 0 z in
+        let v : w ≡ nextWords ls r n w = rw b in
+        let u : record { want = r; depth = n - 1 } ≡ nextOf ls r n = rw b in
+        record {
+          good = top-frame .good;
+          fewer = omega arith;
+          frames = frames-top w n l f .1;
+          types = types-r ∙ rw b;
+          words = v ∙ ap (λ (q : TypeRef). nextWords ls q n w) e;
+          answer = u ∙ ap (λ (q : TypeRef). nextOf ls q n) e;
+        }
+
+    pub scratch-alone : (o : List ℕ) → r .lines ≡ 0 → o ≡ nextScratch ls (topOf w n) o
+    unfolding nextScratch
+    scratch-alone o z = let v : o ≡ nextScratch ls r o = rw (eq-eqb (r .lines) 0 z) in v ∙ ap (λ (q : TypeRef). nextScratch ls q o) e
+
+    pub scratch-written : (o o' : List ℕ) → 0 < r .lines → o' ≡ instanceOut ls r o → o' ≡ nextScratch ls (topOf w n) o
+    unfolding nextScratch
+    scratch-written o o' z q = let v : o' ≡ nextScratch ls r o = rw (ne-eqb (r .lines) 0 (omega arith)) q in v ∙ ap (λ (y : TypeRef). nextScratch ls y o) e
 
     module _ (z : 0 < r .lines) (h : Split) (d : Halved ls r h) where
       types-d : typesOf ls w n ≡ typeOf ls (parameterOf r (h .count)) ∷ (pendingOf ls (othersOf r (h .count)) ++ typesOf ls w (n - 1))
       types-d = types-r ∙ ap (λ (x : List Ty). x ++ typesOf ls w (n - 1)) (d .pending)
+
+      words-d : cond (h .more) (sets w (6 * (n - 1)) (row 0 (othersOf r (h .count)))) w ≡ nextWords ls (topOf w n) n w
+      unfolding nextWords
+      words-d = ap (λ (s : Split). cond (s .more) (sets w (6 * (n - 1)) (row 0 (othersOf r (s .count)))) w) (d .answer) ∙ ap (λ (q : TypeRef). nextWords ls q n w) e
+
+      answer-d : record { want = parameterOf r (h .count); depth = cond (h .more) n (n - 1) } ≡ nextOf ls (topOf w n) n
+      unfolding nextOf
+      answer-d =
+          let want : parameterOf r (splitOf ls r .count) ≡ cond (eqb (r .lines) 0) r (parameterOf r (splitOf ls r .count)) = rw (ne-eqb (r .lines) 0 (omega arith)) in
+          ap (λ (s : Split). record { want = parameterOf r (s .count); depth = cond (s .more) n (n - 1) }) (d .answer)
+          ∙ ap (λ (t : TypeRef). record { want = t; depth = cond (splitOf ls r .more) n (n - 1) }) want
+          ∙ ap (λ (q : TypeRef). nextOf ls q n) e
 
       pub taken-last : h .more ≡ false → Taken ls w n w (record { want = parameterOf r (h .count); depth = n - 1 })
       taken-last g =
@@ -89,6 +120,8 @@ module _ (ls : List Triple) where
             fewer = omega arith;
             frames = frames-top w n l f .1;
             types = types-d ∙ ap (λ (x : List Ty). typeOf ls (parameterOf r (h .count)) ∷ (x ++ typesOf ls w (n - 1))) s;
+            words = rw g at words-d;
+            answer = rw g at answer-d;
           }
 
       pub taken-more : (w' : List ℕ) → 6 * n ≤ length w → w' ≡ sets w (6 * (n - 1)) (row 0 (othersOf r (h .count))) → h .more ≡ true
@@ -102,4 +135,6 @@ module _ (ls : List Triple) where
             fewer = omega arith;
             frames = subst (Frames ls w') one (p .0);
             types = types-d ∙ ap (λ (x : List Ty). typeOf ls (parameterOf r (h .count)) ∷ x) (sym (p .1) ∙ ap (typesOf ls w') one);
+            words = q ∙ (rw g at words-d);
+            answer = rw g at answer-d;
           }

@@ -16,7 +16,14 @@ use Rattle.sheet.specs.Plan.{Binding, _∶_, Bindings}
 use Rattle.judgment.specs.Rules.{insert}
 use Rattle.references.specs.declared.TypeRef.{TypeRef}
 use Rattle.references.specs.References.{typeOf, Good}
-use Rattle.tables.specs.Rows.{nameAt, refAt, row, Same, Moved, bindingsAt, Sound}
+use Rattle.tables.specs.Rows.{nameAt, refAt, row, bindingsAt, Sound}
+
+-- a row as it was, and a row that stands one higher
+abbrev pub Same : List ℕ → List ℕ → ℕ → Type 0
+Same w w' i = (nameAt w' i ≡ nameAt w i) × (refAt w' i ≡ refAt w i)
+
+abbrev pub Moved : List ℕ → List ℕ → ℕ → Type 0
+Moved w w' i = (nameAt w' (i + 1) ≡ nameAt w i) × (refAt w' (i + 1) ≡ refAt w i)
 
 by-eq : {P : Type 0} (a b : ℕ) → (a ≡ b → P) → (a ≢ b → P) → P
 by-eq a b f g = elim (ℕ-discrete a b) [
@@ -52,12 +59,17 @@ outside w i x r j k n l = go (6 * j + k) where
     | no e ↦ getD-sets-above w (6 * i) (row x r) (6 * j + k) (omega arith)
   ]
 
-pub other-row : (w : List ℕ) (i x : ℕ) (r : TypeRef) (j : ℕ) → j ≢ i → Same w (sets w (6 * i) (row x r)) j
-other-row w i x r j n =
-    let e : 6 * j ≡ 6 * j + 0 = omega arith in (
-      ap (λ (q : ℕ). getD (sets w (6 * i) (row x r)) q 0) e ∙ outside w i x r j 0 n (omega arith) ∙ ap (λ (q : ℕ). getD w q 0) (sym e),
-      rw (outside w i x r j 1 n (omega arith), outside w i x r j 2 n (omega arith), outside w i x r j 3 n (omega arith), outside w i x r j 4 n (omega arith), outside w i x r j 5 n (omega arith)),
+-- a row whose six words stand in another row
+pub row-by : (w w' : List ℕ) (i j : ℕ) → ((k : ℕ) → k < 6 → getD w' (6 * j + k) 0 ≡ getD w (6 * i + k) 0) → (nameAt w' j ≡ nameAt w i) × (refAt w' j ≡ refAt w i)
+row-by w w' i j f =
+    let e : 6 * i ≡ 6 * i + 0 = omega arith in
+    let d : 6 * j ≡ 6 * j + 0 = omega arith in (
+      ap (λ (q : ℕ). getD w' q 0) d ∙ f 0 (omega arith) ∙ ap (λ (q : ℕ). getD w q 0) (sym e),
+      rw (f 1 (omega arith), f 2 (omega arith), f 3 (omega arith), f 4 (omega arith), f 5 (omega arith)),
     )
+
+pub other-row : (w : List ℕ) (i x : ℕ) (r : TypeRef) (j : ℕ) → j ≢ i → Same w (sets w (6 * i) (row x r)) j
+other-row w i x r j n = row-by w (sets w (6 * i) (row x r)) j j (λ k l. outside w i x r j k n l)
 
 -- ---- bindings
 module _ (ls : List Triple) where
@@ -138,24 +150,6 @@ module _ (ls : List Triple) where
         (ap₂ (λ (a : Binding) (b : Bindings). a ∷ b) (ap₂ (λ (a : ℕ) (b : TypeRef). _∶_ a (typeOf ls b)) (name-stored v j x r h) (ref-stored v j x r h))
         (ap (bindingsAt ls o (j + 1)) z ∙ bindings-same v o (j + 1) (n - j) (λ i a b. other-row v j x r i (omega arith)) ∙ bindings-moved w v j (n - j) (λ i a b. u i a (omega arith))))
         ∙ sym (at ∙ ap (λ (b : Bindings). bindingsAt ls w 0 j ++ b) (ahead (n - j) (λ i. g (omega arith)))))
-
--- ---- rows one higher
-abbrev pub Shifting : List ℕ → List ℕ → ℕ → ℕ → Type 0
-Shifting w v i n = ((a : ℕ) → a ≤ i → Same w v a) × ((a : ℕ) → i ≤ a → a < n → Moved w v a)
-
-pub shift-turn : (w v u : List ℕ) (i n x : ℕ) (r : TypeRef) → 0 < i → i ≤ n → 6 * n + 6 ≤ length v → Shifting w v i n → x ≡ nameAt v (i - 1) → r ≡ refAt v (i - 1)
-    → u ≡ sets v (6 * i) (row x r) → Shifting w u (i - 1) n
-shift-turn w v u i n x r p l h s d e q =
-    let o : List ℕ = sets v (6 * i) (row x r) in
-    let z : i - 1 + 1 ≡ i = omega arith in
-    let up : Moved w o (i - 1) = (
-      ap (nameAt o) z ∙ name-stored v i x r (omega arith) ∙ d ∙ s .0 (i - 1) (omega arith) .0,
-      ap (refAt o) z ∙ ref-stored v i x r (omega arith) ∙ e ∙ s .0 (i - 1) (omega arith) .1,
-    ) in
-    rw q (
-      λ a b. (let t = other-row v i x r a (omega arith) in let y = s .0 a (omega arith) in (t .0 ∙ y .0, t .1 ∙ y .1)),
-      λ a b c. by-eq a (i - 1) (λ f. subst⁻¹ (Moved w o) f up) (λ f. (let t = other-row v i x r (a + 1) (omega arith) in let y = s .1 a (omega arith) c in (t .0 ∙ y .0, t .1 ∙ y .1))),
-    )
 
 -- ---- references stay good
 abbrev Well : List Triple → List ℕ → ℕ → Type 0

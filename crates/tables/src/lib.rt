@@ -1,16 +1,14 @@
 // Tables of references to types: the stack of frames, and the bindings of a pattern.
 ghost use mathlib.Core.Path.{_≡_};
-ghost use mathlib.Core.Bool.{true, false};
-ghost use mathlib.Core.Logic.{_≢_};
 ghost use mathlib.Core.List.{List, _++_};
-ghost use Prim.Native.Nat.{ℕ, _+_, _*_, _-_, _≤_, _<_};
+ghost use Prim.Native.Nat.{_+_, _*_, _-_, _≤_, _<_};
 ghost use lib.ListN.{length};
 ghost use lib.Seq.{sets};
 ghost use Rattle.nodes.specs.Nodes.{Ty};
 ghost use Rattle.spelling.specs.declared.Triple.{Triple};
 ghost use Rattle.sheet.specs.Rows.{rows};
 ghost use Rattle.judgment.specs.Rules.{insert as inserted};
-ghost use Rattle.tables.specs.Rows.{nameAt, refAt, row, Same, Moved, Frames, bindingsAt, Inserts, Taken};
+ghost use Rattle.tables.specs.Rows.{nameAt, refAt, row, Frames, topOf, nextScratch, Taken, bindingsAt, placeFrom, named, lifted, Inserts};
 use references::TypeRef;
 use references::split_frame;
 
@@ -46,7 +44,7 @@ pub fn put(w: &mut [usize], i: usize, name: usize, r: TypeRef)
 // The first of n rows whose name is not below `name`, or n.
 fn place(w: &[usize], n: usize, name: usize) -> usize
     requires { ⌜ 6 * n ≤ length (now w) ⌝ }
-    ensures { λ j. ⌜ (j ≤ n) × (j < n → name ≤ nameAt (now (w .entry)) j) × ((ls : List Triple) (t : Ty) → inserted name t (bindingsAt ls (now (w .entry)) 0 n) ≡ bindingsAt ls (now (w .entry)) 0 j ++ inserted name t (bindingsAt ls (now (w .entry)) j (n - j))) ⌝ }
+    ensures { λ j. ⌜ (j ≤ n) × (j < n → name ≤ nameAt (now (w .entry)) j) × ((ls : List Triple) (t : Ty) → inserted name t (bindingsAt ls (now (w .entry)) 0 n) ≡ bindingsAt ls (now (w .entry)) 0 j ++ inserted name t (bindingsAt ls (now (w .entry)) j (n - j))) × (j ≡ placeFrom (now (w .entry)) name 0 n) ⌝ }
 {
     let mut j = 0;
     while j < n {
@@ -61,7 +59,7 @@ fn place(w: &[usize], n: usize, name: usize) -> usize
 // Row j is one of the n rows, and of this name.
 fn has(w: &[usize], j: usize, n: usize, name: usize) -> bool
     requires { ⌜ 6 * n ≤ length (now w) ⌝ }
-    ensures { λ r. ⌜ (r ≡ true → (j < n) × (nameAt (now (w .entry)) j ≡ name)) × (r ≡ false → j < n → nameAt (now (w .entry)) j ≢ name) ⌝ }
+    ensures { λ r. ⌜ r ≡ named (now (w .entry)) j n name ⌝ }
 {
     if j < n {
         return w[6 * j] == name;
@@ -72,7 +70,7 @@ fn has(w: &[usize], j: usize, n: usize, name: usize) -> bool
 // Moves the rows from j up to n one row up.
 fn shift(w: &mut [usize], j: usize, n: usize)
     requires { ⌜ (j ≤ n) × (6 * n + 6 ≤ length (now w)) ⌝ }
-    ensures { λ _. ⌜ ((a : ℕ) → a ≤ j → Same (now (w .entry)) (now (w .exit)) a) × ((a : ℕ) → j ≤ a → a < n → Moved (now (w .entry)) (now (w .exit)) a) ⌝ }
+    ensures { λ _. ⌜ now (w .exit) ≡ lifted (now (w .entry)) j n ⌝ }
 {
     let mut i = n;
     while j < i {
@@ -108,7 +106,7 @@ pub struct Upcoming {
 // Takes the first pending type off the stack of frames. `scratch` is for the nodes of a type.
 pub fn next(s: &[u64], w: &mut [usize], depth: usize, scratch: &mut [u32]) -> Upcoming
     requires { ⌜ Frames (rows (now s)) (now w) depth × (0 < depth) × (6 * depth ≤ length (now w)) × (8192 ≤ length (now scratch)) ⌝ }
-    ensures { λ n. ⌜ Taken (rows (now (s .entry))) (now (w .entry)) depth (now (w .exit)) n ⌝ }
+    ensures { λ n. ⌜ Taken (rows (now (s .entry))) (now (w .entry)) depth (now (w .exit)) n × (now (scratch .exit) ≡ nextScratch (rows (now (s .entry))) (topOf (now (w .entry)) depth) (now (scratch .entry))) ⌝ }
 {
     let i = depth - 1;
     let top = get(w, i);

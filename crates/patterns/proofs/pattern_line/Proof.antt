@@ -21,7 +21,7 @@ returns c =
     let is : X ≡ getD ls (a .p) noTriple = c .before .before .before .before .before .before .before .before .before .before .before .before .before .before .triple-at .ensures in
     let y : X .value ≡ getD ls (a .p) noTriple .value = ap (λ (t : Triple). t .value) is in
     let m : getD ls (a .p) noTriple .value < 4294967296 = p .narrow in
-    lining-variable ls (a .p) (a .n) (now (a .v)) (a .j) (p .line) (p .ready) (c .before .before .before .before .before .before .before .before .before .before .before .next .ensures) (p .sound) X is (c .before .before .before .before .if1 .taken) (omega arith) (c .before .before .insert .ensures)
+    lining-variable ls (a .p) (a .n) (now (a .v)) (a .j) (p .line) (p .ready) (c .before .before .before .before .before .before .before .before .before .before .before .next .ensures .0) (p .sound) X is (c .before .before .before .before .if1 .taken) (omega arith) (c .before .before .insert .ensures)
 
 constructor-line-requires : tie.Need-constructor-line-requires
 constructor-line-requires c κs =
@@ -32,7 +32,7 @@ constructor-line-requires c κs =
     let is : X ≡ getD ls (a .p) noTriple = c .before .before .before .before .before .before .before .before .before .before .before .before .before .before .before .before .triple-at .ensures in
     let y : X .value ≡ getD ls (a .p) noTriple .value = ap (λ (t : Triple). t .value) is in
     let m : getD ls (a .p) noTriple .value < 4294967296 = p .narrow in
-    let N = c .before .before .before .before .before .before .before .before .before .before .before .before .before .next .ensures in
+    let N = c .before .before .before .before .before .before .before .before .before .before .before .before .before .next .ensures .0 in
     let z : X .count ≡ getD ls (a .p) noTriple .count = ap (λ (t : Triple). t .count) is in
     let q : getD ls (a .p) noTriple .count < 131072 = row-count (now (a .s)) (a .p) in
     let f : c .before .before .before .before .before .before .before .before .before .before .before .before .before .next .result .depth ≤ a .n = N .fewer in
@@ -51,7 +51,7 @@ returns-2 c =
     let is : X ≡ getD ls (a .p) noTriple = c .before .before .before .before .before .before .before .before .before .before .before .before .before .before .before .before .before .before .before .before .before .before .before .before .before .before .triple-at .ensures in
     let y : X .value ≡ getD ls (a .p) noTriple .value = ap (λ (t : Triple). t .value) is in
     let m : getD ls (a .p) noTriple .value < 4294967296 = p .narrow in
-    lining-constructor ls (a .p) (a .n) (now (a .v)) (a .j) (p .line) (p .ready) (c .before .before .before .before .before .before .before .before .before .before .before .before .before .before .before .before .before .before .before .before .before .before .before .next .ensures) (p .sound) X is (c .before .before .before .before .before .before .before .before .before .before .before .before .before .before .if2 .taken) (c .before .before .before .before .before .before .before .before .before .constructor-line .ensures)
+    lining-constructor ls (a .p) (a .n) (now (a .v)) (a .j) (p .line) (p .ready) (c .before .before .before .before .before .before .before .before .before .before .before .before .before .before .before .before .before .before .before .before .before .before .before .next .ensures .0) (p .sound) X is (c .before .before .before .before .before .before .before .before .before .before .before .before .before .before .if2 .taken) (c .before .before .before .before .before .before .before .before .before .constructor-line .ensures)
 
 returns-3 : tie.Need-returns-3
 returns-3 c =
@@ -62,7 +62,7 @@ returns-3 c =
     let is : X ≡ getD ls (a .p) noTriple = c .before .before .before .before .before .before .before .before .before .before .before .before .triple-at .ensures in
     let y : X .value ≡ getD ls (a .p) noTriple .value = ap (λ (t : Triple). t .value) is in
     let m : getD ls (a .p) noTriple .value < 4294967296 = p .narrow in
-    lining-wildcard ls (a .p) (a .n) (now (a .v)) (a .j) (p .line) (p .ready) (c .before .before .before .before .before .before .before .before .before .next .ensures) (p .sound) X is (c .before .before .if1 .left) (c .if2 .left)
+    lining-wildcard ls (a .p) (a .n) (now (a .v)) (a .j) (p .line) (p .ready) (c .before .before .before .before .before .before .before .before .before .next .ensures .0) (p .sound) X is (c .before .before .if1 .left) (c .if2 .left)
 
 pub pattern-line-spec : {M : Type 1} → statement M
 pattern-line-spec =

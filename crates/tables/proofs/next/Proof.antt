@@ -1,7 +1,7 @@
 use native.Mathlib.Omega.{arith}
 use denote.Ref.{now}
 use Rattle.sheet.specs.Rows.{rows}
-use Rattle.tables.proofs.Pops.{bounds, top-frame, taken-alone, taken-last, taken-more}
+use Rattle.tables.proofs.Pops.{bounds, top-frame, taken-alone, scratch-alone, scratch-written, taken-last, taken-more}
 use borrow.Author.Needs.{needs}
 use Rattle.tables.proofs.next.Statement.{statement}
 use Rattle.tables.proofs.next.Tie as tie
@@ -10,7 +10,9 @@ returns : tie.Need-returns
 returns c =
     let a = c .before .before .before .before .before .before .args in
     let p = c .before .before .before .before .before .before .pre in
-    taken-alone (rows (now (a .s))) (now (a .w)) (a .depth) _ (p .1) (p .0) (c .before .get .ensures) (c .if1 .taken)
+    let ls = rows (now (a .s)) in
+    let g = c .before .get .ensures in
+    (taken-alone ls (now (a .w)) (a .depth) _ (p .1) (p .0) g (c .if1 .taken), scratch-alone ls (now (a .w)) (a .depth) _ (p .1) (p .0) g _ (c .if1 .taken))
 
 split-frame-requires : tie.Need-split-frame-requires
 split-frame-requires c κs =
@@ -53,14 +55,20 @@ returns-2 c =
     let a = c .before .before .before .before .before .before .before .before .before .before .before .before .before .before .before .before .args in
     let p = c .before .before .before .before .before .before .before .before .before .before .before .before .before .before .before .before .pre in
     let z = c .before .before .before .before .before .before .before .before .before .before .if1 .left in
-    taken-more (rows (now (a .s))) (now (a .w)) (a .depth) _ (p .1) (p .0) (c .before .before .before .before .before .before .before .before .before .before .before .get .ensures) (omega arith) _ (c .before .before .before .before .before .before .before .before .split-frame .ensures .0) _ (p .2) (c .before .before .put .ensures) (c .before .before .before .before .if2 .taken)
+    let ls = rows (now (a .s)) in
+    let g = c .before .before .before .before .before .before .before .before .before .before .before .get .ensures in
+    let S = c .before .before .before .before .before .before .before .before .split-frame .ensures in
+    (taken-more ls (now (a .w)) (a .depth) _ (p .1) (p .0) g (omega arith) _ (S .0) _ (p .2) (c .before .before .put .ensures) (c .before .before .before .before .if2 .taken), scratch-written ls (now (a .w)) (a .depth) _ (p .1) (p .0) g _ _ (omega arith) (S .1))
 
 returns-3 : tie.Need-returns-3
 returns-3 c =
     let a = c .before .before .before .before .before .before .before .before .before .before .before .before .args in
     let p = c .before .before .before .before .before .before .before .before .before .before .before .before .pre in
     let z = c .before .before .before .before .before .before .if1 .left in
-    taken-last (rows (now (a .s))) (now (a .w)) (a .depth) _ (p .1) (p .0) (c .before .before .before .before .before .before .before .get .ensures) (omega arith) _ (c .before .before .before .before .split-frame .ensures .0) (c .if2 .left)
+    let ls = rows (now (a .s)) in
+    let g = c .before .before .before .before .before .before .before .get .ensures in
+    let S = c .before .before .before .before .split-frame .ensures in
+    (taken-last ls (now (a .w)) (a .depth) _ (p .1) (p .0) g (omega arith) _ (S .0) (c .if2 .left), scratch-written ls (now (a .w)) (a .depth) _ (p .1) (p .0) g _ _ (omega arith) (S .1))
 
 pub next-spec : {M : Type 1} → statement M
 next-spec =
