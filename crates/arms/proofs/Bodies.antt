@@ -12,12 +12,13 @@ use Rattle.nodes.proofs.PartLaws.{is-take, length-take, drop-drop}
 use Rattle.spelling.specs.declared.Triple.{Triple}
 use Rattle.kinds.specs.Kinds.{partsOf}
 use Rattle.sheet.specs.Plan.{Narrow, Bindings, partLine}
-use Rattle.sheet.proofs.Lines.{lines-between, drop-line}
+use Rattle.sheet.proofs.Lines.{lines-between, line-hop}
 use Rattle.judgment.specs.Types.{unknown}
 use Rattle.judgment.specs.Terms.{Term, part, afterParts}
 use Rattle.judgment.specs.Board.{chk, Rule, done, push}
 use Rattle.judgment.specs.Rules.{pushVars, checkPatterns, checkArms}
-use Rattle.board.specs.Board.{termAt}
+use Rattle.board.specs.Board.{fromLine, termAt}
+use Rattle.board.proofs.Terms.{after-from}
 use Rattle.operations.specs.declared.Run.{Run}
 use Rattle.operations.specs.State.{WellFormed, Does, Pushes}
 use Rattle.tables.specs.Rows.{bindingsAt}
@@ -37,25 +38,21 @@ module _ (ls : List Triple) (first : ℕ) (h : first ≤ length ls) (body : ℕ)
       let d : length (drop first ls) ≡ length ls - first = length-drop first ls in
       (omega arith, omega arith)
 
-  pub pattern-lines : take (body - first) (drop first ls) ≡ part 0 (drop first ls)
+  pub pattern-lines : take (body - first) (drop first ls) ≡ part 0 (fromLine ls first) .lines
   pattern-lines =
       ap (λ (n : ℕ). take (n - first) (drop first ls)) e
       ∙ ap (λ (n : ℕ). take n (drop first ls)) (lines-between ls first 1)
       ∙ sym (is-take partsOf (drop first ls) 1)
 
-  after-pattern : drop body ls ≡ afterParts 1 (drop first ls)
-  after-pattern = ap (λ (n : ℕ). drop n ls) e ∙ drop-line ls first 1
+  after-pattern : fromLine ls body ≡ afterParts 1 (fromLine ls first)
+  after-pattern = ap (fromLine ls) e ∙ sym (after-from ls first 1)
 
-  body-term : termAt ls body ≡ part 1 (drop first ls)
+  body-term : termAt ls body ≡ part 1 (fromLine ls first)
   unfolding termAt
-  body-term = ap (λ (xs : List Triple). takeParts partsOf xs 1) after-pattern
+  body-term = ap (part 0) after-pattern
 
-  after-arm : (next : ℕ) → next ≡ partLine ls body 1 → drop next ls ≡ afterParts 2 (drop first ls)
-  after-arm next q =
-      ap (λ (n : ℕ). drop n ls) q
-      ∙ drop-line ls body 1
-      ∙ ap (λ (xs : List Triple). dropParts partsOf xs 1) after-pattern
-      ∙ sym (drop-drop partsOf (drop first ls) 1 1)
+  after-arm : (next : ℕ) → next ≡ partLine ls body 1 → fromLine ls next ≡ afterParts 2 (fromLine ls first)
+  after-arm next q = ap (fromLine ls) (q ∙ ap (λ (n : ℕ). partLine ls n 1) e ∙ line-hop ls first 2 (omega arith)) ∙ sym (after-from ls first 2)
 
   pub armed : {b b₁ b₂ b₃ v : List ℕ} {c c₂ c₃ : Run} {o : Checked} (u : ℕ) (t : Ty) (next : ℕ) → next ≡ partLine ls body 1 → next ≤ length ls
       → Checking b c ls first (body - first) u b₁ v o → Turn {A = ℕ} ls b₁ (o .run) (λ f. pushVars (bindingsAt ls v 0 (o .bound)) (f 0)) b₂ c₂ (λ f. f 0)
@@ -76,7 +73,7 @@ module _ (ls : List Triple) (first : ℕ) (h : first ≤ length ls) (body : ℕ)
         within = l;
         after = after-arm next q;
         turn = turn-as
-            (λ f. ap₂ (λ (ps xs : Term). checkPatterns (envAt ls) ps (unknown u ∷ []) [] (λ bs. pushVars bs (push (chk xs t) (f 0)))) pattern-lines body-term) (λ f. refl) a;
+            (λ f. ap₂ (λ (ps : List Triple) (xs : Term). checkPatterns (envAt ls) ps (unknown u ∷ []) [] (λ bs. pushVars bs (push (chk xs t) (f 0)))) pattern-lines body-term) (λ f. refl) a;
       }
 
 -- ---- all arms
@@ -84,21 +81,21 @@ module _ (ls : List Triple) (u : ℕ) (t : Ty) where
   -- n arms from line `at` on, and then whatever follows
   unfoldable pub armsThen : ℕ → Term → Rule → Rule
   armsThen zero xs p = p
-  armsThen (suc n) xs p = checkPatterns (envAt ls) (part 0 xs) (unknown u ∷ []) [] λ bs. pushVars bs (push (chk (part 1 xs) t) (armsThen n (afterParts 2 xs) p))
+  armsThen (suc n) xs p = checkPatterns (envAt ls) (part 0 xs .lines) (unknown u ∷ []) [] λ bs. pushVars bs (push (chk (part 1 xs) t) (armsThen n (afterParts 2 xs) p))
 
   arms-done : (n : ℕ) (xs : Term) → armsThen n xs done ≡ checkArms (envAt ls) n xs (unknown u) t
   unfolding armsThen checkArms
   arms-done zero xs = refl
-  arms-done (suc n) xs = ap (λ (p : Rule). checkPatterns (envAt ls) (part 0 xs) (unknown u ∷ []) [] (λ bs. pushVars bs (push (chk (part 1 xs) t) p))) (arms-done n (afterParts 2 xs))
+  arms-done (suc n) xs = ap (λ (p : Rule). checkPatterns (envAt ls) (part 0 xs .lines) (unknown u ∷ []) [] (λ bs. pushVars bs (push (chk (part 1 xs) t) p))) (arms-done n (afterParts 2 xs))
 
   abbrev pub Arms : List ℕ → Run → ℕ → Term → List ℕ → Run → ℕ → ℕ → Type 0
-  Arms b c n xs b' r left at = Turn {A = ℕ} ls b c (λ f. armsThen n xs (f 0)) b' r (λ f. armsThen left (drop at ls) (f 0))
+  Arms b c n xs b' r left at = Turn {A = ℕ} ls b c (λ f. armsThen n xs (f 0)) b' r (λ f. armsThen left (fromLine ls at) (f 0))
 
-  pub arms-start : {b : List ℕ} {c : Run} (n line : ℕ) → Ready b c → Arms b c n (drop line ls) b c n line
+  pub arms-start : {b : List ℕ} {c : Run} (n line : ℕ) → Ready b c → Arms b c n (fromLine ls line) b c n line
   arms-start n line h = turn-none _ _ h (λ f. refl)
 
   arms-cons : (left : ℕ) (xs : Term) (p : Rule) → 0 < left
-      → armsThen left xs p ≡ checkPatterns (envAt ls) (part 0 xs) (unknown u ∷ []) [] (λ bs. pushVars bs (push (chk (part 1 xs) t) (armsThen (left - 1) (afterParts 2 xs) p)))
+      → armsThen left xs p ≡ checkPatterns (envAt ls) (part 0 xs .lines) (unknown u ∷ []) [] (λ bs. pushVars bs (push (chk (part 1 xs) t) (armsThen (left - 1) (afterParts 2 xs) p)))
   unfolding armsThen
   arms-cons zero xs p l = absurd (not-suc-le-zero l)
   arms-cons (suc left) xs p l = let e : suc left - 1 ≡ left = omega arith in sym (rw e)
@@ -106,12 +103,12 @@ module _ (ls : List Triple) (u : ℕ) (t : Ty) where
   pub arms-turn : {b b₁ b₂ : List ℕ} {c r : Run} {o : Arm} (n : ℕ) (xs : Term) (left at : ℕ) → 0 < left → Arms b c n xs b₁ r left at → Armed b₁ r ls at u t b₂ o → Arms b c n xs b₂ (o .run) (left - 1) (o .next)
   arms-turn {b} {b₁} {b₂} {c} {r} {o} n xs left at l h a =
       let x = a .turn in
-      let y : Turn {A = ℕ} ls b₁ r (λ f. checkPatterns (envAt ls) (part 0 (drop at ls)) (unknown u ∷ []) [] (λ bs. pushVars bs (push (chk (part 1 (drop at ls)) t) (armsThen (left - 1) (drop (o .next) ls) (f 0))))) b₂ (o .run)
-      (λ f. armsThen (left - 1) (drop (o .next) ls) (f 0)) =
-      record { ready = x .ready; taken = x .taken; kept = x .kept; outcome = λ w k rep z f. x .outcome w k rep z (λ _. armsThen (left - 1) (drop (o .next) ls) (f 0)) } in
+      let y : Turn {A = ℕ} ls b₁ r (λ f. checkPatterns (envAt ls) (part 0 (fromLine ls at) .lines) (unknown u ∷ []) [] (λ bs. pushVars bs (push (chk (part 1 (fromLine ls at)) t) (armsThen (left - 1) (fromLine ls (o .next)) (f 0))))) b₂ (o .run)
+      (λ f. armsThen (left - 1) (fromLine ls (o .next)) (f 0)) =
+      record { ready = x .ready; taken = x .taken; kept = x .kept; outcome = λ w k rep z f. x .outcome w k rep z (λ _. armsThen (left - 1) (fromLine ls (o .next)) (f 0)) } in
       turn-then h (turn-as
-      (λ f. ap (λ (ys : Term). checkPatterns (envAt ls) (part 0 (drop at ls)) (unknown u ∷ []) [] (λ bs. pushVars bs (push (chk (part 1 (drop at ls)) t) (armsThen (left - 1) ys (f 0))))) (a .after)
-      ∙ sym (arms-cons left (drop at ls) (f 0) l))
+      (λ f. ap (λ (ys : Term). checkPatterns (envAt ls) (part 0 (fromLine ls at) .lines) (unknown u ∷ []) [] (λ bs. pushVars bs (push (chk (part 1 (fromLine ls at)) t) (armsThen (left - 1) ys (f 0))))) (a .after)
+      ∙ sym (arms-cons left (fromLine ls at) (f 0) l))
       (λ f. refl) y)
 
   pub arms-does : {b b' : List ℕ} {c r : Run} (n : ℕ) (xs : Term) (left at : ℕ) → Arms b c n xs b' r left at → left ≡ 0 → (w : ℕ) (k rep : List ℕ) → WellFormed b k c
@@ -122,7 +119,7 @@ module _ (ls : List Triple) (u : ℕ) (t : Ty) where
       subst (λ (p : Rule). Does w ls b k rep c p b' k rep r) (arms-done n xs) (turn-does z x)
 
 -- ---- the patterns of the arms to come
-pub narrow-arms : (left : ℕ) (xs : Term) → 0 < left → NarrowArms left xs → All Narrow (part 0 xs) × NarrowArms (left - 1) (afterParts 2 xs)
+pub narrow-arms : (left : ℕ) (xs : Term) → 0 < left → NarrowArms left xs → All Narrow (part 0 xs .lines) × NarrowArms (left - 1) (afterParts 2 xs)
 unfolding NarrowArms
 narrow-arms zero xs l h = absurd (not-suc-le-zero l)
 narrow-arms (suc left) xs l h = let e : suc left - 1 ≡ left = omega arith in (h .0, rw e (h .1))

@@ -3,27 +3,24 @@ use mathlib.Core.Path.{_≡_, refl, sym, ap, ap₂, _∙_, subst, fun-ext}
 use mathlib.Core.List.{List, [], _∷_}
 use Prim.Native.Nat.{ℕ, suc, _+_, _*_, _<_}
 use native.Mathlib.Nat.{add-zero}
-use native.Mathlib.Numerals.{add-one}
 use native.Mathlib.Omega.{arith}
 use lib.Dec.{ltb}
 use borrow.Author.Tests.{ltb-true}
 use lib.ListN.{length, drop}
 use Rattle.nodes.specs.Nodes.{node, Ty}
-use Rattle.nodes.specs.Parts.{takeParts, dropParts}
 use Rattle.nodes.proofs.ListLaws.{cond-ind}
-use Rattle.nodes.proofs.PartLaws.{drop-take}
 use Rattle.spelling.specs.declared.Triple.{Triple}
 use Rattle.kinds.specs.Kinds.{aTerm, partsOf, rowOf, find, table}
 use Rattle.sheet.specs.Plan.{partLine}
 use Rattle.sheet.specs.Form.{IsPart}
-use Rattle.sheet.proofs.Lines.{line-none, drop-line}
+use Rattle.sheet.proofs.Lines.{line-none}
 use Rattle.judgment.specs.Types.{unknown}
-use Rattle.judgment.specs.Terms.{Term, part, afterParts, isCase, termView}
+use Rattle.judgment.specs.Terms.{Term, part, afterParts, isCase, viewBy, termView}
 use Rattle.judgment.specs.Board.{tvar, chk, Rule, fresh, push}
 use Rattle.judgment.specs.Rules.{Env, inferBy}
 use Rattle.judgment.proofs.WholeTerms.{TermViewWhole, term-view-whole}
-use Rattle.board.specs.Board.{termAt, entryOf}
-use Rattle.board.proofs.Terms.{lineOf, bodyAt, term-head, part-at}
+use Rattle.board.specs.Board.{fromLine, termAt, entryOf}
+use Rattle.board.proofs.Terms.{firsts, after-firsts, after-from, lineOf, bodyAt, term-head, part-at}
 use Rattle.operations.specs.declared.Run.{Run}
 use Rattle.operations.specs.State.{going, freshRun, Pushes}
 use Rattle.patterns.specs.Turns.{Ready}
@@ -55,39 +52,38 @@ case-parts : (t : Triple) → t .kind ≡ 27 → partsOf t ≡ 1 + 2 * t .count
 unfolding partsOf rowOf find table
 case-parts t e = rw e
 
-case-head : (t : Triple) (xs : Term) → t .kind ≡ 27 → termView (t ∷ xs) ≡ isCase (t .count) (part 0 xs) (afterParts 1 xs)
-unfolding termView
-case-head t xs e = rw e
+case-head : (t : Triple) (xs : List Triple) (next : ℕ) → t .kind ≡ 27 → (let e : Term = record { line = next; lines = xs } in viewBy (t ∷ xs) next ≡ isCase (t .count) (part 0 e) (afterParts 1 e))
+case-head t xs next e = rw e
 
 module _ (ls : List Triple) (p : ℕ) (h : p < length ls) (e : lineOf ls p .kind ≡ 27) where
   abbrev n : ℕ
   n = lineOf ls p .count
 
   abbrev armLines : Term
-  armLines = drop (partLine ls (p + 1) 1) ls
+  armLines = fromLine ls (partLine ls (p + 1) 1)
 
   scrutinee : part 0 (bodyAt ls p) ≡ termAt ls (p + 1)
   scrutinee =
       let z = case-parts (lineOf ls p) e in
       part-at ls p 0 (omega arith) ∙ ap (termAt ls) (sym (line-none ls (p + 1) 0 refl))
 
-  arms-after : afterParts 1 (bodyAt ls p) ≡ takeParts partsOf armLines (2 * n)
+  arms-after : afterParts 1 (bodyAt ls p) ≡ firsts (2 * n) armLines
   arms-after =
-      ap (λ (m : ℕ). afterParts 1 (takeParts partsOf (drop (suc p) ls) m)) (case-parts (lineOf ls p) e)
-      ∙ drop-take partsOf (drop (suc p) ls) 1 (2 * n)
-      ∙ ap (λ (q : ℕ). takeParts partsOf (dropParts partsOf (drop q ls) 1) (2 * n)) (sym (add-one p))
-      ∙ ap (λ (xs : Term). takeParts partsOf xs (2 * n)) (sym (drop-line ls (p + 1) 1))
+      ap (λ (m : ℕ). afterParts 1 (firsts m (fromLine ls (p + 1)))) (case-parts (lineOf ls p) e)
+      ∙ after-firsts (fromLine ls (p + 1)) 1 (2 * n)
+      ∙ ap (firsts (2 * n)) (after-from ls (p + 1) 1)
 
-  a-case : termView (termAt ls p) ≡ isCase n (termAt ls (p + 1)) (takeParts partsOf armLines (2 * n))
-  a-case = ap termView (term-head ls p h) ∙ case-head (lineOf ls p) (bodyAt ls p) e ∙ ap₂ (isCase n) scrutinee arms-after
+  a-case : termView (termAt ls p) ≡ isCase n (termAt ls (p + 1)) (firsts (2 * n) armLines)
+  unfolding termView
+  a-case = ap termView (term-head ls p h) ∙ case-head (lineOf ls p) (bodyAt ls p .lines) (p + 1) e ∙ ap₂ (isCase n) scrutinee arms-after
 
 pub case-view : (E : Env) (t : Ty) (ls : List Triple) (p : ℕ) → p < length ls → lineOf ls p .kind ≡ 27
-    → inferBy E t (isCase (lineOf ls p .count) (termAt ls (p + 1)) (drop (partLine ls (p + 1) 1) ls)) ≡ inferBy E t (termView (termAt ls p))
+    → inferBy E t (isCase (lineOf ls p .count) (termAt ls (p + 1)) (fromLine ls (partLine ls (p + 1) 1))) ≡ inferBy E t (termView (termAt ls p))
 case-view E t ls p h e =
     ap fresh (fun-ext (λ a. ap (λ (r : Rule). push (tvar (node 17 a)) (push (chk (termAt ls (p + 1)) (unknown a)) r))
-    (sym (arms-cut E (lineOf ls p .count) (drop (partLine ls (p + 1) 1) ls) (unknown a) t))))
+    (sym (arms-cut E (lineOf ls p .count) (fromLine ls (partLine ls (p + 1) 1)) (unknown a) t))))
     ∙ ap (inferBy E t) (sym (a-case ls p h e))
 
-pub case-narrow : (ls : List Triple) (p : ℕ) → p < length ls → lineOf ls p .kind ≡ 27 → IsPart aTerm (termAt ls p) → NarrowArms (lineOf ls p .count) (drop (partLine ls (p + 1) 1) ls)
+pub case-narrow : (ls : List Triple) (p : ℕ) → p < length ls → lineOf ls p .kind ≡ 27 → IsPart aTerm (termAt ls p .lines) → NarrowArms (lineOf ls p .count) (fromLine ls (partLine ls (p + 1) 1))
 case-narrow ls p h e f =
-    arms-narrow (lineOf ls p .count) (drop (partLine ls (p + 1) 1) ls) (subst TermViewWhole (a-case ls p h e) (term-view-whole (termAt ls p) f) .1)
+    arms-narrow (lineOf ls p .count) (fromLine ls (partLine ls (p + 1) 1)) (subst TermViewWhole (a-case ls p h e) (term-view-whole (termAt ls p) f) .1)

@@ -8,10 +8,8 @@ use native.Mathlib.Omega.{arith}
 use lib.ListN.{replicate}
 use lib.Dec.{eqb, leb}
 use borrow.Author.Tests.{eqb-true, leb-true}
-use Rattle.nodes.specs.Parts.{takeParts}
 use Rattle.nodes.specs.Lists.{All}
 use Rattle.nodes.proofs.ListLaws.{cond-ind}
-use Rattle.nodes.proofs.PartLaws.{take-take, drop-take}
 use Rattle.spelling.specs.declared.Triple.{Triple}
 use Rattle.spelling.specs.declared.Line.the-variants.{Spelt}
 use Rattle.kinds.specs.declared.Row.{Row}
@@ -23,7 +21,8 @@ use Rattle.sheet.specs.Form.{Forms, IsPart}
 use Rattle.sheet.proofs.Forming.{due-following}
 use Rattle.sheet.proofs.TypeLines.{Only, only-append, only-replicate, sort-is, value-ok, begun-row, name-narrow}
 use Rattle.judgment.specs.Terms.{Term, part, afterParts}
-use Rattle.judgment.proofs.WholeTerms.{arms-whole}
+use Rattle.judgment.proofs.WholeTerms.{ArmsOK, arms-whole}
+use Rattle.board.proofs.Terms.{firsts, first-of, after-firsts}
 use Rattle.arms.specs.Arms.{NarrowArms}
 
 -- a pattern's row: patterns follow or nothing, and its value is a name or 0
@@ -71,15 +70,15 @@ pub pattern-narrow : (ts : List Triple) → IsPart aPattern ts → All Narrow ts
 pattern-narrow ts f = patterns-all ts (item aPattern ∷ []) f (refl, tt)
 
 -- n arms, cut out of the sheet
-pub arms-narrow : (n : ℕ) (xs : Term) → Forms (takeParts partsOf xs (2 * n)) (arms n) → NarrowArms n xs
+pub arms-narrow : (n : ℕ) (e : Term) → ArmsOK n (firsts (2 * n) e) → NarrowArms n e
 unfolding NarrowArms
-arms-narrow zero xs f = tt
-arms-narrow (suc n) xs f =
-    let e : 2 * suc n ≡ 2 + 2 * n = omega arith in
+arms-narrow zero e f = tt
+arms-narrow (suc n) e f =
+    let i : 2 * suc n ≡ 2 + 2 * n = omega arith in
     let g : 2 * suc n ≡ 1 + (1 + 2 * n) = omega arith in
-    let a = arms-whole n (takeParts partsOf xs (2 * suc n)) f in
-    let p : part 0 (takeParts partsOf xs (2 * suc n)) ≡ part 0 xs = ap (λ (m : ℕ). part 0 (takeParts partsOf xs m)) g ∙ take-take partsOf xs 1 (1 + 2 * n) in
-    let q : afterParts 2 (takeParts partsOf xs (2 * suc n)) ≡ takeParts partsOf (afterParts 2 xs) (2 * n) = ap (λ (m : ℕ). afterParts 2 (takeParts partsOf xs m)) e ∙ drop-take partsOf xs 2 (2 * n) in (
-      subst (All Narrow) p (pattern-narrow (part 0 (takeParts partsOf xs (2 * suc n))) (a .0)),
-      arms-narrow n (afterParts 2 xs) (subst (λ (ys : Term). Forms ys (arms n)) q (a .2)),
+    let a = arms-whole n (firsts (2 * suc n) e) f in
+    let p : part 0 (firsts (2 * suc n) e) ≡ part 0 e = ap (λ (m : ℕ). part 0 (firsts m e)) g ∙ first-of e (1 + 2 * n) in
+    let q : afterParts 2 (firsts (2 * suc n) e) ≡ firsts (2 * n) (afterParts 2 e) = ap (λ (m : ℕ). afterParts 2 (firsts m e)) i ∙ after-firsts e 2 (2 * n) in (
+      subst (λ (x : Term). All Narrow (x .lines)) p (pattern-narrow (part 0 (firsts (2 * suc n) e) .lines) (a .0)),
+      arms-narrow n (afterParts 2 e) (subst (ArmsOK n) q (a .2)),
     )

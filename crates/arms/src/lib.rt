@@ -2,13 +2,13 @@
 ghost use mathlib.Core.Path.{_≡_};
 ghost use mathlib.Core.List.{List};
 ghost use Prim.Native.Nat.{ℕ, _+_, _*_, _≤_, _<_};
-ghost use lib.ListN.{length, drop};
+ghost use lib.ListN.{length};
 ghost use Rattle.nodes.specs.Nodes.{nodesAt};
 ghost use Rattle.sheet.specs.Rows.{rows, Ended};
 ghost use Rattle.judgment.specs.Types.{unknown};
 ghost use Rattle.judgment.specs.Terms.{isCase};
 ghost use Rattle.judgment.specs.Rules.{pushVars, checkArms, inferBy};
-ghost use Rattle.board.specs.Board.{termAt};
+ghost use Rattle.board.specs.Board.{fromLine, termAt};
 ghost use Rattle.operations.specs.State.{WellFormed, Does};
 ghost use Rattle.tables.specs.Rows.{bindingsAt};
 ghost use Rattle.patterns.specs.Turns.{Turn};
@@ -94,7 +94,7 @@ pub fn check_arms(
     tn: usize,
 ) -> Run
     requires { ⌜ ArmsAsk (now board) c (rows (now s)) line n u (now w) (now v) (now l) (now r) (now t) ta tn × Ended (now s) ⌝ }
-    ensures { λ o. ⌜ ((m : ℕ) (k rep : List ℕ) → WellFormed (now (board .entry)) k c → Does m (rows (now (s .entry))) (now (board .entry)) k rep c (checkArms (envAt (rows (now (s .entry)))) n (drop line (rows (now (s .entry)))) (unknown u) (nodesAt (now (t .entry)) ta tn)) (now (board .exit)) k rep o) ⌝ }
+    ensures { λ o. ⌜ ((m : ℕ) (k rep : List ℕ) → WellFormed (now (board .entry)) k c → Does m (rows (now (s .entry))) (now (board .entry)) k rep c (checkArms (envAt (rows (now (s .entry)))) n (fromLine (rows (now (s .entry))) line) (unknown u) (nodesAt (now (t .entry)) ta tn)) (now (board .exit)) k rep o) ⌝ }
 {
     let mut run = c;
     let mut at = line;
@@ -124,7 +124,7 @@ pub fn infer_case(
     tn: usize,
 ) -> Run
     requires { ⌜ CaseAsk (now board) c (rows (now s)) line n (now w) (now v) (now l) (now r) (now t) tn × Ended (now s) ⌝ }
-    ensures { λ o. ⌜ ((m : ℕ) (k rep : List ℕ) → WellFormed (now (board .entry)) k c → Does m (rows (now (s .entry))) (now (board .entry)) k rep c (inferBy (envAt (rows (now (s .entry)))) (nodesAt (now (t .entry)) 0 tn) (isCase n (termAt (rows (now (s .entry))) e) (drop line (rows (now (s .entry)))))) (now (board .exit)) k rep o) ⌝ }
+    ensures { λ o. ⌜ ((m : ℕ) (k rep : List ℕ) → WellFormed (now (board .entry)) k c → Does m (rows (now (s .entry))) (now (board .entry)) k rep c (inferBy (envAt (rows (now (s .entry)))) (nodesAt (now (t .entry)) 0 tn) (isCase n (termAt (rows (now (s .entry))) e) (fromLine (rows (now (s .entry))) line))) (now (board .exit)) k rep o) ⌝ }
 {
     let a = c.fresh;
     let c1 = fresh_evar(c);

@@ -3,7 +3,7 @@ use mathlib.Core.Path.{_≡_, refl, sym, ap, _∙_}
 use mathlib.Core.Bool.{true}
 use mathlib.Core.List.{List, [], _∷_, _++_}
 use Prim.Native.Nat.{ℕ, zero, suc, _+_, _*_, _-_, _≤_, _<_}
-use native.Mathlib.Nat.{not-suc-le-zero}
+use native.Mathlib.Nat.{not-suc-le-zero, add-zero}
 use native.Mathlib.Numerals.{add-one, towards-suc}
 use native.Mathlib.Omega.{arith}
 use lib.ListN.{length, getD, set, take, drop, length-append}
@@ -15,10 +15,19 @@ use Rattle.nodes.specs.Nodes.{Ty, words, nodesAt, zeros}
 use Rattle.nodes.proofs.Laws.{length-words, words-append, length-nodesAt, sets-append, getD-sets-below, getD-sets-above, getD-sets-in, nodesAt-same, nodesAt-agree, take-nodesAt, drop-nodesAt}
 use Rattle.spelling.specs.declared.Triple.{Triple}
 use Rattle.judgment.proofs.TypeLaws.{both}
-use Rattle.judgment.specs.Board.{Entry, entryNodes, boardNodes, Limits, roomFor}
+use Rattle.judgment.specs.Board.{Entry, tvar, var, sub, inf, chk, infApp, entryNodes, boardNodes, Limits, roomFor}
 use Rattle.judgment.specs.Result.{boardWords}
 use Rattle.board.specs.declared.Board.{Board}
-use Rattle.board.specs.Board.{entryOf, word, size, nodesBelow, leftAt, entryAt, entriesOf, Stacked, fitting, laid, grown, topOf}
+use Rattle.board.specs.Board.{entryOf, slotOf, word, size, nodesBelow, leftAt, entryAt, entriesOf, Stacked, fitting, laid, grown, topOf}
+
+-- the nodes of an entry are those of the two types that its words hold
+pub slot-nodes : (e : Entry) → entryNodes e ≡ length (slotOf e .left) + length (slotOf e .right)
+slot-nodes (tvar x) = refl
+slot-nodes (var x t) = sym (add-zero (length t))
+slot-nodes (sub s t) = refl
+slot-nodes (inf e t) = sym (add-zero (length t))
+slot-nodes (chk e t) = sym (add-zero (length t))
+slot-nodes (infApp f e t) = refl
 
 pub length-entries : (ls : List Triple) (w : List ℕ) (i : ℕ) → length (entriesOf ls w i) ≡ i
 unfolding entriesOf

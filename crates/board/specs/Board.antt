@@ -9,7 +9,7 @@ use Prim.Native.Nat.{ℕ, zero, suc, _+_, _*_, _-_, _≤_, _<_}
 use lib.ListN.{length, getD, drop}
 use lib.Seq.{sets}
 use lib.Dec.{eqb, leb, ltb}
-use Rattle.nodes.specs.Nodes.{Node, node, Ty, words, nodesAt}
+use Rattle.nodes.specs.Nodes.{Node, node, Ty, kind, number, words, nodesAt}
 use Rattle.nodes.specs.Parts.{takeParts}
 use Rattle.spelling.specs.declared.Triple.{Triple}
 use Rattle.kinds.specs.Kinds.{partsOf}
@@ -23,9 +23,12 @@ use Rattle.board.specs.declared.Place.{Place}
 use Rattle.board.specs.declared.Found.{Found}
 use Rattle.board.specs.declared.Found.the-variants.{At, Nothing}
 
--- the term that starts at a line
+-- what stands from a line on, and the term that starts there
+abbrev pub fromLine : List Triple → ℕ → Term
+fromLine ls p = record { line = p; lines = drop p ls }
+
 unfoldable pub termAt : List Triple → ℕ → Term
-termAt ls p = takeParts partsOf (drop p ls) 1
+termAt ls p = record { line = p; lines = takeParts partsOf (drop p ls) 1 }
 
 -- What an entry is: 2 Var, 3 Sub, 4 Inf, 5 Chk, 6 InfApp; any other kind is that of the node that a TVar names. Its number is a Var's name, a term's first line,
 -- or the number of that node.
@@ -33,6 +36,21 @@ unfoldable pub entryOf : List Triple → ℕ → ℕ → Ty → Ty → Entry
 entryOf ls k n l r =
     cond (eqb k 2) (var n l) (cond (eqb k 3) (sub l r) (cond (eqb k 4) (inf (termAt ls n) l) (cond (eqb k 5) (chk (termAt ls n) l)
     (cond (eqb k 6) (infApp l (termAt ls n) r) (tvar (node k n))))))
+
+-- an entry as the board's words have it: what it is, its number, its two types
+pub record Slot : Type 0 where
+  pub kind : ℕ
+  pub number : ℕ
+  pub left : Ty
+  pub right : Ty
+
+abbrev pub slotOf : Entry → Slot
+slotOf (tvar x) = record { kind = kind x; number = number x; left = []; right = [] }
+slotOf (var x t) = record { kind = 2; number = x; left = t; right = [] }
+slotOf (sub s t) = record { kind = 3; number = 0; left = s; right = t }
+slotOf (inf e t) = record { kind = 4; number = e .line; left = t; right = [] }
+slotOf (chk e t) = record { kind = 5; number = e .line; left = t; right = [] }
+slotOf (infApp f e t) = record { kind = 6; number = e .line; left = f; right = t }
 
 abbrev pub word : List ℕ → ℕ → ℕ → ℕ
 word w i k = getD w (8 * i + k) 0

@@ -35,7 +35,7 @@ use Rattle.checker.specs.Running.{topEntry, EntrySound, JudgeAsk}
 use Rattle.checker.proofs.Reading.{read-few, read-formed}
 
 -- a part that is there stands on a line
-pub part-stands : (x : ℕ) (ls : List Triple) (p : ℕ) → IsPart x (termAt ls p) → p < length ls
+pub part-stands : (x : ℕ) (ls : List Triple) (p : ℕ) → IsPart x (termAt ls p .lines) → p < length ls
 unfolding termAt
 part-stands x ls p h = go (ltb p (length ls)) refl
   where

@@ -15,7 +15,7 @@ use Rattle.spelling.specs.declared.Triple.{Triple}
 use Rattle.kinds.specs.Kinds.{aType, aTerm, partsOf}
 use Rattle.grammar.specs.Grammar.{Item, part as item}
 use Rattle.sheet.specs.declared.Places.{Places}
-use Rattle.sheet.specs.Plan.{partLine, nodesOf, Narrow, placesOf, planOf}
+use Rattle.sheet.specs.Plan.{Term, partLine, nodesOf, Narrow, placesOf, planOf}
 use Rattle.sheet.specs.Rows.{rows}
 use Rattle.sheet.specs.Form.{Forms, IsPart}
 use Rattle.sheet.proofs.Forming.{split}
@@ -56,7 +56,7 @@ module _ (s : List ℕ) (h : Read s) where
   abbrev at : ℕ
   at = placesOf ls .expected
 
-  expected-part : IsPart aType (termAt ls at)
+  expected-part : IsPart aType (termAt ls at .lines)
   unfolding termAt
   expected-part = read-formed h .expected
 
@@ -86,7 +86,7 @@ module _ (s : List ℕ) (h : Read s) where
   -- what stands there is the plan's
   term-is : termAt ls (placesOf ls .term) ≡ planOf ls .term
   unfolding termAt planOf
-  term-is = alone aTerm (drop (placesOf ls .term) ls) (read-formed h .term)
+  term-is = ap (λ (xs : List Triple). (let e : Term = record { line = placesOf ls .term; lines = xs } in e)) (alone aTerm (drop (placesOf ls .term) ls) (read-formed h .term))
 
   type-is : nodesOf (take (partLine ls at 1 - at) (drop at ls)) ≡ planOf ls .expected
   unfolding planOf termAt

@@ -25,7 +25,7 @@ use Rattle.book.specs.Book.{sols}
 use Rattle.operations.specs.declared.Halt.{Halt}
 use Rattle.operations.specs.declared.Halt.the-variants.{Going}
 use Rattle.operations.specs.declared.Run.{Run}
-use Rattle.operations.specs.State.{outcomeBy, outcomeOf, stateOf, WellFormed, Does, going}
+use Rattle.operations.specs.State.{Came, outcomeBy, outcomeOf, stateOf, WellFormed, Does, going}
 use Rattle.operations.proofs.Latch.{going-is}
 use Rattle.applying.specs.Applying.{envOn}
 use Rattle.checker.specs.Running.{startOf, stepO, after, topEntry, JudgeAsk, Reached, StepAsk}
@@ -90,7 +90,7 @@ module _ {s b k rep : List ℕ} {c : Run} {t l r w v : List ℕ} (a : StepAsk s 
         record {
           plan = a .reached .plan;
           formed = d .kept;
-          outcome = d .outcome ∙ one ∙ ap (stepO limits E) (a .reached .outcome) ∙ ap (after limits E (startOf ls)) m;
+          outcome = ap (λ (x : Came). x .outcome) (d .outcome) ∙ one ∙ ap (stepO limits E) (a .reached .outcome) ∙ ap (after limits E (startOf ls)) m;
         },
         d .taken,
       )

@@ -123,8 +123,8 @@ abbrev pub EntrySound : ℕ → Entry → Type 0
 EntrySound n (tvar x) = Unit {0}
 EntrySound n (var x t) = Unit {0}
 EntrySound n (sub s t) = Sound n s × Sound n t
-EntrySound n (inf e t) = IsPart aTerm e
-EntrySound n (chk e t) = IsPart aTerm e
+EntrySound n (inf e t) = IsPart aTerm (e .lines)
+EntrySound n (chk e t) = IsPart aTerm (e .lines)
 EntrySound n (infApp f e t) = Sound n f × Sound n t
 
 -- the buffers of a sheet that is taken, before its run

@@ -38,7 +38,7 @@ module _ (s : List ℕ) (p : ℕ) (h : p < length (rows s)) where
   unfolding lambdaOf
   no-lambda f =
       ap lambdaOf (term-head ls p h)
-      ∙ ap (λ (b : Bool). cond b (some (record { param = lineOf ls p .value; type = nodesOf (part 0 (bodyAt ls p)); body = part 1 (bodyAt ls p) })) none) (ne-eqb (lineOf ls p .kind) 23 f)
+      ∙ ap (λ (b : Bool). cond b (some (record { param = lineOf ls p .value; type = nodesOf (part 0 (bodyAt ls p) .lines); body = part 1 (bodyAt ls p) })) none) (ne-eqb (lineOf ls p .kind) 23 f)
 
   module _ (e : lineOf ls p .kind ≡ 23) where
     abbrev n : ℕ
@@ -48,8 +48,8 @@ module _ (s : List ℕ) (p : ℕ) (h : p < length (rows s)) where
     unfolding lambdaOf
     a-lambda =
         ap lambdaOf (term-head ls p h)
-        ∙ ap (λ (b : Bool). cond b (some (record { param = lineOf ls p .value; type = nodesOf (part 0 (bodyAt ls p)); body = part 1 (bodyAt ls p) })) none) (eq-eqb (lineOf ls p .kind) 23 e)
-        ∙ ap₂ (λ (x y : Term). some (record { param = lineOf ls p .value; type = nodesOf x; body = y })) (first-lines s p h e)
+        ∙ ap (λ (b : Bool). cond b (some (record { param = lineOf ls p .value; type = nodesOf (part 0 (bodyAt ls p) .lines); body = part 1 (bodyAt ls p) })) none) (eq-eqb (lineOf ls p .kind) 23 e)
+        ∙ ap₂ (λ (x : List Triple) (y : Term). some (record { param = lineOf ls p .value; type = nodesOf x; body = y })) (first-lines s p h e)
         (part-at ls p 1 (let z = two-parts (lineOf ls p) e in omega arith))
 
 -- ---- what the code reads

@@ -14,7 +14,7 @@ pub record CheckAsk (b : List ℕ) (c : Run) (s : List ℕ) (line : ℕ) (t : Li
   pub ended : Ended s
   pub stands : line < length (rows s)
   pub few : length (rows s) ≤ 2000
-  pub term : IsPart aTerm (termAt (rows s) line)
+  pub term : IsPart aTerm (termAt (rows s) line .lines)
   pub within : 2 * tn ≤ length t
   pub short : tn ≤ 4096
   pub room : 2 * length (rows s) ≤ length out

@@ -12,11 +12,9 @@ use Rattle.nodes.proofs.ListLaws.{cond-ind}
 use Rattle.spelling.specs.declared.Triple.{Triple}
 use Rattle.judgment.specs.Types.{Renaming}
 use Rattle.judgment.specs.Solutions.{Solutions}
-use Rattle.judgment.specs.Board.{tvar, Limits, Rule, done, fresh, State, state, Outcome, finished}
+use Rattle.judgment.specs.Board.{tvar, Limits, Rule, done, fresh, push, State, state, Outcome, finished}
 use Rattle.judgment.specs.Board.{Board as Entries}
 use Rattle.judgment.specs.Rules.{openNames}
-use Rattle.judgment.specs.Chain.{counterOf, performO, stays, freshO, pushO}
-use Rattle.judgment.specs.Result.{limitsWith}
 use Rattle.core_types.specs.Names.{pairs}
 use Rattle.board.specs.Board.{entryOf, entriesOf, Stacked}
 use Rattle.board.specs.Board.{fitting as fitsBoard}
@@ -25,20 +23,11 @@ use Rattle.book.specs.Book.{sols}
 use Rattle.operations.specs.declared.Halt.{Halt}
 use Rattle.operations.specs.declared.Halt.the-variants.{Going, Refused}
 use Rattle.operations.specs.declared.Run.{Run}
-use Rattle.operations.specs.State.{reported, outcomeBy, stateOf, outcomeOf, WellFormed, Performs, going, freshRun, pushRun, pushWords, Pushes}
-use Rattle.operations.proofs.Then.{fresh-made}
+use Rattle.operations.specs.State.{reported, outcomeBy, stateOf, cameTo, performC, WellFormed, Performs, going, freshRun, pushRun, pushWords, Pushes}
+use Rattle.operations.proofs.Then.{same-going, fresh-is, fresh-made}
 use Rattle.constructors.specs.Opening.{namedRun, namedWords, Named}
 
 -- ---- a run after an operation
-counter-is : (h : Halt) (rep : List ℕ) (Γ : Entries) (σ : Solutions) (n : ℕ) → counterOf (outcomeBy h rep (state Γ σ n)) ≡ n
-counter-is Going rep Γ σ n = refl
-counter-is (Refused e) rep Γ σ n = refl
-
--- rules that are the same where a run goes on
-same-going : (L : Limits) (h : Halt) (rep : List ℕ) (s : State) (p q : Rule) → (going h ≡ true → p ≡ q) → performO L p (outcomeBy h rep s) ≡ performO L q (outcomeBy h rep s)
-same-going L Going rep s p q e = ap (λ (r : Rule). performO L r (finished s)) (e refl)
-same-going L (Refused x) rep s p q e = stays L p x (nodesAt rep 0 (reported x)) s ∙ sym (stays L q x (nodesAt rep 0 (reported x)) s)
-
 abbrev Follows : Run → Run → Type 0
 Follows c r = (r .taken ≡ c .taken) × (going (r .halt) ≡ true → going (c .halt) ≡ true)
 
@@ -85,7 +74,7 @@ named-none b c s = record {
 }
   where
     none : (w : ℕ) (k rep : List ℕ) (f : Renaming → Rule) (m : Renaming) (xs : List ℕ) → length xs ≡ 0 → (ls : List Triple)
-        → performO (limitsWith w) (f (pairs xs (c .fresh) m)) (outcomeOf ls b k rep c) ≡ performO (limitsWith w) (openNames xs m f) (outcomeOf ls b k rep c)
+        → performC w ls (f (pairs xs (c .fresh) m)) (cameTo ls b k rep c) ≡ performC w ls (openNames xs m f) (cameTo ls b k rep c)
     none w k rep f m [] l ls = refl
     none w k rep f m (x ∷ xs) l ls = absurd (omega arith)
 
@@ -112,19 +101,17 @@ module _ {b b₂ : List ℕ} {c c₁ c₂ : Run} (d : (c₁ ≡ freshRun c) × P
 
   module _ {b₃ : List ℕ} {c₃ : Run} {n : ℕ} (g : Named b₂ c₂ n b₃ c₃) where
     more : (w : ℕ) (k rep : List ℕ) → WellFormed b k c → (f : Renaming → Rule) (m : Renaming) (xs : List ℕ) → length xs ≡ suc n → (ls : List Triple)
-        → performO (limitsWith w) (f (pairs xs (c .fresh) m)) (outcomeOf ls b₃ k rep c₃) ≡ performO (limitsWith w) (openNames xs m f) (outcomeOf ls b k rep c)
+        → performC w ls (f (pairs xs (c .fresh) m)) (cameTo ls b₃ k rep c₃) ≡ performC w ls (openNames xs m f) (cameTo ls b k rep c)
     unfolding pairs openNames
     more w k rep h f m [] l ls = absurd (omega arith)
     more w k rep h f m (x ∷ xs) l ls =
         let D1 = d .1 w ls b k rep h in
         let D2 = p .2 w ls k rep (D1 .kept) in
         let m₂ : Renaming = (x, c .fresh) ∷ m in
-        let o : Outcome = outcomeOf ls b k rep c in
-        same-going (limitsWith w) (c₃ .halt) rep (stateOf ls b₃ k c₃) (f (pairs xs (c .fresh + 1) m₂)) (f (pairs xs (c₂ .fresh) m₂)) (λ z. ap (λ (a : ℕ). f (pairs xs a m₂)) (sym (next (g .alive z))))
+        same-going w ls b₃ k rep c₃ (f (pairs xs (c .fresh + 1) m₂)) (f (pairs xs (c₂ .fresh) m₂)) (λ z. ap (λ (a : ℕ). f (pairs xs a m₂)) (sym (next (g .alive (ap going z)))))
         ∙ g .outcome w k rep (D2 .kept) f m₂ xs (omega arith) ls
-        ∙ ap (performO (limitsWith w) (openNames xs m₂ f)) (D2 .outcome ∙ ap (pushO (limitsWith w) (tvar (node 17 (c .fresh)))) (D1 .outcome))
-        ∙ ap (λ (a : ℕ). performO (limitsWith w) (openNames xs ((x, a) ∷ m) f) (pushO (limitsWith w) (tvar (node 17 a)) (freshO (limitsWith w) o)))
-        (sym (counter-is (c .halt) rep (entriesOf ls b (c .board .entries)) (sols k) (c .fresh)))
+        ∙ ap (performC w ls (openNames xs m₂ f)) (D2 .outcome ∙ ap (performC w ls (push (tvar (node 17 (c .fresh))) done)) (D1 .outcome))
+        ∙ sym (fresh-is w ls b k rep c (λ a. push (tvar (node 17 a)) (openNames xs ((x, a) ∷ m) f)))
 
     named-more : Named b c (suc n) b₃ c₃
     unfolding namedRun namedWords

@@ -12,13 +12,11 @@ use Rattle.sheet.specs.Plan.{nodesOf}
 use Rattle.judgment.specs.Types.{rename, frontNames, afterFront}
 use Rattle.judgment.specs.Board.{Rule}
 use Rattle.judgment.specs.Rules.{instantiateConstructor}
-use Rattle.judgment.specs.Chain.{performO}
-use Rattle.judgment.specs.Result.{limitsWith}
 use Rattle.core_types.specs.Names.{namesAt, pairs, renaming}
 use Rattle.core_types.proofs.Fronts.{front-is}
 use Rattle.core_types.proofs.Renames.{renamed}
 use Rattle.operations.specs.declared.Run.{Run}
-use Rattle.operations.specs.State.{outcomeOf, WellFormed, Does}
+use Rattle.operations.specs.State.{cameTo, performC, WellFormed, Does}
 use Rattle.constructors.specs.declared.Opened.{Opened}
 use Rattle.constructors.specs.Opening.{Named, openedOut, Copied, Opens}
 
@@ -74,7 +72,7 @@ opens {t} {n} {o} {o₂} {q} {b} {b'} {c} {d} room x g = record {
   type = x .type;
   named = subst (λ (k : ℕ). Named b c k b' d) (x .names) g;
   outcome = λ w k rep h f ls.
-      ap (λ (u : Ty). performO (limitsWith w) (f u) (outcomeOf ls b' k rep d)) (x .type)
+      ap (λ (u : Ty). performC w ls (f u) (cameTo ls b' k rep d)) (x .type)
       ∙ g .outcome w k rep h (λ m. f (rename m (afterFront t))) [] (frontNames t) (sym (x .names)) ls;
 }
 

@@ -12,12 +12,10 @@ use Rattle.sheet.specs.Plan.{Narrow}
 use Rattle.judgment.specs.Types.{Renaming, rename, frontNames, afterFront}
 use Rattle.judgment.specs.Board.{Rule}
 use Rattle.judgment.specs.Rules.{openNames, instantiateConstructor}
-use Rattle.judgment.specs.Chain.{performO}
-use Rattle.judgment.specs.Result.{limitsWith}
 use Rattle.core_types.specs.Names.{pairs, renaming}
 use Rattle.board.specs.Board.{Stacked}
 use Rattle.operations.specs.declared.Run.{Run}
-use Rattle.operations.specs.State.{outcomeOf, WellFormed, going, freshRun, pushRun, pushWords}
+use Rattle.operations.specs.State.{cameTo, performC, WellFormed, going, freshRun, pushRun, pushWords}
 use Rattle.constructors.specs.declared.Opened.{Opened}
 
 -- ---- n unknowns, each with its TVar
@@ -40,7 +38,7 @@ pub record Named (b : List ℕ) (c : Run) (n : ℕ) (b' : List ℕ) (r : Run) : 
   pub made : going (r .halt) ≡ true → r .fresh ≡ c .fresh + n
   pub kept : (k : List ℕ) → WellFormed b k c → WellFormed b' k r
   pub outcome : (w : ℕ) (k rep : List ℕ) → WellFormed b k c → (f : Renaming → Rule) (m : Renaming) (xs : List ℕ) → length xs ≡ n → (ls : List Triple)
-      → performO (limitsWith w) (f (pairs xs (c .fresh) m)) (outcomeOf ls b' k rep r) ≡ performO (limitsWith w) (openNames xs m f) (outcomeOf ls b k rep c)
+      → performC w ls (f (pairs xs (c .fresh) m)) (cameTo ls b' k rep r) ≡ performC w ls (openNames xs m f) (cameTo ls b k rep c)
 
 -- ---- a type, opened
 pub record OpenAsk (b : List ℕ) (c : Run) (ls : List Triple) (first n : ℕ) (o : List ℕ) : Type 0 where
@@ -75,4 +73,4 @@ pub record Opens (b : List ℕ) (c : Run) (t : Ty) (n : ℕ) (o b' o' : List ℕ
   pub type : nodesAt o' (r .at) (r .nodes) ≡ rename (pairs (frontNames t) (c .fresh) []) (afterFront t)
   pub named : Named b c (length (frontNames t)) b' (r .run)
   pub outcome : (w : ℕ) (k rep : List ℕ) → WellFormed b k c → (f : Ty → Rule) (ls : List Triple)
-      → performO (limitsWith w) (f (nodesAt o' (r .at) (r .nodes))) (outcomeOf ls b' k rep (r .run)) ≡ performO (limitsWith w) (instantiateConstructor t f) (outcomeOf ls b k rep c)
+      → performC w ls (f (nodesAt o' (r .at) (r .nodes))) (cameTo ls b' k rep (r .run)) ≡ performC w ls (instantiateConstructor t f) (cameTo ls b k rep c)

@@ -14,7 +14,7 @@ use Rattle.sheet.specs.Rows.{rows}
 use Rattle.sheet.specs.Form.{IsPart}
 use Rattle.sheet.proofs.Lines.{line-none}
 use Rattle.sheet.proofs.TypeLines.{type-narrow, term-narrow}
-use Rattle.judgment.specs.Terms.{part}
+use Rattle.judgment.specs.Terms.{Term, part}
 use Rattle.judgment.proofs.WholeTerms.{lambda-parts}
 use Rattle.board.specs.Board.{termAt}
 use Rattle.board.proofs.Terms.{lineOf, bodyAt, term-head, part-at, part-lines}
@@ -37,15 +37,14 @@ module _ (s : List ℕ) (p : ℕ) (h : p < length (rows s)) where
   ls = rows s
 
   -- the type of a Lambda's parameter
-  pub first-lines : lineOf ls p .kind ≡ 23 → part 0 (bodyAt ls p) ≡ take (partLine ls (p + 1) 1 - (p + 1)) (drop (p + 1) ls)
+  pub first-lines : lineOf ls p .kind ≡ 23 → part 0 (bodyAt ls p) .lines ≡ take (partLine ls (p + 1) 1 - (p + 1)) (drop (p + 1) ls)
   first-lines e =
-      part-at ls p 0 (let z = two-parts (lineOf ls p) e in omega arith)
-      ∙ ap (termAt ls) (sym (line-none ls (p + 1) 0 refl))
+      ap (λ (e : Term). e .lines) (part-at ls p 0 (let z = two-parts (lineOf ls p) e in omega arith) ∙ ap (termAt ls) (sym (line-none ls (p + 1) 0 refl)))
       ∙ part-lines ls (p + 1)
 
-  module _ (o : IsPart aTerm (termAt ls p)) where
-    pub head-ok : IsPart aTerm (lineOf ls p ∷ bodyAt ls p)
-    head-ok = subst (IsPart aTerm) (term-head ls p h) o
+  module _ (o : IsPart aTerm (termAt ls p .lines)) where
+    pub head-ok : IsPart aTerm (lineOf ls p ∷ bodyAt ls p .lines)
+    head-ok = subst (λ (e : Term). IsPart aTerm (e .lines)) (term-head ls p h) o
 
     -- a word holds its name or operator
     pub head-narrow : lineOf ls p .kind ≢ 22 → lineOf ls p .value < 4294967296

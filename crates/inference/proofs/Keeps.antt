@@ -1,5 +1,5 @@
 -- What an operation leaves of the board's shape, whatever the book holds; a fresh unknown, and then the rest of a rule. Assumes nothing.
-use mathlib.Core.Path.{_≡_, refl, ap, _∙_}
+use mathlib.Core.Path.{_≡_, refl, sym, ap, _∙_}
 use mathlib.Core.Bool.{Bool, true, false}
 use mathlib.Core.List.{List, []}
 use Prim.Native.Nat.{ℕ, _+_, _<_}
@@ -10,21 +10,15 @@ use Rattle.nodes.specs.Nodes.{node, Ty}
 use Rattle.nodes.proofs.ListLaws.{cond-ind}
 use Rattle.spelling.specs.declared.Triple.{Triple}
 use Rattle.judgment.specs.declared.TypeError.the-variants.{BoardFull}
-use Rattle.judgment.specs.Board.{Board as Entries, Rule, done, tvar, var, sub, inf, chk, infApp, entryNodes, fresh, state}
-use Rattle.judgment.specs.Solutions.{Solutions}
-use Rattle.judgment.specs.Chain.{counterOf, performO}
-use Rattle.judgment.specs.Result.{limitsWith}
+use Rattle.judgment.specs.Board.{Rule, done, tvar, var, sub, inf, chk, infApp, entryNodes, fresh, push}
 use Rattle.judgment.specs.Rules.{freshUnknown}
-use Rattle.board.specs.Board.{termAt, entryOf, entriesOf, Stacked, laid}
+use Rattle.board.specs.Board.{termAt, entryOf, Stacked, laid}
 use Rattle.board.specs.Board.{fitting as fitsBoard, grown as boardGrown}
 use Rattle.board.proofs.Stacks.{laid-stacked, fits-facts}
 use Rattle.board.proofs.Finds.{tvar-is}
-use Rattle.book.specs.Book.{sols}
-use Rattle.operations.specs.declared.Halt.{Halt}
-use Rattle.operations.specs.declared.Halt.the-variants.{Going, Refused}
 use Rattle.operations.specs.declared.Run.{Run}
-use Rattle.operations.specs.State.{outcomeBy, outcomeOf, Does, going, stopped, freshRun, withBoard, pushRun, pushWords, Pushes}
-use Rattle.operations.proofs.Then.{does-then}
+use Rattle.operations.specs.State.{performC, Does, going, stopped, freshRun, withBoard, pushRun, pushWords, Pushes}
+use Rattle.operations.proofs.Then.{fresh-is, does-then}
 
 -- ---- the board's shape
 pub fresh-keeps : {b : List ℕ} (c : Run) {r : Run} → Stacked b (c .board) → r ≡ freshRun c → Stacked b (r .board)
@@ -78,14 +72,9 @@ module _ {b : List ℕ} {c : Run} {b' : List ℕ} {r : Run} where
   app-keeps line {t} {u} s p = pushed-keeps b c 6 line t u (λ ls. refl) s (p .0) (p .1)
 
 -- ---- a fresh unknown with its TVar, and then the rest of a rule with its number
-counter-is : (h : Halt) (rep : List ℕ) (Γ : Entries) (σ : Solutions) (n : ℕ) → counterOf (outcomeBy h rep (state Γ σ n)) ≡ n
-counter-is Going rep Γ σ n = refl
-counter-is (Refused e) rep Γ σ n = refl
-
 module _ {w : ℕ} {ls : List Triple} {b k rep : List ℕ} {c : Run} {b₁ k₁ rep₁ : List ℕ} {c₁ : Run} {b₂ k₂ rep₂ : List ℕ} {c₂ : Run} where
   pub unknown-then : {f : ℕ → Rule} → Does w ls b k rep c (freshUnknown (λ n. done)) b₁ k₁ rep₁ c₁ → Does w ls b₁ k₁ rep₁ c₁ (f (c .fresh)) b₂ k₂ rep₂ c₂
       → Does w ls b k rep c (freshUnknown f) b₂ k₂ rep₂ c₂
   unknown-then {f} x y =
       does-then {p = freshUnknown (λ n. done)} {q = f (c .fresh)} {r = freshUnknown f} x y
-      (ap (λ (n : ℕ). performO (limitsWith w) (f n) (performO (limitsWith w) (freshUnknown (λ m. done)) (outcomeOf ls b k rep c)))
-      (counter-is (c .halt) rep (entriesOf ls b (c .board .entries)) (sols k) (c .fresh)))
+      (fresh-is w ls b k rep c (λ a. push (tvar (node 17 a)) (f a)) ∙ ap (performC w ls (f (c .fresh))) (sym (fresh-is w ls b k rep c (λ a. push (tvar (node 17 a)) done))))

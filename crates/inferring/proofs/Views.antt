@@ -25,7 +25,7 @@ use Rattle.sheet.proofs.TypeLines.{begun-row, sort-is}
 use Rattle.judgment.specs.Terms.{Term, part, TermView, isVar, isLitInt, isLambda, isApply, isTypeLambda, isConstructor, isCase, isBinOp, isIf, isIntrinsic, termView}
 use Rattle.judgment.specs.Board.{Rule}
 use Rattle.judgment.specs.Rules.{Env, constructor, inferBy}
-use Rattle.board.specs.Board.{termAt}
+use Rattle.board.specs.Board.{fromLine, termAt}
 use Rattle.board.proofs.Terms.{lineOf, bodyAt, term-head, part-at}
 use Rattle.operations.specs.declared.Run.{Run}
 use Rattle.operations.specs.State.{WellFormed, Does}
@@ -125,7 +125,7 @@ module _ {K : ℕ} {b : List ℕ} {c : Run} {s : List ℕ} {p : ℕ} {t : List �
   lambda-view e qx r q =
       let n : partsOf head ≡ 2 = parts 23 e in
       rw (term-head ls p (a .stands), a .kind, e, qx)
-      (ap₂ (λ (x y : Term). isLambda (head .value) (nodesOf x) y) (ap (λ (j : ℕ). take (j - (p + 1)) (drop (p + 1) ls)) (r ∙ q) ∙ sym (first-lines s p (a .stands) (a .kind ∙ e))) (part-read 1 (omega arith) q))
+      (ap₂ (λ (x : List Triple) (y : Term). isLambda (head .value) (nodesOf x) y) (ap (λ (j : ℕ). take (j - (p + 1)) (drop (p + 1) ls)) (r ∙ q) ∙ sym (first-lines s p (a .stands) (a .kind ∙ e))) (part-read 1 (omega arith) q))
 
   pub apply-view : K ≡ 24 → {f i : ℕ} → f ≡ start 0 → i ≡ start 1 → isApply (termAt ls f) (termAt ls i) ≡ termView (termAt ls p)
   unfolding termView rowOf findRow table
@@ -163,7 +163,7 @@ module _ {K : ℕ} {b : List ℕ} {c : Run} {s : List ℕ} {p : ℕ} {t : List �
 
   -- a Case's scrutinee is its first part, its arms stand after it
   pub case-rule : K ≡ 27 → {n i j : ℕ} → n ≡ head .count → i ≡ start 0 → j ≡ start 1
-      → inferBy E T (isCase n (termAt ls i) (drop j ls)) ≡ inferBy E T (termView (termAt ls p))
+      → inferBy E T (isCase n (termAt ls i) (fromLine ls j)) ≡ inferBy E T (termView (termAt ls p))
   case-rule e qn qi qj = rw (qn, qi, qj, ← line-none ls (p + 1) 0 refl) (case-view E T ls p (a .stands) (a .kind ∙ e))
 
   -- ---- a Constructor's type, where the plan has one

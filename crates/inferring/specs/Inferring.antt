@@ -23,7 +23,7 @@ pub record InferAsk (b : List ℕ) (c : Run) (s : List ℕ) (line : ℕ) (t : Li
   pub ended : Ended s
   pub few : length (rows s) ≤ 2000
   pub stands : line < length (rows s)
-  pub term : IsPart aTerm (termAt (rows s) line)
+  pub term : IsPart aTerm (termAt (rows s) line .lines)
   pub within : 2 * tn ≤ length t
   pub left : 8192 ≤ length l
 
@@ -44,7 +44,7 @@ pub record TermAsk (k : ℕ) (b : List ℕ) (c : Run) (s : List ℕ) (at : ℕ) 
   pub ended : Ended s
   pub few : length (rows s) ≤ 2000
   pub stands : at < length (rows s)
-  pub term : IsPart aTerm (termAt (rows s) at)
+  pub term : IsPart aTerm (termAt (rows s) at .lines)
   pub within : 2 * tn ≤ length t
   pub kind : kindAt s at ≡ k
 

@@ -66,7 +66,7 @@ module _ (Plain : Type 0) where
   all-later l t h = all-map (ok-later l) t h
 
   pub lines-later : {m n : ℕ} → m ≤ n → (e : Term) → Lines (OK m) e → Lines (OK n) e
-  lines-later l e h = all-map (λ x. ok-later l (lineNode x)) e h
+  lines-later l e h = all-map (λ x. ok-later l (lineNode x)) (e .lines) h
 
   entry-later : {m n : ℕ} → m ≤ n → (e : Entry) → EntryOK m e → EntryOK n e
   entry-later l (tvar x) h = tt

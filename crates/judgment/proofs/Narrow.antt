@@ -22,7 +22,7 @@ use Rattle.sheet.specs.Plan.{triples, nodesOf, Declaration, declarations, Bindi
 use Rattle.sheet.proofs.Ranges.{InRange, part-in-range, plan-few}
 use Rattle.judgment.specs.declared.TypeError.{TypeError}
 use Rattle.judgment.specs.Types.{eqTy, View, isArrow, isApp, isForall, isUnknown, isOther, view, occurs, isMonotype, substitute, Renaming, rename, frontNames, afterFront}
-use Rattle.judgment.specs.Terms.{Term, part, afterParts, Lambda, lambdaOf, TermView, isVar, isLitInt, isLambda, isApply, isTypeLambda, isConstructor, isCase, isBinOp, isIf, isIntrinsic, isNone, termView, PatternView, patternView}
+use Rattle.judgment.specs.Terms.{Term, part, afterParts, Lambda, lambdaOf, TermView, isVar, isLitInt, isLambda, isApply, isTypeLambda, isConstructor, isCase, isBinOp, isIf, isIntrinsic, isNone, viewBy, termView, PatternView, patternView}
 use Rattle.judgment.specs.Solutions.{_≔_, Solutions, value, find, writeOut, solutionNodes}
 use Rattle.judgment.specs.Board.{Entry, tvar, var, sub, inf, chk, infApp, Board, findVar, before, Rule, done, refuse, fresh, push, solve, zonk, look, State, state, Outcome, finished, refused, roomFor, Operation, perform, operations}
 use Rattle.judgment.specs.Rules.{Env, Side, left, right, openBody, solveMonotype, instantiateBy, instantiateFrom, mismatch, unknownRight, unknownLeft, subtypeBy, subtype, openNames, instantiateConstructor, signatureBy, signatureFrom, insert, pushVars, patternParts, patternConstructor, patternBy, checkPatterns, checkArms, variable, constructor, inferBy, checkArrow, checkBy, applyBy, inferApp, rule}
@@ -241,7 +241,7 @@ module _ (σ : Solutions) where
         (h .value (λ q. (let k = eqb-true (l .kind) 43 e in omega arith))) (h .count) (lookup-short (l .value) (E .constructors) hE) (λ ps. f ps bs))
         (λ _. f [] bs))
 
-    checkPatterns-brief : (ls : Term) (ts : List Ty) (bs : Bindings) (f : Bindings → Rule) → All InRange ls → ((bs′ : Bindings) → Brief σ (f bs′))
+    checkPatterns-brief : (ls : List Triple) (ts : List Ty) (bs : Bindings) (f : Bindings → Rule) → All InRange ls → ((bs′ : Bindings) → Brief σ (f bs′))
         → Brief σ (checkPatterns E ls ts bs f)
     unfolding checkPatterns
     checkPatterns-brief [] ts bs f h c = c bs
@@ -249,13 +249,13 @@ module _ (σ : Solutions) where
     checkPatterns-brief (l ∷ ls) (t ∷ ts) bs f h c =
         patternBy-brief l t bs (λ ps bs′. checkPatterns E ls (ps ++ ts) bs′ f) (h .0) (λ ps bs′. checkPatterns-brief ls (ps ++ ts) bs′ f (h .1) c)
 
-    checkArms-brief : (n : ℕ) (ls : Term) (s t : Ty) → All InRange ls → Brief σ (checkArms E n ls s t)
+    checkArms-brief : (n : ℕ) (ls : Term) (s t : Ty) → All InRange (ls .lines) → Brief σ (checkArms E n ls s t)
     unfolding checkArms
     checkArms-brief zero ls s t h = tt
     checkArms-brief (suc n) ls s t h =
         let p : Rule = push (chk (part 1 ls) t) (checkArms E n (afterParts 2 ls) s t) in
-        checkPatterns-brief (part 0 ls) (s ∷ []) [] (λ bs. pushVars bs p) (all-take partsOf InRange ls 1 h)
-        (λ bs. pushVars-brief bs p (checkArms-brief n (afterParts 2 ls) s t (all-drop partsOf InRange ls 2 h)))
+        checkPatterns-brief (part 0 ls .lines) (s ∷ []) [] (λ bs. pushVars bs p) (all-take partsOf InRange (ls .lines) 1 h)
+        (λ bs. pushVars-brief bs p (checkArms-brief n (afterParts 2 ls) s t (all-drop partsOf InRange (ls .lines) 2 h)))
 
 ---------------------------------------------------------------- terms
 -- the names and counts that a term's view shows, and the lines of arms
@@ -266,16 +266,15 @@ ViewInRange (isLambda x s e) = Unit {0}
 ViewInRange (isApply f e) = Unit {0}
 ViewInRange (isTypeLambda x e) = Unit {0}
 ViewInRange (isConstructor x) = x ≤ 9999
-ViewInRange (isCase n e arms) = All InRange arms
+ViewInRange (isCase n e arms) = All InRange (arms .lines)
 ViewInRange (isBinOp op e₁ e₂) = Unit {0}
 ViewInRange (isIf e₁ e₂ e₃) = Unit {0}
 ViewInRange (isIntrinsic x n e) = (x ≤ 9999) × (n ≤ 99)
 ViewInRange isNone = Unit {0}
 
-term-in-range : (e : Term) → All InRange e → ViewInRange (termView e)
-unfolding termView
-term-in-range [] h = tt
-term-in-range (t ∷ ls) h =
+view-in-range : (ls : List Triple) (next : ℕ) → All InRange ls → ViewInRange (viewBy ls next)
+view-in-range [] next h = tt
+view-in-range (t ∷ ls) next h =
     let W : TermView → Type 0 = ViewInRange in
     cond-ind W (eqb (t .kind) 21) (λ e. name 21 e (omega arith))
     (λ _. cond-ind W (eqb (t .kind) 22) (λ _. tt)
@@ -290,6 +289,10 @@ term-in-range (t ∷ ls) h =
   where
     name : (k : ℕ) → eqb (t .kind) k ≡ true → k ≢ 22 → t .value ≤ 9999
     name k e n = h .0 .value (λ q. n (let z = eqb-true (t .kind) k e in omega arith))
+
+term-in-range : (e : Term) → All InRange (e .lines) → ViewInRange (termView e)
+unfolding termView
+term-in-range e h = view-in-range (e .lines) (e .line + 1) h
 
 ---------------------------------------------------------------- every rule
 module _ (σ : Solutions) (E : Env) (hE : All Short (E .constructors)) where
@@ -357,7 +360,7 @@ module _ (Plain : Type 0) (E : Env) (hE : EnvOK Plain E) (wE : EnvWhole E) (sE :
     where
       below : (t : Ty) → All (OK Plain n) t → Below (view (writeOut σ t))
       below t g = shown-below Plain n (writeOut σ t) (view (writeOut σ t)) (view-shows (writeOut σ t)) l (written-ok Plain Γ σ n t i g)
-  rule-brief Γ σ n i l (inf e t) h w = inferBy-brief σ E sE t (termView e) (term-in-range e (part-in-range aTerm e (w .0)))
+  rule-brief Γ σ n i l (inf e t) h w = inferBy-brief σ E sE t (termView e) (term-in-range e (part-in-range aTerm (e .lines) (w .0)))
   rule-brief Γ σ n i l (chk e t) h w = checkBy-brief σ E sE e t (view t)
   rule-brief Γ σ n i l (infApp f e c) h w = λ hf hc. applyBy-brief σ E sE (writeOut σ f) e (writeOut σ c) (view (writeOut σ f)) hf
 

@@ -103,7 +103,7 @@ module _ (p : PlanOf) (g : GoodPlan p) where
 
   pub plan-inv : Inv (p .plain ≡ true) (chk (p .term) (p .expected) ∷ []) [] 0
   plan-inv = record {
-    entries = ((ok-of (p .plain ≡ true) lineNode (p .term) (g .no-unknowns .term) (λ e. g .if-plain e .term), ok-of (p .plain ≡ true) (λ n. n) (p .expected) (g .no-unknowns .expected) (λ e. g .if-plain e .expected)), tt);
+    entries = ((ok-of (p .plain ≡ true) lineNode (p .term .lines) (g .no-unknowns .term) (λ e. g .if-plain e .term), ok-of (p .plain ≡ true) (λ n. n) (p .expected) (g .no-unknowns .expected) (λ e. g .if-plain e .expected)), tt);
     fine = tt;
     solutions = tt;
   }
@@ -113,7 +113,7 @@ unfolding runOf checkType
 plan-promise L c p g = start-promise (p .plain) L (envOf p) (plan-env p g) (chk (p .term) (p .expected)) c (plan-inv p g)
 
 -- ---- a sheet
-module _ (P : Node → Type 0) (ls : List Triple) (h : Lines P ls) where
+module _ (P : Node → Type 0) (ls : List Triple) (h : All (λ l. P (lineNode l)) ls) where
   bindings-have : (k : ℕ) (es : List Declaration) → All (λ b. All P (bindingType b)) (bindingsIn k ls es)
   unfolding bindingsIn
   bindings-have k [] = tt

@@ -489,7 +489,7 @@ module _ (Plain : Type 0) where
           (lookup-ok n x (E .constructors) (all-map (binding-later (omega arith)) (E .constructors) hE))
           (λ ps Γ′ n′ l hps. f ps bs Γ′ n′ l hps (all-map (binding-later l) bs hbs))
 
-      checkPatterns-good : (ls : Term) (ts : List Ty) (bs : Bindings) (f : Bindings → Rule) (Γ : Board) (n : ℕ) → All (All (OK Plain n)) ts → All (BindingOK n) bs
+      checkPatterns-good : (ls : List Triple) (ts : List Ty) (bs : Bindings) (f : Bindings → Rule) (Γ : Board) (n : ℕ) → All (All (OK Plain n)) ts → All (BindingOK n) bs
           → ((bs′ : Bindings) (Γ′ : Board) (n′ : ℕ) → n ≤ n′ → All (BindingOK n′) bs′ → Good Plain (f bs′) Γ′ σ n′ Q)
           → Good Plain (checkPatterns E ls ts bs f) Γ σ n Q
       unfolding checkPatterns
@@ -506,7 +506,7 @@ module _ (Plain : Type 0) where
       unfolding checkArms
       checkArms-good zero ls s t Γ n hl hs ht q = q Γ n
       checkArms-good (suc a) ls s t Γ n hl hs ht q =
-          checkPatterns-good (part 0 ls) (s ∷ []) [] (λ bs. pushVars bs (push (chk (part 1 ls) t) (checkArms E a (afterParts 2 ls) s t))) Γ n (hs, tt) tt (λ bs Γ′ n′ l hbs.
+          checkPatterns-good (part 0 ls .lines) (s ∷ []) [] (λ bs. pushVars bs (push (chk (part 1 ls) t) (checkArms E a (afterParts 2 ls) s t))) Γ n (hs, tt) tt (λ bs Γ′ n′ l hbs.
           pushVars-good bs (push (chk (part 1 ls) t) (checkArms E a (afterParts 2 ls) s t)) Γ′ n′ hbs (λ Γ″. (
             (all-part (OK Plain n′) 1 ls (lines-later Plain l ls hl), all-later Plain l t ht),
             checkArms-good a (afterParts 2 ls) s t _ n′ (all-after (OK Plain n′) 2 ls (lines-later Plain l ls hl)) (all-later Plain l s hs) (all-later Plain l t ht) q,

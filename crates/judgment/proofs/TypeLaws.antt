@@ -16,7 +16,7 @@ use Rattle.judgment.specs.Types.{unknown, arrow, app, forall, isNode, eq
 use Rattle.spelling.specs.declared.Triple.{Triple}
 use Rattle.kinds.specs.Kinds.{partsOf}
 use Rattle.sheet.specs.Plan.{lineNode, nodesOf}
-use Rattle.judgment.specs.Terms.{Lambda, lambdaOf, Term, part, afterParts, TermView, isVar, isLitInt, isLambda, isApply, isTypeLambda, isConstructor, isCase, isBinOp, isIf, isIntrinsic, isNone, termView}
+use Rattle.judgment.specs.Terms.{Lambda, lambdaBy, lambdaOf, Term, part, afterParts, TermView, isVar, isLitInt, isLambda, isApply, isTypeLambda, isConstructor, isCase, isBinOp, isIf, isIntrinsic, isNone, viewBy, termView}
 
 ---------------------------------------------------------------- tests
 pub eqb-true : (m n : ℕ) → eqb m n ≡ true → m ≡ n
@@ -114,18 +114,18 @@ module _ (P : Node → Type 0) where
 
   -- of the lines of a term, read as nodes
   abbrev pub Lines : Term → Type 0
-  Lines = All (λ l. P (lineNode l))
+  Lines e = All (λ l. P (lineNode l)) (e .lines)
 
-  pub all-nodes : (ls : Term) → Lines ls → All P (nodesOf ls)
+  pub all-nodes : (ls : List Triple) → All (λ l. P (lineNode l)) ls → All P (nodesOf ls)
   all-nodes [] h = tt
   all-nodes (l ∷ ls) h = (h .0, all-nodes ls (h .1))
 
-  pub all-part : (i : ℕ) (ls : Term) → Lines ls → Lines (part i ls)
-  all-part zero ls h = all-take partsOf (λ l. P (lineNode l)) ls 1 h
-  all-part (suc i) ls h = all-part i (dropParts partsOf ls 1) (all-drop partsOf (λ l. P (lineNode l)) ls 1 h)
+  pub all-after : (n : ℕ) (e : Term) → Lines e → Lines (afterParts n e)
+  all-after n e h = all-drop partsOf (λ l. P (lineNode l)) (e .lines) n h
 
-  pub all-after : (n : ℕ) (ls : Term) → Lines ls → Lines (afterParts n ls)
-  all-after n ls h = all-drop partsOf (λ l. P (lineNode l)) ls n h
+  pub all-part : (i : ℕ) (e : Term) → Lines e → Lines (part i e)
+  all-part zero e h = all-take partsOf (λ l. P (lineNode l)) (e .lines) 1 h
+  all-part (suc i) e h = all-part i (afterParts 1 e) (all-after 1 e h)
 
   abbrev pub TermHas : TermView → Type 0
   TermHas (isVar x) = Unit {0}
@@ -140,30 +140,38 @@ module _ (P : Node → Type 0) where
   TermHas (isIntrinsic x n e) = Lines e
   TermHas isNone = Unit {0}
 
-  pub term-has : (e : Term) → Lines e → TermHas (termView e)
-  unfolding termView
-  term-has [] h = tt
-  term-has (l ∷ ls) h =
+  view-has : (ls : List Triple) (next : ℕ) → All (λ l. P (lineNode l)) ls → TermHas (viewBy ls next)
+  view-has [] next h = tt
+  view-has (l ∷ ls) next h =
+      let parts : Term = record { line = next; lines = ls } in
       cond-ind TermHas (eqb (l .kind) 21) (λ _. tt)
       (λ _. cond-ind TermHas (eqb (l .kind) 22) (λ _. tt)
-      (λ _. cond-ind TermHas (eqb (l .kind) 23) (λ _. (all-nodes (part 0 ls) (p 0), p 1))
+      (λ _. cond-ind TermHas (eqb (l .kind) 23) (λ _. (all-nodes (part 0 parts .lines) (p 0), p 1))
       (λ _. cond-ind TermHas (eqb (l .kind) 24) (λ _. (p 0, p 1))
       (λ _. cond-ind TermHas (eqb (l .kind) 25) (λ e. (subst (λ j. P (node j (cond (eqb j 16) (l .count) (l .value)))) (eqb-true (l .kind) 25 e) (h .0), p 0))
       (λ _. cond-ind TermHas (eqb (l .kind) 26) (λ _. tt)
-      (λ _. cond-ind TermHas (eqb (l .kind) 27) (λ _. (p 0, all-after 1 ls (h .1)))
+      (λ _. cond-ind TermHas (eqb (l .kind) 27) (λ _. (p 0, all-after 1 parts (h .1)))
       (λ _. cond-ind TermHas (eqb (l .kind) 28) (λ _. (p 0, p 1))
       (λ _. cond-ind TermHas (eqb (l .kind) 29) (λ _. (p 0, p 1, p 2))
       (λ _. cond-ind TermHas (eqb (l .kind) 30) (λ _. p 0) (λ _. tt))))))))))
     where
-      p : (i : ℕ) → Lines (part i ls)
-      p i = all-part i ls (h .1)
+      p : (i : ℕ) → Lines (part i (record { line = next; lines = ls }))
+      p i = all-part i (record { line = next; lines = ls }) (h .1)
+
+  pub term-has : (e : Term) → Lines e → TermHas (termView e)
+  unfolding termView
+  term-has e h = view-has (e .lines) (e .line + 1) h
 
   abbrev pub LambdaHas : Option Lambda → Type 0
   LambdaHas none = Unit {0}
   LambdaHas (some f) = All P (f .type) × Lines (f .body)
 
+  lambda-by : (ls : List Triple) (next : ℕ) → All (λ l. P (lineNode l)) ls → LambdaHas (lambdaBy ls next)
+  lambda-by [] next h = tt
+  lambda-by (l ∷ ls) next h =
+      let parts : Term = record { line = next; lines = ls } in
+      cond-ind LambdaHas (eqb (l .kind) 23) (λ _. (all-nodes (part 0 parts .lines) (all-part 0 parts (h .1)), all-part 1 parts (h .1))) (λ _. tt)
+
   pub lambda-has : (e : Term) → Lines e → LambdaHas (lambdaOf e)
   unfolding lambdaOf
-  lambda-has [] h = tt
-  lambda-has (l ∷ ls) h =
-      cond-ind LambdaHas (eqb (l .kind) 23) (λ _. (all-nodes (part 0 ls) (all-part 0 ls (h .1)), all-part 1 ls (h .1))) (λ _. tt)
+  lambda-has e h = lambda-by (e .lines) (e .line + 1) h

@@ -260,7 +260,7 @@ module _ (E : Env) (hE : EnvWhole E) where
       patternConstructor-whole x c t (λ ps. again ps bs) (lookup x (E .constructors)) ht (lookup-whole x (E .constructors) (hE .constructors))
       (λ ps hps. f ps bs hps hbs)
 
-  checkPatterns-whole : (ls : Term) (ts : List Ty) (bs : Bindings) (f : Bindings → Rule) → All IsTy ts → All BindingWhole bs
+  checkPatterns-whole : (ls : List Triple) (ts : List Ty) (bs : Bindings) (f : Bindings → Rule) → All IsTy ts → All BindingWhole bs
       → ((bs′ : Bindings) → All BindingWhole bs′ → WholeGood (f bs′)) → WholeGood (checkPatterns E ls ts bs f)
   unfolding checkPatterns
   checkPatterns-whole [] ts bs f hts hbs c = c bs hbs
@@ -275,7 +275,7 @@ module _ (E : Env) (hE : EnvWhole E) where
   checkArms-whole (suc n) ls s t h hs ht =
       let a = arms-whole n ls h in
       let p : Rule = push (chk (part 1 ls) t) (checkArms E n (afterParts 2 ls) s t) in
-      checkPatterns-whole (part 0 ls) (s ∷ []) [] (λ bs. pushVars bs p) (hs, tt) tt
+      checkPatterns-whole (part 0 ls .lines) (s ∷ []) [] (λ bs. pushVars bs p) (hs, tt) tt
       (λ bs hbs. pushVars-whole bs p hbs ((a .1, ht), checkArms-whole n (afterParts 2 ls) s t (a .2) hs ht))
 
   variable-whole : (x : ℕ) (t : Ty) (a b c : Option Ty) → IsTy t → FoundWhole a → FoundWhole b → FoundWhole c → WholeGood (variable E x t a b c)

@@ -219,7 +219,7 @@ module _ (E : Env) where
   patternBy x c t bs again isPatternConstructor = patternConstructor x c t (λ ps. again ps bs) (lookup x (E .constructors))
 
   -- `check_pattern`: the patterns of these types, one after the other in prefix order
-  unfoldable pub checkPatterns : Term → List Ty → Bindings → (Bindings → Rule) → Rule
+  unfoldable pub checkPatterns : List Triple → List Ty → Bindings → (Bindings → Rule) → Rule
   checkPatterns [] ts bs f = f bs
   checkPatterns (l ∷ ls) [] bs f = f bs
   checkPatterns (l ∷ ls) (t ∷ ts) bs f =
@@ -227,9 +227,9 @@ module _ (E : Env) where
 
   -- the arms of a Case on type s, all pushed
   unfoldable pub checkArms : ℕ → Term → Ty → Ty → Rule
-  checkArms zero ls s t = done
-  checkArms (suc n) ls s t = checkPatterns (part 0 ls) (s ∷ []) [] λ bs.
-      pushVars bs (push (chk (part 1 ls) t) (checkArms n (afterParts 2 ls) s t))
+  checkArms zero arms s t = done
+  checkArms (suc n) arms s t = checkPatterns (part 0 arms .lines) (s ∷ []) [] λ bs.
+      pushVars bs (push (chk (part 1 arms) t) (checkArms n (afterParts 2 arms) s t))
 
   ---------------------------------------------------------------- solve_inference
   abbrev pub variable : ℕ → Ty → Option Ty → Option Ty → Option Ty → Rule

@@ -15,14 +15,14 @@ use Rattle.spelling.specs.declared.Triple.{Triple}
 use Rattle.judgment.specs.declared.TypeError.{TypeError}
 use Rattle.judgment.specs.declared.TypeError.the-variants.{BoardFull, TypeTooLong, NoFreshNumber, SolutionsFull}
 use Rattle.judgment.specs.Solutions.{Solution, _≔_, Solutions, find, solutionNodes, writeOut, Free, keys}
-use Rattle.judgment.specs.Board.{Entry, entryNodes, Limits, Rule, done, refuse, fresh, push, solve, zonk, State, state, Outcome, finished, refused, roomFor}
+use Rattle.judgment.specs.Board.{Entry, entryNodes, Limits, Rule, done, refuse, fresh, push, solve, zonk, look, State, state, Outcome, finished, refused, roomFor}
 use Rattle.judgment.specs.Chain.{performO, stays, refuseO, freshO, pushO, solveO, zonkO}
 use Rattle.judgment.specs.Result.{limitsWith}
 use Rattle.judgment.proofs.SolutionLaws.{find-none}
 use Rattle.board.specs.declared.Board.{Board}
-use Rattle.board.specs.Board.{entryOf, entriesOf, Stacked}
+use Rattle.board.specs.Board.{entryOf, entriesOf, Stacked, Slot, slotOf}
 use Rattle.board.specs.Board.{fitting as fitsBoard, laid, grown as boardGrown, PushAsk as BoardAsk}
-use Rattle.board.proofs.Stacks.{laid-entries, laid-stacked, fits-room, fits-facts}
+use Rattle.board.proofs.Stacks.{slot-nodes, laid-entries, laid-stacked, fits-room, fits-facts}
 use Rattle.book.specs.declared.Book.{Book}
 use Rattle.book.specs.Book.{startOf, sols, Booked}
 use Rattle.book.specs.Book.{fitting as fitsBook, given, grown as bookGrown, SolveAsk as BookAsk}
@@ -31,24 +31,41 @@ use borrow.Author.Tests.{leb-true, ltb-true, lt-ltb, le-ltb}
 use Rattle.operations.specs.declared.Halt.{Halt}
 use Rattle.operations.specs.declared.Halt.the-variants.{Going, Refused}
 use Rattle.operations.specs.declared.Run.{Run}
-use Rattle.operations.specs.State.{reported, outcomeBy, stateOf, outcomeOf, WellFormed, Does, Performs, going, stopped, refusedRun, made, freshRun, withBoard, pushRun, pushWords, Pushes, PushAsk, withBook, solveRun, solveWords, Gives, Solves, SolveAsk}
+use Rattle.operations.specs.State.{reported, outcomeBy, stateOf, outcomeOf, WellFormed, Words, refuseW, freshW, pushW, solveW, zonkW, performW, Came, Does, Performs, going, stopped, refusedRun, made, freshRun, withBoard, pushRun, pushWords, Pushes, PushAsk, withBook, solveRun, solveWords, Gives, Solves, SolveAsk}
 
 pub going-is : (h : Halt) → going h ≡ true → h ≡ Going
 going-is Going e = refl
 going-is (Refused x) e = absurd (false≢true e)
 
--- a refused outcome stays
-refused-stays : (L : Limits) (h : Halt) → going h ≡ false → (rep : List ℕ) (s : State) (p : Rule) → outcomeBy h rep s ≡ performO L p (outcomeBy h rep s)
+-- an outcome and words, each by its own equation
+pub came : {o o' : Outcome} {x x' : Words} → o ≡ o' → x ≡ x' → _≡_ {A = Came} (record { outcome = o; words = x }) (record { outcome = o'; words = x' })
+came e f = ap₂ (λ (o : Outcome) (x : Words). (let c : Came = record { outcome = o; words = x } in c)) e f
+
+-- a refused outcome stays, and so do its words
+pub words-stay : (w : ℕ) (ls : List Triple) (p : Rule) (x : Words) → going (x .run .halt) ≡ false → performW w ls p x ≡ x
+unfolding refuseW freshW pushW solveW zonkW
+words-stay w ls done x g = refl
+words-stay w ls (refuse e ts) x g = rw g
+words-stay w ls (fresh f) x g = rw g (words-stay w ls (f (x .run .fresh)) x g)
+words-stay w ls (push e p) x g = rw g (words-stay w ls p x g)
+words-stay w ls (solve k t p) x g = rw g (words-stay w ls p x g)
+words-stay w ls (zonk t f) x g = rw g (words-stay w ls (f (writeOut (sols (x .book)) t)) x g)
+words-stay w ls (look f) x g = words-stay w ls (f (entriesOf ls (x .board) (x .run .board .entries))) x g
+
+pub refused-stays : (L : Limits) (h : Halt) → going h ≡ false → (rep : List ℕ) (s : State) (p : Rule) → outcomeBy h rep s ≡ performO L p (outcomeBy h rep s)
 refused-stays L Going e rep s p = absurd (true≢false e)
 refused-stays L (Refused x) e rep s p = sym (stays L p x (nodesAt rep 0 (reported x)) s)
 
 module _ {b k : List ℕ} {c : Run} (f : WellFormed b k c) (w : ℕ) (ls : List Triple) (rep : List ℕ) where
+  abbrev at : Run → Words
+  at d = record { board = b; book = k; run = d }
+
   -- nothing is done once a run was refused
   pub stays-does : going (c .halt) ≡ false → (p : Rule) → Does w ls b k rep c p b k rep c
   stays-does e p = record {
     kept = f;
     taken = refl;
-    outcome = refused-stays (limitsWith w) (c .halt) e rep (stateOf ls b k c) p;
+    outcome = came (refused-stays (limitsWith w) (c .halt) e rep (stateOf ls b k c) p) (sym (words-stay w ls p (at c) e));
   }
 
   stopped-kept : (e : TypeError) → WellFormed b k (stopped c e)
@@ -57,24 +74,25 @@ module _ {b k : List ℕ} {c : Run} (f : WellFormed b k c) (w : ℕ) (ls : List 
   -- an operation that a run does not pass: p is the rule, e its error
   stops-does : going (c .halt) ≡ true → (e : TypeError) (p : Rule)
       → refused e (nodesAt rep 0 (reported e)) (stateOf ls b k c) ≡ performO (limitsWith w) p (finished (stateOf ls b k c))
+      → at (stopped c e) ≡ performW w ls p (at c)
       → Does w ls b k rep c p b k rep (stopped c e)
-  stops-does g e p q = record {
+  stops-does g e p q x = record {
     kept = stopped-kept e;
     taken = refl;
-    outcome = q ∙ ap (λ (h : Halt). performO (limitsWith w) p (outcomeBy h rep (stateOf ls b k c))) (sym (going-is (c .halt) g));
+    outcome = came (q ∙ ap (λ (h : Halt). performO (limitsWith w) p (outcomeBy h rep (stateOf ls b k c))) (sym (going-is (c .halt) g))) x;
   }
 
   pub refuse-does : going (c .halt) ≡ true → (e : TypeError) → Does w ls b k rep c (refuse e (nodesAt rep 0 (reported e))) b k rep (stopped c e)
-  unfolding refuseO
-  refuse-does g e = stops-does g e (refuse e (nodesAt rep 0 (reported e))) refl
+  unfolding refuseO refuseW
+  refuse-does g e = stops-does g e (refuse e (nodesAt rep 0 (reported e))) refl (rw g)
 
   -- ---- a fresh number
   pub fresh-stops : going (c .halt) ≡ true → ltb (c .fresh) 1000 ≡ false → Does w ls b k rep c (fresh (λ n. done)) b k rep (stopped c NoFreshNumber)
-  unfolding freshO nodesAt
-  fresh-stops g e = stops-does g NoFreshNumber (fresh (λ n. done)) (rw e)
+  unfolding freshO freshW nodesAt
+  fresh-stops g e = stops-does g NoFreshNumber (fresh (λ n. done)) (rw e) (rw (g, e))
 
   pub fresh-does : going (c .halt) ≡ true → ltb (c .fresh) 1000 ≡ true → Does w ls b k rep c (fresh (λ n. done)) b k rep (made c)
-  unfolding freshO
+  unfolding freshO freshW
   fresh-does g e = record {
     kept = record {
       board = f .board;
@@ -83,23 +101,26 @@ module _ {b k : List ℕ} {c : Run} (f : WellFormed b k c) (w : ℕ) (ls : List 
       unmade = λ j h. f .unmade j (omega arith);
     };
     taken = refl;
-    outcome = rw (going-is (c .halt) g, e, add-one (c .fresh));
+    outcome = came (rw (going-is (c .halt) g, e, add-one (c .fresh))) (rw (g, e));
   }
 
   -- ---- a push
-  module _ (kind number : ℕ) (t u : Ty) (counts : (ls : List Triple) → entryNodes (entryOf ls kind number t u) ≡ length t + length u) (g : going (c .halt) ≡ true) where
+  module _ (kind number : ℕ) (t u : Ty) (slots : (ls : List Triple) → slotOf (entryOf ls kind number t u) ≡ record { kind = kind; number = number; left = t; right = u }) (g : going (c .halt) ≡ true) where
     abbrev entry : List Triple → Entry
     entry ls = entryOf ls kind number t u
 
     abbrev n : ℕ
     n = length t + length u
 
+    counts : (ls : List Triple) → entryNodes (entry ls) ≡ n
+    counts ls = slot-nodes (entry ls) ∙ ap (λ (s : Slot). length (s .left) + length (s .right)) (slots ls)
+
     pub push-stops : fitsBoard (c .board) n ≡ false → Does w ls b k rep c (push (entry ls) done) b k rep (stopped c BoardFull)
-    unfolding pushO nodesAt
-    push-stops e = stops-does g BoardFull (push (entry ls) done) (rw (fits-room ls (f .board) (limitsWith w) refl refl (entry ls) n (counts ls), e))
+    unfolding pushO pushW nodesAt
+    push-stops e = stops-does g BoardFull (push (entry ls) done) (rw (fits-room ls (f .board) (limitsWith w) refl refl (entry ls) n (counts ls), e)) (rw (slots ls, g, e))
 
     pub push-does : fitsBoard (c .board) n ≡ true → Does w ls b k rep c (push (entry ls) done) (laid b (c .board) kind number t u) k rep (withBoard c (boardGrown (c .board) n))
-    unfolding pushO
+    unfolding pushO pushW
     push-does e =
         let few = fits-facts (c .board) n e .0 in
         let fits = fits-facts (c .board) n e .1 in
@@ -111,7 +132,7 @@ module _ {b k : List ℕ} {c : Run} (f : WellFormed b k c) (w : ℕ) (ls : List 
             unmade = f .unmade;
           };
           taken = refl;
-          outcome = rw (going-is (c .halt) g, fits-room ls (f .board) (limitsWith w) refl refl (entry ls) n (counts ls), e, laid-entries (f .board) kind number t u few fits ls);
+          outcome = came (rw (going-is (c .halt) g, fits-room ls (f .board) (limitsWith w) refl refl (entry ls) n (counts ls), e, laid-entries (f .board) kind number t u few fits ls)) (rw (slots ls, g, e));
         }
 
   -- ---- a solution
@@ -123,11 +144,11 @@ module _ {b k : List ℕ} {c : Run} (f : WellFormed b k c) (w : ℕ) (ls : List 
     used = let q = nodes-count k (2000 + 2 * c .book .nodes) 2000 (sols k) (f .book .holds) in omega arith
 
     pub solve-stops : fitsBook (c .book) (length t) ≡ false → Does w ls b k rep c (solve x t done) b k rep (stopped c SolutionsFull)
-    unfolding solveO nodesAt
-    solve-stops e = stops-does g SolutionsFull (solve x t done) (rw (none-yet, used, e))
+    unfolding solveO solveW nodesAt
+    solve-stops e = stops-does g SolutionsFull (solve x t done) (rw (none-yet, used, e)) (rw (g, e))
 
     pub solve-does : fitsBook (c .book) (length t) ≡ true → Does w ls b k rep c (solve x t done) b (given k (c .book) x t) rep (withBook c (bookGrown (c .book) (length t)))
-    unfolding solveO
+    unfolding solveO solveW
     solve-does e =
         let small : x < 1000 = let l = s .made in let m = f .numbers in omega arith in
         let fits : c .book .nodes + length t ≤ 4096 = leb-true (c .book .nodes + length t) 4096 e in
@@ -145,7 +166,7 @@ module _ {b k : List ℕ} {c : Run} (f : WellFormed b k c) (w : ℕ) (ls : List 
                 omega arith;
           };
           taken = refl;
-          outcome = rw (going-is (c .halt) g, none-yet, used, e, q);
+          outcome = came (rw (going-is (c .halt) g, none-yet, used, e, q)) (rw (g, e));
         }
 
 -- ---- what the functions return
@@ -189,9 +210,6 @@ module _ {c : Run} {b : List ℕ} {kind number : ℕ} {l : List ℕ} {la ln : �
   sizes : ln + rn ≡ length t + length u
   sizes = ap₂ (λ (x y : ℕ). x + y) (sym (length-nodesAt l la ln)) (sym (length-nodesAt r ra rn))
 
-  counted : (ls : List Triple) → entryNodes (pushed ls) ≡ length t + length u
-  counted ls = a .counts ls ∙ sizes
-
   pub push-stays : going (c .halt) ≡ false → Pushes b c kind number t u pushed b c
   push-stays g = (rw g refl, rw g refl, λ w ls k rep f. stays-does f w ls rep g (push (pushed ls) done))
 
@@ -204,12 +222,12 @@ module _ {c : Run} {b : List ℕ} {kind number : ℕ} {l : List ℕ} {la ln : �
       → Pushes b c kind number t u pushed b' (withBoard c d)
   push-returns g e q =
       let f : fitsBoard (c .board) (length t + length u) ≡ true = subst (λ (m : ℕ). fitsBoard (c .board) m ≡ true) sizes e in
-      rw (q .0, q .1, sizes) (rw (g, f) refl, rw (g, f) refl, λ w ls k rep h. push-does h w ls rep kind number t u counted g f)
+      rw (q .0, q .1, sizes) (rw (g, f) refl, rw (g, f) refl, λ w ls k rep h. push-does h w ls rep kind number t u (a .entry) g f)
 
   pub push-refuses : {p : Run} → going (c .halt) ≡ true → fitsBoard (c .board) (ln + rn) ≡ false → p ≡ refusedRun c BoardFull → Pushes b c kind number t u pushed b p
   push-refuses g e q =
       let f : fitsBoard (c .board) (length t + length u) ≡ false = subst (λ (m : ℕ). fitsBoard (c .board) m ≡ false) sizes e in
-      rw (q ∙ refused-run c BoardFull g) (rw (g, f) refl, rw (g, f) refl, λ w ls k rep h. push-stops h w ls rep kind number t u counted g f)
+      rw (q ∙ refused-run c BoardFull g) (rw (g, f) refl, rw (g, f) refl, λ w ls k rep h. push-stops h w ls rep kind number t u (a .entry) g f)
 
 module _ {k : List ℕ} {c : Run} {x : ℕ} {s : List ℕ} {from n : ℕ} (a : SolveAsk k c x s from n) (g : going (c .halt) ≡ true) where
   abbrev v : Ty

@@ -11,6 +11,7 @@ use lib.ListN.{length}
 use Rattle.nodes.specs.Nodes.{node, Ty, nodesAt}
 use Rattle.nodes.proofs.ListLaws.{cond-ind}
 use Rattle.spelling.specs.declared.Triple.{Triple}
+use Rattle.judgment.specs.declared.TypeError.{TypeError}
 use Rattle.judgment.specs.declared.TypeError.the-variants.{NoFreshNumber}
 use Rattle.judgment.specs.Types.{unknown, canUnify}
 use Rattle.judgment.specs.Solutions.{Solution, _≔_, Solutions, find, solutionNodes, writeOut, Free, keys}
@@ -21,11 +22,12 @@ use Rattle.board.specs.Board.{entriesOf}
 use Rattle.book.specs.Book.{sols}
 use Rattle.book.proofs.Holdings.{free-of, free-kind}
 use borrow.Author.Tests.{ne-eqb}
+use Rattle.operations.proofs.Latch.{going-is, came, words-stay, refused-stays}
 use Rattle.operations.specs.declared.Halt.{Halt}
 use Rattle.operations.specs.declared.Halt.the-variants.{Going, Refused}
 use Rattle.operations.specs.declared.Run.{Run}
 use Rattle.operations.specs.declared.Zonked.{Zonked}
-use Rattle.operations.specs.State.{reported, outcomeBy, stateOf, outcomeOf, WellFormed, Does, Performs, PerformsOnBoard, PerformsOnBook, going, stopped, made, freshRun, Solves, SolveAsk, Zonks}
+use Rattle.operations.specs.State.{reported, outcomeBy, stateOf, outcomeOf, WellFormed, refuseW, Came, cameTo, performC, Does, Performs, PerformsOnBoard, PerformsOnBook, going, stopped, refusedRun, made, freshRun, Solves, SolveAsk, Zonks}
 
 -- ---- what an outcome holds, refused or not
 counter-is : (h : Halt) (rep : List ℕ) (Γ : Entries) (σ : Solutions) (n : ℕ) → counterOf (outcomeBy h rep (state Γ σ n)) ≡ n
@@ -40,10 +42,38 @@ solutions-are : (h : Halt) (rep : List ℕ) (Γ : Entries) (σ : Solutions) (n :
 solutions-are Going rep Γ σ n = refl
 solutions-are (Refused e) rep Γ σ n = refl
 
+-- a refused run stays, whatever rule comes
+stays-so : (w : ℕ) (ls : List Triple) (b k rep : List ℕ) (c : Run) (p : Rule) → going (c .halt) ≡ false → performC w ls p (cameTo ls b k rep c) ≡ cameTo ls b k rep c
+stays-so w ls b k rep c p g = came (sym (refused-stays (limitsWith w) (c .halt) g rep (stateOf ls b k c) p)) (words-stay w ls p (record { board = b; book = k; run = c }) g)
+
 -- rules that are the same where a run goes on
-same-going : (L : Limits) (h : Halt) (rep : List ℕ) (s : State) (p q : Rule) → (h ≡ Going → p ≡ q) → performO L p (outcomeBy h rep s) ≡ performO L q (outcomeBy h rep s)
-same-going L Going rep s p q e = ap (λ (r : Rule). performO L r (finished s)) (e refl)
-same-going L (Refused x) rep s p q e = stays L p x (nodesAt rep 0 (reported x)) s ∙ sym (stays L q x (nodesAt rep 0 (reported x)) s)
+pub same-going : (w : ℕ) (ls : List Triple) (b k rep : List ℕ) (c : Run) (p q : Rule) → (c .halt ≡ Going → p ≡ q) → performC w ls p (cameTo ls b k rep c) ≡ performC w ls q (cameTo ls b k rep c)
+same-going w ls b k rep c p q e = by (going (c .halt)) refl
+  where
+    by : (g : Bool) → going (c .halt) ≡ g → performC w ls p (cameTo ls b k rep c) ≡ performC w ls q (cameTo ls b k rep c)
+    by true g = ap (λ (r : Rule). performC w ls r (cameTo ls b k rep c)) (e (going-is (c .halt) g))
+    by false g = stays-so w ls b k rep c p g ∙ sym (stays-so w ls b k rep c q g)
+
+-- a fresh number, and then the rest with it
+pub fresh-is : (w : ℕ) (ls : List Triple) (b k rep : List ℕ) (c : Run) (f : ℕ → Rule)
+    → performC w ls (fresh f) (cameTo ls b k rep c) ≡ performC w ls (f (c .fresh)) (performC w ls (fresh (λ n. done)) (cameTo ls b k rep c))
+fresh-is w ls b k rep c f =
+    came (ap (λ (n : ℕ). performO (limitsWith w) (f n) (freshO (limitsWith w) (outcomeOf ls b k rep c))) (counter-is (c .halt) rep (entriesOf ls b (c .board .entries)) (sols k) (c .fresh))) refl
+
+-- a refusal, whatever follows
+stopped-so : (c : Run) (e : TypeError) → going (refusedRun c e .halt) ≡ false
+stopped-so c e = cond-ind (λ (r : Run). going (r .halt) ≡ false) (going (c .halt)) (λ _. refl) (λ g. g)
+
+refused-so : (L : Limits) (p : Rule) (e : TypeError) (ts : Ty) (o : Outcome) → performO L p (refuseO L e ts o) ≡ refuseO L e ts o
+unfolding refuseO
+refused-so L p e ts (finished s) = stays L p e ts s
+refused-so L p e ts (refused x us s) = stays L p x us s
+
+pub refusal-stays : (w : ℕ) (ls : List Triple) (p : Rule) (e : TypeError) (ts : Ty) (b k rep : List ℕ) (c : Run)
+    → performC w ls p (performC w ls (refuse e ts) (cameTo ls b k rep c)) ≡ performC w ls (refuse e ts) (cameTo ls b k rep c)
+unfolding refuseW
+refusal-stays w ls p e ts b k rep c =
+    came (refused-so (limitsWith w) p e ts (outcomeOf ls b k rep c)) (words-stay w ls p (record { board = b; book = k; run = refusedRun c e }) (stopped-so c e))
 
 pub done-does : {w : ℕ} {ls : List Triple} {b k rep : List ℕ} {c : Run} → WellFormed b k c → Does w ls b k rep c done b k rep c
 done-does f = record { kept = f; taken = refl; outcome = refl }
@@ -54,7 +84,7 @@ module _ {w : ℕ} {ls : List Triple} {b k rep : List ℕ} {c : Run} {b₂ k₂ 
   does-as {p} {q} e d = record {
     kept = d .kept;
     taken = d .taken;
-    outcome = d .outcome ∙ same-going (limitsWith w) (c .halt) rep (stateOf ls b k c) p q e;
+    outcome = d .outcome ∙ same-going w ls b k rep c p q e;
   }
 
   -- a look at the board
@@ -64,7 +94,7 @@ module _ {w : ℕ} {ls : List Triple} {b k rep : List ℕ} {c : Run} {b₂ k₂ 
     taken = d .taken;
     outcome =
         d .outcome
-        ∙ ap (λ (Γ : Entries). performO (limitsWith w) (f Γ) (outcomeOf ls b k rep c)) (sym (board-is (c .halt) rep (entriesOf ls b (c .board .entries)) (sols k) (c .fresh)));
+        ∙ came (ap (λ (Γ : Entries). performO (limitsWith w) (f Γ) (outcomeOf ls b k rep c)) (sym (board-is (c .halt) rep (entriesOf ls b (c .board .entries)) (sols k) (c .fresh)))) refl;
   }
 
   -- a write-out, and then the rest with the type that it left in the report
@@ -77,20 +107,20 @@ module _ {w : ℕ} {ls : List Triple} {b k rep : List ℕ} {c : Run} {b₂ k₂ 
         taken = d .taken ∙ e .taken;
         outcome =
             d .outcome
-            ∙ same-going (limitsWith w) (z .run .halt) rep₁ (stateOf ls b k (z .run)) (f (nodesAt rep₁ (2 * to) (z .nodes))) (f (writeOut (sols k) t)) (λ g. ap f (q .nodes g))
-            ∙ ap₂ (λ (σ : Solutions) (o : Outcome). performO (limitsWith w) (f (writeOut σ t)) o)
-            (sym (solutions-are (c .halt) rep (entriesOf ls b (c .board .entries)) (sols k) (c .fresh))) (e .outcome);
+            ∙ same-going w ls b k rep₁ (z .run) (f (nodesAt rep₁ (2 * to) (z .nodes))) (f (writeOut (sols k) t)) (λ g. ap f (q .nodes g))
+            ∙ ap (performC w ls (f (writeOut (sols k) t))) (e .outcome)
+            ∙ came (ap (λ (σ : Solutions). performO (limitsWith w) (f (writeOut σ t)) (zonkO (limitsWith w) t (outcomeOf ls b k rep c))) (sym (solutions-are (c .halt) rep (entriesOf ls b (c .board .entries)) (sols k) (c .fresh)))) refl;
       }
 
   module _ {b₁ k₁ rep₁ : List ℕ} {c₁ : Run} where
     -- the operations of p, and then those of q
     pub does-then : {p q r : Rule} → Does w ls b k rep c p b₁ k₁ rep₁ c₁ → Does w ls b₁ k₁ rep₁ c₁ q b₂ k₂ rep₂ c₂
-        → performO (limitsWith w) r (outcomeOf ls b k rep c) ≡ performO (limitsWith w) q (performO (limitsWith w) p (outcomeOf ls b k rep c))
+        → performC w ls r (cameTo ls b k rep c) ≡ performC w ls q (performC w ls p (cameTo ls b k rep c))
         → Does w ls b k rep c r b₂ k₂ rep₂ c₂
     does-then {p} {q} {r} d e h = record {
       kept = e .kept;
       taken = e .taken ∙ d .taken;
-      outcome = e .outcome ∙ ap (performO (limitsWith w) q) (d .outcome) ∙ sym h;
+      outcome = e .outcome ∙ ap (performC w ls q) (d .outcome) ∙ sym h;
     }
 
     pub push-then : {e : Entry} {p : Rule} → Does w ls b k rep c (push e done) b₁ k₁ rep₁ c₁ → Does w ls b₁ k₁ rep₁ c₁ p b₂ k₂ rep₂ c₂ → Does w ls b k rep c (push e p) b₂ k₂ rep₂ c₂
@@ -100,9 +130,7 @@ module _ {w : ℕ} {ls : List Triple} {b k rep : List ℕ} {c : Run} {b₂ k₂ 
     solve-then {j} {t} {p} x y = does-then {p = solve j t done} {q = p} {r = solve j t p} x y refl
 
     pub fresh-then : {f : ℕ → Rule} → Does w ls b k rep c (fresh (λ n. done)) b₁ k₁ rep₁ c₁ → Does w ls b₁ k₁ rep₁ c₁ (f (c .fresh)) b₂ k₂ rep₂ c₂ → Does w ls b k rep c (fresh f) b₂ k₂ rep₂ c₂
-    fresh-then {f} x y =
-        does-then {p = fresh (λ n. done)} {q = f (c .fresh)} {r = fresh f} x y
-        (ap (λ (n : ℕ). performO (limitsWith w) (f n) (freshO (limitsWith w) (outcomeOf ls b k rep c))) (counter-is (c .halt) rep (entriesOf ls b (c .board .entries)) (sols k) (c .fresh)))
+    fresh-then {f} x y = does-then {p = fresh (λ n. done)} {q = f (c .fresh)} {r = fresh f} x y (fresh-is w ls b k rep c f)
 
 -- ---- what every rule leaves
 -- an operation keeps what is well formed, whatever the limit, the lines and the report
@@ -137,7 +165,7 @@ goes-back L p (refused x ts s) e = absurd (true≢false (sym e ∙ ap goes (stay
 pub alive : {w : ℕ} {ls : List Triple} {b k rep : List ℕ} {c : Run} {p : Rule} {b' k' rep' : List ℕ} {r : Run} → Does w ls b k rep c p b' k' rep' r → going (r .halt) ≡ true → going (c .halt) ≡ true
 alive {w} {ls} {b} {k} {rep} {c} {p} {b'} {k'} {rep'} {r} d g =
     sym (goes-is (c .halt) rep (stateOf ls b k c))
-    ∙ goes-back (limitsWith w) p (outcomeOf ls b k rep c) (ap goes (sym (d .outcome)) ∙ goes-is (r .halt) rep' (stateOf ls b' k' r) ∙ g)
+    ∙ goes-back (limitsWith w) p (outcomeOf ls b k rep c) (ap (λ (x : Came). goes (x .outcome)) (sym (d .outcome)) ∙ goes-is (r .halt) rep' (stateOf ls b' k' r) ∙ g)
 
 -- the counter never falls
 counter-grows : (L : Limits) (p : Rule) (o : Outcome) → counterOf o ≤ counterOf (performO L p o)
@@ -177,7 +205,7 @@ pub grows : {w : ℕ} {ls : List Triple} {b k rep : List ℕ} {c : Run} {p : Rul
 grows {w} {ls} {b} {k} {rep} {c} {p} {b'} {k'} {rep'} {r} d =
     let h = counter-grows (limitsWith w) p (outcomeOf ls b k rep c) in
     let x = counter-is (c .halt) rep (entriesOf ls b (c .board .entries)) (sols k) (c .fresh) in
-    let y = ap counterOf (d .outcome) in
+    let y = ap (λ (x : Came). counterOf (x .outcome)) (d .outcome) in
     let z = counter-is (r .halt) rep' (entriesOf ls b' (r .board .entries)) (sols k') (r .fresh) in
     omega arith
 
@@ -212,7 +240,7 @@ pub report-free : {w : ℕ} {ls : List Triple} {b k rep rep₁ : List ℕ} {c : 
 report-free {w} {ls} {b} {k} {rep} {rep₁} {c} {p} g d = record {
   kept = d .kept;
   taken = d .taken;
-  outcome = d .outcome ∙ ap (performO (limitsWith w) p) (same (c .halt) g);
+  outcome = d .outcome ∙ ap (performC w ls p) (came (same (c .halt) g) refl);
 }
   where
     same : (h : Halt) → going h ≡ true → outcomeBy h rep₁ (stateOf ls b k c) ≡ outcomeBy h rep (stateOf ls b k c)

@@ -25,8 +25,8 @@ use Rattle.operations.specs.declared.Halt.{Halt}
 use Rattle.operations.specs.declared.Halt.the-variants.{Going, Refused}
 use Rattle.operations.specs.declared.Run.{Run}
 use Rattle.operations.specs.declared.Zonked.{Zonked}
-use Rattle.operations.specs.State.{reported, outcomeBy, stateOf, outcomeOf, WellFormed, Does, going, stopped, refusedRun, zonkBy, zonkRun, zonkWords, ZonkAsk, Zonks}
-use Rattle.operations.proofs.Latch.{going-is, stays-does}
+use Rattle.operations.specs.State.{reported, outcomeBy, stateOf, outcomeOf, WellFormed, zonkW, Does, going, stopped, refusedRun, zonkBy, zonkRun, zonkWords, ZonkAsk, Zonks}
+use Rattle.operations.proofs.Latch.{going-is, came, stays-does}
 
 module _ {k : List ℕ} {c : Run} {s : List ℕ} {at n : ℕ} {rep : List ℕ} {to w : ℕ} (a : ZonkAsk k c s at n rep to w) where
   abbrev t : Ty
@@ -70,7 +70,7 @@ module _ {k : List ℕ} {c : Run} {s : List ℕ} {at n : ℕ} {rep : List ℕ} {
     }
 
     pub zonk-fits : {r : Wrote} {end : ℕ} → r ≡ wrote T to (to + w) → r ≡ Fits end → Returns rep' (record { run = c; nodes = end - to })
-    unfolding zonkO
+    unfolding zonkO zonkW
     zonk-fits {end = end} p e =
         let m = fits-told T [] to (to + w) rep end (sym p ∙ e) in
         let few : length T ≤ w = let z = m .0 in omega arith in
@@ -81,7 +81,7 @@ module _ {k : List ℕ} {c : Run} {s : List ℕ} {at n : ℕ} {rep : List ℕ} {
             does = λ ls b f. record {
               kept = moved (c .halt) f;
               taken = refl;
-              outcome = rw (going-is (c .halt) g, le-leb (length T) w few);
+              outcome = came (rw (going-is (c .halt) g, le-leb (length T) w few)) (rw (g, le-leb (length T) w few));
             };
             nodes = λ _.
                 let r = a .room in
@@ -92,7 +92,7 @@ module _ {k : List ℕ} {c : Run} {s : List ℕ} {at n : ℕ} {rep : List ℕ} {
         )
 
     pub zonk-over : {r : Wrote} {d : Run} → r ≡ wrote T to (to + w) → r ≡ Over → d ≡ refusedRun c TypeTooLong → Returns rep' (record { run = d; nodes = 0 })
-    unfolding zonkO nodesAt
+    unfolding zonkO zonkW nodesAt
     zonk-over p e u =
         let m = over-told T [] to (to + w) rep (sym p ∙ e) in
         let many : w < length T = omega arith in
@@ -104,7 +104,7 @@ module _ {k : List ℕ} {c : Run} {s : List ℕ} {at n : ℕ} {rep : List ℕ} {
             does = λ ls b f. record {
               kept = moved (Refused TypeTooLong) f;
               taken = refl;
-              outcome = rw (going-is (c .halt) g, lt-leb (length T) w many);
+              outcome = came (rw (going-is (c .halt) g, lt-leb (length T) w many)) (rw (g, lt-leb (length T) w many));
             };
             nodes = λ z. absurd (true≢false (ap going (sym z)));
             within = let r = a .room in omega (arith, same-length);

@@ -11,11 +11,11 @@ use Rattle.spelling.specs.declared.Triple.{Triple}
 use Rattle.judgment.specs.declared.TypeError.{TypeError}
 use Rattle.judgment.specs.declared.TypeError.the-variants.{UnboundVariable, UnboundDataConstructor, NotAFunction, ArityMismatch, SubtypingError, TypeUnificationError, InstantiationError, IntrinsicArityMismatch, UnknownIntrinsic, BoardFull, TypeTooLong, NoFreshNumber, SolutionsFull}
 use Rattle.judgment.specs.Solutions.{writeOut, Free, keys}
-use Rattle.judgment.specs.Board.{Entry, entryNodes, Rule, done, refuse, fresh, push, solve, zonk, State, state, Outcome, finished, refused}
+use Rattle.judgment.specs.Board.{Entry, Rule, done, refuse, fresh, push, solve, zonk, look, State, state, Outcome, finished, refused}
 use Rattle.judgment.specs.Chain.{performO}
 use Rattle.judgment.specs.Result.{limitsWith}
 use Rattle.board.specs.declared.Board.{Board}
-use Rattle.board.specs.Board.{entryOf, entriesOf, Stacked}
+use Rattle.board.specs.Board.{entryOf, entriesOf, Stacked, slotOf}
 use Rattle.board.specs.Board.{fitting as fitsBoard, laid, grown as boardGrown}
 use Rattle.book.specs.declared.Book.{Book}
 use Rattle.book.specs.declared.Wrote.{Wrote}
@@ -61,22 +61,6 @@ pub record WellFormed (b k : List ℕ) (c : Run) : Type 0 where
   pub numbers : c .fresh ≤ 1000
   pub unmade : (j : ℕ) → c .fresh ≤ j → j < 1000 → startOf k j < 2000  -- a number that is not made has no solution
 
--- what code that performs a rule leaves, w being the limit of a write-out and ls the lines of the sheet
-pub record Does (w : ℕ) (ls : List Triple) (b k rep : List ℕ) (c : Run) (p : Rule) (b' k' rep' : List ℕ) (r : Run) : Type 0 where
-  pub kept : WellFormed b' k' r
-  pub taken : r .taken ≡ c .taken
-  pub outcome : outcomeOf ls b' k' rep' r ≡ performO (limitsWith w) p (outcomeOf ls b k rep c)
-
--- code that changes none of the buffers; only the board; only the book
-abbrev pub Performs : Run → (List ℕ → Rule) → Run → Type 0
-Performs c p r = (w : ℕ) (ls : List Triple) (b k rep : List ℕ) → WellFormed b k c → Does w ls b k rep c (p rep) b k rep r
-
-abbrev pub PerformsOnBoard : List ℕ → Run → (List Triple → Rule) → List ℕ → Run → Type 0
-PerformsOnBoard b c p b' r = (w : ℕ) (ls : List Triple) (k rep : List ℕ) → WellFormed b k c → Does w ls b k rep c (p ls) b' k rep r
-
-abbrev pub PerformsOnBook : List ℕ → Run → Rule → List ℕ → Run → Type 0
-PerformsOnBook k c p k' r = (w : ℕ) (ls : List Triple) (b rep : List ℕ) → WellFormed b k c → Does w ls b k rep c p b k' rep r
-
 -- ---- the operations on words: a refused run stays as it is
 abbrev pub going : Halt → Bool
 going Going = true
@@ -105,17 +89,6 @@ abbrev pub pushWords : List ℕ → Run → ℕ → ℕ → Ty → Ty → List �
 pushWords b c kind number t u =
     cond (going (c .halt)) (cond (fitsBoard (c .board) (length t + length u)) (laid b (c .board) kind number t u) b) b
 
--- what a push of the entry e leaves, on the board as one of that kind and number with the types t and u
-abbrev pub Pushes : List ℕ → Run → ℕ → ℕ → Ty → Ty → (List Triple → Entry) → List ℕ → Run → Type 0
-Pushes b c kind number t u e b' r =
-    (r ≡ pushRun c (length t + length u)) × (b' ≡ pushWords b c kind number t u) × PerformsOnBoard b c (λ ls. push (e ls) done) b' r
-
-pub record PushAsk (b : List ℕ) (c : Run) (kind number : ℕ) (l : List ℕ) (la ln : ℕ) (r : List ℕ) (ra rn : ℕ) : Type 0 where
-  pub board : Stacked b (c .board)
-  pub left : la + 2 * ln ≤ length l
-  pub right : ra + 2 * rn ≤ length r
-  pub counts : (ls : List Triple) → entryNodes (entryOf ls kind number (nodesAt l la ln) (nodesAt r ra rn)) ≡ ln + rn
-
 abbrev pub withBook : Run → Book → Run
 withBook c b = record { taken = c .taken; fresh = c .fresh; board = c .board; book = b; halt = c .halt }
 
@@ -125,6 +98,83 @@ solveRun c n = cond (going (c .halt)) (cond (fitsBook (c .book) n) (withBook c (
 
 abbrev pub solveWords : List ℕ → Run → ℕ → Ty → List ℕ
 solveWords k c x t = cond (going (c .halt)) (cond (fitsBook (c .book) (length t)) (given k (c .book) x t) k) k
+
+-- ---- a rule performed on words
+pub record Words : Type 0 where
+  pub board : List ℕ
+  pub book : List ℕ
+  pub run : Run
+
+unfoldable pub refuseW : TypeError → Words → Words
+refuseW e x = record { board = x .board; book = x .book; run = refusedRun (x .run) e }
+
+unfoldable pub freshW : Words → Words
+freshW x = record { board = x .board; book = x .book; run = freshRun (x .run) }
+
+unfoldable pub pushW : Entry → Words → Words
+pushW e x =
+    let s = slotOf e in
+    record {
+      board = pushWords (x .board) (x .run) (s .kind) (s .number) (s .left) (s .right);
+      book = x .book;
+      run = pushRun (x .run) (length (s .left) + length (s .right));
+    }
+
+unfoldable pub solveW : ℕ → Ty → Words → Words
+solveW k t x = record { board = x .board; book = solveWords (x .book) (x .run) k t; run = solveRun (x .run) (length t) }
+
+-- t is what was written out
+unfoldable pub zonkW : ℕ → Ty → Words → Words
+zonkW w t x = record { board = x .board; book = x .book; run = cond (going (x .run .halt)) (cond (leb (length t) w) (x .run) (stopped (x .run) TypeTooLong)) (x .run) }
+
+abbrev pub performW : ℕ → List Triple → Rule → Words → Words
+performW w ls done x = x
+performW w ls (refuse e ts) x = refuseW e x
+performW w ls (fresh f) x = performW w ls (f (x .run .fresh)) (freshW x)
+performW w ls (push e p) x = performW w ls p (pushW e x)
+performW w ls (solve k t p) x = performW w ls p (solveW k t x)
+performW w ls (zonk t f) x = let u = writeOut (sols (x .book)) t in performW w ls (f u) (zonkW w u x)
+performW w ls (look f) x = performW w ls (f (entriesOf ls (x .board) (x .run .board .entries))) x
+
+-- what a run has come to: as the definition has it, and in words
+pub record Came : Type 0 where
+  pub outcome : Outcome
+  pub words : Words
+
+abbrev pub cameTo : List Triple → List ℕ → List ℕ → List ℕ → Run → Came
+cameTo ls b k rep c = record { outcome = outcomeOf ls b k rep c; words = record { board = b; book = k; run = c } }
+
+abbrev pub performC : ℕ → List Triple → Rule → Came → Came
+performC w ls p o = record { outcome = performO (limitsWith w) p (o .outcome); words = performW w ls p (o .words) }
+
+-- What code that performs a rule leaves, w being the limit of a write-out and ls the lines of the sheet: the outcome that the definition has, and every word of board and book.
+-- The report is fixed as far as it holds types that a refusal reports. Beside that a rule writes to it as it does to any room that it is lent: what stands there after it is left free.
+pub record Does (w : ℕ) (ls : List Triple) (b k rep : List ℕ) (c : Run) (p : Rule) (b' k' rep' : List ℕ) (r : Run) : Type 0 where
+  pub kept : WellFormed b' k' r
+  pub taken : r .taken ≡ c .taken
+  pub outcome : cameTo ls b' k' rep' r ≡ performC w ls p (cameTo ls b k rep c)
+
+-- code that changes none of the buffers; only the board; only the book
+abbrev pub Performs : Run → (List ℕ → Rule) → Run → Type 0
+Performs c p r = (w : ℕ) (ls : List Triple) (b k rep : List ℕ) → WellFormed b k c → Does w ls b k rep c (p rep) b k rep r
+
+abbrev pub PerformsOnBoard : List ℕ → Run → (List Triple → Rule) → List ℕ → Run → Type 0
+PerformsOnBoard b c p b' r = (w : ℕ) (ls : List Triple) (k rep : List ℕ) → WellFormed b k c → Does w ls b k rep c (p ls) b' k rep r
+
+abbrev pub PerformsOnBook : List ℕ → Run → Rule → List ℕ → Run → Type 0
+PerformsOnBook k c p k' r = (w : ℕ) (ls : List Triple) (b rep : List ℕ) → WellFormed b k c → Does w ls b k rep c p b k' rep r
+
+-- ---- what each operation asks and leaves
+-- what a push of the entry e leaves, on the board as one of that kind and number with the types t and u
+abbrev pub Pushes : List ℕ → Run → ℕ → ℕ → Ty → Ty → (List Triple → Entry) → List ℕ → Run → Type 0
+Pushes b c kind number t u e b' r =
+    (r ≡ pushRun c (length t + length u)) × (b' ≡ pushWords b c kind number t u) × PerformsOnBoard b c (λ ls. push (e ls) done) b' r
+
+pub record PushAsk (b : List ℕ) (c : Run) (kind number : ℕ) (l : List ℕ) (la ln : ℕ) (r : List ℕ) (ra rn : ℕ) : Type 0 where
+  pub board : Stacked b (c .board)
+  pub left : la + 2 * ln ≤ length l
+  pub right : ra + 2 * rn ≤ length r
+  pub entry : (ls : List Triple) → slotOf (entryOf ls kind number (nodesAt l la ln) (nodesAt r ra rn)) ≡ record { kind = kind; number = number; left = nodesAt l la ln; right = nodesAt r ra rn }
 
 -- what giving x the solution t leaves
 abbrev pub Gives : List ℕ → Run → ℕ → Ty → List ℕ → Run → Type 0

@@ -17,10 +17,8 @@ use Rattle.judgment.specs.declared.TypeError.the-variants.{UnboundDataConstruct
 use Rattle.judgment.specs.Terms.{patternView}
 use Rattle.judgment.specs.Board.{Rule, refuse}
 use Rattle.judgment.specs.Rules.{insert, patternConstructor, patternBy, checkPatterns}
-use Rattle.judgment.specs.Chain.{performO}
-use Rattle.judgment.specs.Result.{limitsWith}
 use Rattle.operations.specs.declared.Run.{Run}
-use Rattle.operations.specs.State.{outcomeOf, Performs, refusedRun}
+use Rattle.operations.specs.State.{cameTo, performC, Performs, refusedRun}
 use Rattle.references.specs.declared.TypeRef.{TypeRef}
 use Rattle.references.specs.References.{typeOf, pendingOf}
 use Rattle.tables.specs.declared.Upcoming.{Upcoming}
@@ -68,9 +66,9 @@ module _ {b : List ℕ} {c : Run} (ls : List Triple) (x count : ℕ) (t : Ty) (w
           taken = u .taken;
           kept = u .kept;
           outcome = λ m k rep z h.
-              ap (λ (ts : List Ty). performO (limitsWith m) (h ts) (outcomeOf ls b' k rep (o .run))) (g .1)
+              ap (λ (ts : List Ty). performC m ls (h ts) (cameTo ls b' k rep (o .run))) (g .1)
               ∙ u .outcome m k rep z (λ ps. h (ps ++ typesOf ls w n))
-              ∙ ap (λ (k₁ : Option Ty). performO (limitsWith m) (patternConstructor (envAt ls) x count t (λ ps. h (ps ++ typesOf ls w n)) k₁) (outcomeOf ls b k rep c)) (sym (env-lookup ls x ∙ ap (typeAt ls) (sym q)));
+              ∙ ap (λ (k₁ : Option Ty). performC m ls (patternConstructor (envAt ls) x count t (λ ps. h (ps ++ typesOf ls w n)) k₁) (cameTo ls b k rep c)) (sym (env-lookup ls x ∙ ap (typeAt ls) (sym q)));
         };
       }
 
@@ -149,7 +147,7 @@ module _ {b w w₁ : List ℕ} {c : Run} {u : Upcoming} (ls : List Triple) (p n 
           kept = y .kept;
           outcome = λ q k rep z f.
               y .outcome q k rep z (λ ts. checkPatterns (envAt ls) (take (left - 1) (drop (p + 1) ls)) ts (bindingsAt ls v 0 j) f)
-              ∙ ap (λ (x : Rule). performO (limitsWith q) x (outcomeOf ls b k rep c))
+              ∙ ap (λ (x : Rule). performC q ls x (cameTo ls b k rep c))
               (line-constructor ls p h (typeOf ls (u .want)) (typesOf ls w₁ (u .depth)) (typesOf ls w n) (bindingsAt ls v 0 j) (a .types) left m f (ap (λ (t : Triple). t .kind) (sym is) ∙ e));
         };
       }

@@ -14,10 +14,8 @@ use Rattle.judgment.specs.declared.TypeError.the-variants.{ArityMismatch}
 use Rattle.judgment.specs.Types.{rename, frontNames}
 use Rattle.judgment.specs.Board.{sub, Rule, done, refuse, push, Outcome}
 use Rattle.judgment.specs.Rules.{Env, signatureFrom, extractSignature, patternParts}
-use Rattle.judgment.specs.Chain.{performO, pushO}
-use Rattle.judgment.specs.Result.{limitsWith}
 use Rattle.operations.specs.declared.Run.{Run}
-use Rattle.operations.specs.State.{outcomeOf, PerformsOnBoard}
+use Rattle.operations.specs.State.{Came, cameTo, performC, PerformsOnBoard}
 use Rattle.constructors.specs.declared.Opened.{Opened}
 use Rattle.constructors.specs.Opening.{Opens}
 use Rattle.constructors.proofs.Openings.{nodes-of-lines}
@@ -114,12 +112,12 @@ module _ {b : List ℕ} {c : Run} (ls : List Triple) (first n count : ℕ) (want
           let d = P w ls k rep (O .named .kept k z) in
           let ps : List Ty = params (o .nodes) X in
           let F : List Ty → Ty → Rule = patternParts E count (typeOf ls want) f in
-          let o₁ : Outcome = outcomeOf ls b₁ k rep (o .run) in
-          ap (λ (qs : List Ty). performO (limitsWith w) (f qs) (outcomeOf ls b₂ k rep c₃)) pending-body
+          let o₁ : Came = cameTo ls b₁ k rep (o .run) in
+          ap (λ (qs : List Ty). performC w ls (f qs) (cameTo ls b₂ k rep c₃)) pending-body
           ∙ A .outcome w k rep (d .kept) (λ _. f ps)
-          ∙ ap (λ (i : ℕ). performO (limitsWith w) (cond (eqb count i) (f ps) (refuse (ArityMismatch i count) [])) (outcomeOf ls b₂ k rep c₂)) a
-          ∙ ap (performO (limitsWith w) (cond (eqb count (length ps)) (f ps) (refuse (ArityMismatch (length ps) count) []))) (d .outcome ∙ ap₂ (λ (x y : Ty). pushO (limitsWith w) (sub x y) o₁) e same)
-          ∙ ap (λ (q : Rule). performO (limitsWith w) q o₁) (sym (ap (λ (i : ℕ). signatureFrom i [] X F) (length-nodesAt l (o .at) (o .nodes)) ∙ signature-is (o .nodes) [] X F))
+          ∙ ap (λ (i : ℕ). performC w ls (cond (eqb count i) (f ps) (refuse (ArityMismatch i count) [])) (cameTo ls b₂ k rep c₂)) a
+          ∙ ap (performC w ls (cond (eqb count (length ps)) (f ps) (refuse (ArityMismatch (length ps) count) []))) (d .outcome ∙ ap₂ (λ (x y : Ty). performC w ls (push (sub x y) done) o₁) e same)
+          ∙ ap (λ (q : Rule). performC w ls q o₁) (sym (ap (λ (i : ℕ). signatureFrom i [] X F) (length-nodesAt l (o .at) (o .nodes)) ∙ signature-is (o .nodes) [] X F))
           ∙ O .outcome w k rep z (λ t. signatureFrom (length t) [] t F) ls;
     }
 

@@ -13,13 +13,12 @@ use Rattle.spelling.specs.declared.Triple.{Triple}
 use Rattle.judgment.specs.declared.TypeError.{TypeError}
 use Rattle.judgment.specs.declared.TypeError.the-variants.{ArityMismatch}
 use Rattle.judgment.specs.Board.{Entry, sub, var, chk, entryNodes, Limits, Rule, done, refuse, push, Outcome, finished, refused}
-use Rattle.judgment.specs.Chain.{performO, stays, refuseO}
-use Rattle.judgment.specs.Result.{limitsWith}
 use Rattle.board.specs.Board.{termAt, entryOf}
 use Rattle.board.specs.Board.{fitting as fitsBoard}
 use Rattle.board.proofs.Stacks.{laid-stacked, fits-facts}
 use Rattle.operations.specs.declared.Run.{Run}
-use Rattle.operations.specs.State.{reported, outcomeOf, WellFormed, Does, Performs, Pushes, going, refusedRun, pushRun, pushWords}
+use Rattle.operations.specs.State.{reported, cameTo, performC, WellFormed, Does, Performs, Pushes, going, refusedRun, pushRun, pushWords}
+use Rattle.operations.proofs.Then.{refusal-stays}
 use Rattle.patterns.specs.Turns.{Ready, Turn}
 use Rattle.patterns.specs.Readings.{Arity}
 
@@ -30,7 +29,7 @@ module _ {A : Type 0} {ls : List Triple} where
     ready = h;
     taken = refl;
     kept = λ k z. z;
-    outcome = λ w k rep z f. ap (λ (x : Rule). performO (limitsWith w) x (outcomeOf ls b k rep c)) (e f);
+    outcome = λ w k rep z f. ap (λ (x : Rule). performC w ls x (cameTo ls b k rep c)) (e f);
   }
 
   pub turn-then : {b b₁ b₂ : List ℕ} {c c₁ c₂ : Run} {p q s : (A → Rule) → Rule} → Turn ls b c p b₁ c₁ q → Turn ls b₁ c₁ q b₂ c₂ s → Turn ls b c p b₂ c₂ s
@@ -48,17 +47,12 @@ module _ {A : Type 0} {ls : List Triple} where
     taken = x .taken;
     kept = x .kept;
     outcome = λ w k rep z f.
-        ap (λ (y : Rule). performO (limitsWith w) y (outcomeOf ls b' k rep r)) (g f)
+        ap (λ (y : Rule). performC w ls y (cameTo ls b' k rep r)) (g f)
         ∙ x .outcome w k rep z f
-        ∙ ap (λ (y : Rule). performO (limitsWith w) y (outcomeOf ls b k rep c)) (e f);
+        ∙ ap (λ (y : Rule). performC w ls y (cameTo ls b k rep c)) (e f);
   }
 
 -- ---- a refusal: whatever follows
-refusal-stays : (L : Limits) (p : Rule) (e : TypeError) (ts : Ty) (o : Outcome) → performO L p (refuseO L e ts o) ≡ refuseO L e ts o
-unfolding refuseO
-refusal-stays L p e ts (finished s) = stays L p e ts s
-refusal-stays L p e ts (refused x us s) = stays L p x us s
-
 refused-ready : (b : List ℕ) (c : Run) (e : TypeError) → Ready b c → Ready b (refusedRun c e)
 refused-ready b c e h =
     cond-ind (λ (r : Run). Ready b r) (going (c .halt)) (λ _. record { board = h .board; numbers = h .numbers }) (λ _. h)
@@ -71,10 +65,10 @@ turn-refused {A} {ls} {b} {c} {r} {e} p q h z s d = record {
   taken = ap (λ (x : Run). x .taken) (d .0) ∙ cond-ind (λ (x : Run). x .taken ≡ c .taken) (going (c .halt)) (λ _. refl) (λ _. refl);
   kept = λ k y. d .1 0 ls b k [] y .kept;
   outcome = λ w k rep y f.
-      ap (performO (limitsWith w) (q f)) (d .1 w ls b k rep y .outcome)
-      ∙ refusal-stays (limitsWith w) (q f) e (nodesAt rep 0 (reported e)) (outcomeOf ls b k rep c)
-      ∙ ap (λ (n : ℕ). refuseO (limitsWith w) e (nodesAt rep 0 n) (outcomeOf ls b k rep c)) z
-      ∙ ap (λ (x : Rule). performO (limitsWith w) x (outcomeOf ls b k rep c)) (sym (s f));
+      ap (performC w ls (q f)) (d .1 w ls b k rep y .outcome)
+      ∙ refusal-stays w ls (q f) e (nodesAt rep 0 (reported e)) b k rep c
+      ∙ ap (λ (n : ℕ). performC w ls (refuse e (nodesAt rep 0 n)) (cameTo ls b k rep c)) z
+      ∙ ap (λ (x : Rule). performC w ls x (cameTo ls b k rep c)) (sym (s f));
 }
 
 -- ---- a push
@@ -100,7 +94,7 @@ turn-push {ls} {b} {c} kind number t u e {b'} {r} n h p = record {
   taken = ap (λ (x : Run). x .taken) (p .0)
       ∙ cond-ind (λ (x : Run). x .taken ≡ c .taken) (going (c .halt)) (λ _. cond-ind (λ (x : Run). x .taken ≡ c .taken) (fitsBoard (c .board) (length t + length u)) (λ _. refl) (λ _. refl)) (λ _. refl);
   kept = λ k z. p .2 0 ls k [] z .kept;
-  outcome = λ w k rep z f. ap (performO (limitsWith w) (f 0)) (p .2 w ls k rep z .outcome);
+  outcome = λ w k rep z f. ap (performC w ls (f 0)) (p .2 w ls k rep z .outcome);
 }
 
 -- ---- the rule that a turn is

@@ -4,11 +4,9 @@ use mathlib.Core.List.{List}
 use Prim.Native.Nat.{ℕ, _≤_}
 use Rattle.spelling.specs.declared.Triple.{Triple}
 use Rattle.judgment.specs.Board.{Rule}
-use Rattle.judgment.specs.Chain.{performO}
-use Rattle.judgment.specs.Result.{limitsWith}
 use Rattle.board.specs.Board.{Stacked}
 use Rattle.operations.specs.declared.Run.{Run}
-use Rattle.operations.specs.State.{outcomeOf, WellFormed}
+use Rattle.operations.specs.State.{cameTo, performC, WellFormed}
 
 -- what code that has no book asks of board and counters
 pub record Ready (b : List ℕ) (c : Run) : Type 0 where
@@ -21,4 +19,4 @@ pub record Turn {A : Type 0} (ls : List Triple) (b : List ℕ) (c : Run) (p : (A
   pub taken : r .taken ≡ c .taken
   pub kept : (k : List ℕ) → WellFormed b k c → WellFormed b' k r
   pub outcome : (w : ℕ) (k rep : List ℕ) → WellFormed b k c → (f : A → Rule)
-      → performO (limitsWith w) (q f) (outcomeOf ls b' k rep r) ≡ performO (limitsWith w) (p f) (outcomeOf ls b k rep c)
+      → performC w ls (q f) (cameTo ls b' k rep r) ≡ performC w ls (p f) (cameTo ls b k rep c)

@@ -119,11 +119,16 @@ unfoldable pub isPlain : List Triple → Bool
 isPlain [] = true
 isPlain (t ∷ ts) = not (eqb (t .kind) 14 || eqb (t .kind) 25) && isPlain ts
 
+-- a term as it stands on the sheet: the number of its first line, from 0, and its lines
+pub record Term : Type 0 where
+  pub line : ℕ
+  pub lines : List Triple
+
 pub record Plan : Type 0 where
   pub constructors : Bindings
   pub context : Bindings
   pub expected : Ty
-  pub term : List Triple
+  pub term : Term
   pub plain : Bool
 
 unfoldable pub planOf : List Triple → Plan
@@ -131,6 +136,6 @@ planOf ls = record {
   constructors = bindingsIn 1 ls (declarations ls 0 0);
   context = bindingsIn 2 ls (declarations ls 0 0);
   expected = nodesOf (takeParts partsOf (drop (placesOf ls .expected) ls) 1);
-  term = drop (placesOf ls .term) ls;
+  term = record { line = placesOf ls .term; lines = drop (placesOf ls .term) ls };
   plain = isPlain ls;
 }

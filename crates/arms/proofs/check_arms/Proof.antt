@@ -4,7 +4,8 @@ use mathlib.Core.List.{List}
 use Prim.Native.Nat.{ℕ, _+_, _*_, _-_, _≤_, _<_}
 use native.Mathlib.Omega.{arith}
 use denote.Ref.{now}
-use lib.ListN.{length, drop}
+use lib.ListN.{length}
+use Rattle.board.specs.Board.{fromLine}
 use Rattle.nodes.specs.Nodes.{Ty, nodesAt}
 use Rattle.sheet.specs.Rows.{rows}
 use Rattle.arms.specs.Arms.{NarrowArms}
@@ -13,7 +14,7 @@ use Rattle.arms.proofs.check_arms.Statement.{statement}
 use Rattle.arms.proofs.check_arms.Tie as tie
 
 abbrev Inv-loop : tie.InvT-loop
-Inv-loop board₀ s line n u w₀ v₀ l₀ r₀ t ta tn run₀ at₀ left₀ board w v l r run at left = Arms (rows s) u (nodesAt t ta tn) board₀ run₀ n (drop line (rows s)) board run left at × (at ≤ length (rows s)) × NarrowArms left (drop at (rows s)) × (length board ≡ length board₀) × (length w ≡ length w₀) × (length v ≡ length v₀) × (length l ≡ length l₀) × (length r ≡ length r₀)
+Inv-loop board₀ s line n u w₀ v₀ l₀ r₀ t ta tn run₀ at₀ left₀ board w v l r run at left = Arms (rows s) u (nodesAt t ta tn) board₀ run₀ n (fromLine (rows s) line) board run left at × (at ≤ length (rows s)) × NarrowArms left (fromLine (rows s) at) × (length board ≡ length board₀) × (length w ≡ length w₀) × (length v ≡ length v₀) × (length l ≡ length l₀) × (length r ≡ length r₀)
 
 abbrev μ-loop : tie.MeasureT-loop
 μ-loop board₀ s line n u w₀ v₀ l₀ r₀ t ta tn run₀ at₀ left₀ board w v l r run at left = left
@@ -41,7 +42,7 @@ check-arm-requires c κs =
         ready = h .0 .ready;
         lent = record { sheet = q .sheet; low = q .low; frames = omega arith; rows = omega arith; left = omega arith; right = omega arith; type = q .type };
         within = h .1;
-        narrow = narrow-arms (L .left) (drop (L .at) ls) (c .before .before .before .before .before .loop-test .taken) (h .2) .0;
+        narrow = narrow-arms (L .left) (fromLine ls (L .at)) (c .before .before .before .before .before .loop-test .taken) (h .2) .0;
       },
       c .before .before .before .before .before .before .before .before .before .before .before .before .before .before .pre .1,
     )
@@ -56,7 +57,7 @@ loop-again c =
     let h = L .inv in
     let K = c .before .before .before .before .before .before .before .before .before .before .before .check-arm .kept in
     let A = c .before .before .before .before .before .before .before .before .before .before .before .check-arm .ensures in
-    (arms-turn ls (a .u) T (a .n) (drop (a .line) ls) (L .left) (L .at) (c .before .before .before .before .before .before .before .before .before .before .before .before .before .before .before .before .before .loop-test .taken) (h .0) A, A .within, subst⁻¹ (NarrowArms (L .left - 1)) (A .after) (narrow-arms (L .left) (drop (L .at) ls) (c .before .before .before .before .before .before .before .before .before .before .before .before .before .before .before .before .before .loop-test .taken) (h .2) .1), K .0 ∙ h .3, K .1 .1 .1 .1 .1 .0 ∙ h .4, K .1 .1 .1 .1 .1 .1 .0 ∙ h .5, K .1 .1 .1 .1 .1 .1 .1 .0 ∙ h .6, K .1 .1 .1 .1 .1 .1 .1 .1 .0 ∙ h .7)
+    (arms-turn ls (a .u) T (a .n) (fromLine ls (a .line)) (L .left) (L .at) (c .before .before .before .before .before .before .before .before .before .before .before .before .before .before .before .before .before .loop-test .taken) (h .0) A, A .within, subst⁻¹ (NarrowArms (L .left - 1)) (A .after) (narrow-arms (L .left) (fromLine ls (L .at)) (c .before .before .before .before .before .before .before .before .before .before .before .before .before .before .before .before .before .loop-test .taken) (h .2) .1), K .0 ∙ h .3, K .1 .1 .1 .1 .1 .0 ∙ h .4, K .1 .1 .1 .1 .1 .1 .0 ∙ h .5, K .1 .1 .1 .1 .1 .1 .1 .0 ∙ h .6, K .1 .1 .1 .1 .1 .1 .1 .1 .0 ∙ h .7)
 
 same-length : tie.Need-same-length Inv-loop μ-loop
 same-length c = c .before .loop .inv .3
@@ -81,7 +82,7 @@ returns c =
     let T : Ty = nodesAt (now (a .t)) (a .ta) (a .tn) in
     let L = c .before .loop in
     let h = L .inv in
-    arms-does ls (a .u) T (a .n) (drop (a .line) ls) (L .left) (L .at) (h .0) (let z = c .loop-test .left in omega arith)
+    arms-does ls (a .u) T (a .n) (fromLine ls (a .line)) (L .left) (L .at) (h .0) (let z = c .loop-test .left in omega arith)
 
 pub check-arms-spec : {M : Type 1} → statement M
 check-arms-spec =

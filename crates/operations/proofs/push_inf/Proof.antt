@@ -1,13 +1,13 @@
 use borrow.Author.Needs.{needs}
 use mathlib.Core.Path.{refl}
 use Rattle.nodes.specs.Nodes.{nodesAt}
-use Rattle.board.specs.Board.{entryOf}
+use Rattle.board.specs.Board.{entryOf, termAt}
 use Rattle.operations.proofs.Entries.{one-type}
 use Rattle.operations.proofs.push_inf.Statement.{statement}
 use Rattle.operations.proofs.push_inf.Tie as tie
 
 push-requires : tie.Need-push-requires
-unfolding entryOf
+unfolding entryOf termAt
 push-requires c κs = let p = c .before .before .before .pre in one-type 4 _ (λ ls t u. refl) (p .0) (p .1)
 
 returns : tie.Need-returns
