@@ -1,4 +1,5 @@
 // A data constructor's type, opened: a fresh unknown for each quantifier at its front (worklist.rs: `instantiate_constructor_type`), and the rule for a Constructor.
+ghost use mathlib.Core.Path.{_≡_};
 ghost use mathlib.Core.Option.{some};
 ghost use Prim.Native.Nat.{ℕ, _+_, _*_, _≤_};
 ghost use lib.ListN.{length, take, drop};
@@ -10,7 +11,7 @@ ghost use Rattle.board.specs.Board.{Stacked};
 ghost use Rattle.operations.specs.State.{PerformsOnBoard};
 ghost use Rattle.nodes.specs.Lists.{All};
 ghost use Rattle.sheet.specs.Plan.{Narrow};
-ghost use Rattle.constructors.specs.Opening.{Named, Copied, OpenAsk, Opens};
+ghost use Rattle.constructors.specs.Opening.{Named, Copied, OpenAsk, openedOut, Opens};
 use core_types::apply_type_substitutions;
 use core_types::front_count;
 use operations::Run;
@@ -75,8 +76,7 @@ pub fn instantiate_constructor_type(
     }
 }
 
-// The rule for a Constructor whose type stands at those lines: opened, it must be below t. The contract leaves open the words of the board above its entries, and those
-// of `out`, which is scratch.
+// The rule for a Constructor whose type stands at those lines: opened, in `out`, it must be below t.
 pub fn infer_constructor(
     board: &mut [u32],
     c: Run,
@@ -89,7 +89,7 @@ pub fn infer_constructor(
     tn: usize,
 ) -> Run
     requires { ⌜ OpenAsk (now board) c (rows (now s)) first n (now out) × (ta + 2 * tn ≤ length (now t)) ⌝ }
-    ensures { λ r. ⌜ ((E : Env) (x : ℕ) → PerformsOnBoard (now (board .entry)) c (λ ls. constructor E x (nodesAt (now (t .entry)) ta tn) (some (nodesOf (take n (drop first (rows (now (s .entry)))))))) (now (board .exit)) r) ⌝ }
+    ensures { λ r. ⌜ ((E : Env) (x : ℕ) → PerformsOnBoard (now (board .entry)) c (λ ls. constructor E x (nodesAt (now (t .entry)) ta tn) (some (nodesOf (take n (drop first (rows (now (s .entry)))))))) (now (board .exit)) r) × (now (out .exit) ≡ openedOut (nodesOf (take n (drop first (rows (now (s .entry)))))) (c .fresh) (now (out .entry))) ⌝ }
 {
     let o = instantiate_constructor_type(board, c, s, first, n, out);
     let run = o.run;

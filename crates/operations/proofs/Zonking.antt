@@ -126,6 +126,15 @@ module _ (c : Run) (t : Ty) (to w : ℕ) where
       by true p false q = let u : z ≡ record { run = stopped c TypeTooLong; nodes = 0 } = e ∙ rw (p, q) in let v = ap (λ (d : Zonked). d .nodes) u in omega arith
       by false p y q = let u : z ≡ record { run = c; nodes = 0 } = e ∙ rw p in let v = ap (λ (d : Zonked). d .nodes) u in omega arith
 
+  -- no number is made
+  pub zonk-fresh : zonkRun c t to w .run .fresh ≡ c .fresh
+  zonk-fresh = by (going (c .halt)) (leb (to + length t) (to + w))
+    where
+      by : (x y : Bool) → cond x (zonkBy (cond y (Fits (to + length t)) Over) c to) (record { run = c; nodes = 0 }) .run .fresh ≡ c .fresh
+      by true true = refl
+      by true false = refl
+      by false y = refl
+
   -- what stands before it stays
   pub zonk-below : (rep rep' : List ℕ) → rep' ≡ zonkWords rep c t to w → (p m : ℕ) → p + 2 * m ≤ 2 * to → nodesAt rep' p m ≡ nodesAt rep p m
   zonk-below rep rep' e p m h = ap (λ (x : List ℕ). nodesAt x p m) e ∙ by (going (c .halt))

@@ -148,7 +148,7 @@ abbrev pub performC : ℕ → List Triple → Rule → Came → Came
 performC w ls p o = record { outcome = performO (limitsWith w) p (o .outcome); words = performW w ls p (o .words) }
 
 -- What code that performs a rule leaves, w being the limit of a write-out and ls the lines of the sheet: the outcome that the definition has, and every word of board and book.
--- The report is fixed as far as it holds types that a refusal reports. Beside that a rule writes to it as it does to any room that it is lent: what stands there after it is left free.
+-- The report is fixed as far as it holds types that a refusal reports. Beside that code writes to it as it does to any room that it is lent: a function's contract says which words.
 pub record Does (w : ℕ) (ls : List Triple) (b k rep : List ℕ) (c : Run) (p : Rule) (b' k' rep' : List ℕ) (r : Run) : Type 0 where
   pub kept : WellFormed b' k' r
   pub taken : r .taken ≡ c .taken

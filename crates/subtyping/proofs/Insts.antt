@@ -11,7 +11,7 @@ use borrow.Author.Tests.{ne-eqb, eqb-false}
 use Rattle.nodes.specs.Nodes.{Ty, nodesAt}
 use Rattle.nodes.specs.Lists.{All}
 use Rattle.spelling.specs.declared.Triple.{Triple}
-use Rattle.judgment.specs.Types.{unknown, first, rest, View, isArrow, isApp, isUnknown, isOther, view}
+use Rattle.judgment.specs.Types.{unknown, first, rest, View, isArrow, isApp, isForall, isUnknown, isOther, view, isMonotype}
 use Rattle.judgment.specs.Solutions.{Free, keys}
 use Rattle.judgment.specs.Board.{Rule, done, solve, look, before}
 use Rattle.judgment.specs.Board.{Board as Entries}
@@ -21,7 +21,7 @@ use Rattle.book.specs.Book.{sols}
 use Rattle.operations.specs.declared.Run.{Run}
 use Rattle.operations.specs.State.{Does, Solves}
 use Rattle.operations.proofs.Then.{does-as, look-then}
-use Rattle.subtyping.specs.Subtyping.{shapeOf, sideOf, Made, splitBy, SplitAsk, MonoAsk, InstAsk}
+use Rattle.subtyping.specs.Subtyping.{shapeOf, sideOf, Made, splitBy, monoReport, instReport, SplitAsk, MonoAsk, InstAsk}
 use Rattle.subtyping.proofs.Shapes.{arrow-view, app-view, unknown-view, other-view, unknown-is}
 
 -- ---- the rule by its view
@@ -103,3 +103,23 @@ module _ {b k rep : List ℕ} {c : Run} {x at n : ℕ} (a : InstAsk b k rep c x 
 
     pub by-other : s ≢ 1 → s ≢ 2 → s ≢ 4 → solveMonotype x T ≡ instantiate (sideOf d) x T
     by-other f g h = inst-other d x T (other-view rep at n (λ z. f (e ∙ z)) (λ z. g (e ∙ z)) (a .flat) (λ z. h (e ∙ z)))
+
+  -- ---- every word of the report
+  module _ {s : ℕ} (e : s ≡ shapeOf (view T)) where
+    pub report-stays : s ≢ 5 → rep ≡ instReport rep T (view T)
+    report-stays h = by (view T) (λ z. h (e ∙ z))
+      where
+        by : (v : View) → shapeOf v ≢ 5 → rep ≡ instReport rep T v
+        by (isArrow a b) h = refl
+        by (isApp a b) h = refl
+        by (isForall x b) h = refl
+        by (isUnknown k) h = refl
+        by isOther h = absurd (h refl)
+
+    -- an unknown is a monotype
+    pub report-unknown : s ≡ 4 → monoReport rep T ≡ instReport rep T (view T)
+    unfolding isMonotype
+    report-unknown h = ap (monoReport rep) (unknown-is rep at n (a .some) (sym e ∙ h)) ∙ report-stays (λ z. omega arith)
+
+    pub report-other : s ≢ 1 → s ≢ 2 → s ≢ 4 → monoReport rep T ≡ instReport rep T (view T)
+    report-other f g h = ap (instReport rep T) (sym (other-view rep at n (λ z. f (e ∙ z)) (λ z. g (e ∙ z)) (a .flat) (λ z. h (e ∙ z))))

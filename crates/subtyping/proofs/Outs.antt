@@ -1,6 +1,6 @@
 -- A sound type, written out, may be compared; two write-outs one after the other. Assumes nothing.
-use mathlib.Core.Path.{_≡_, refl, sym, ap, _∙_, subst⁻¹}
-use mathlib.Core.Bool.{true, false, cond}
+use mathlib.Core.Path.{_≡_, refl, sym, ap, ap₂, _∙_, subst⁻¹}
+use mathlib.Core.Bool.{Bool, true, false, cond}
 use mathlib.Core.List.{List, [], _∷_}
 use Prim.Native.Nat.{ℕ, zero, suc, _+_, _*_, _≤_, _<_}
 use native.Mathlib.Nat.{le-trans}
@@ -23,9 +23,9 @@ use Rattle.operations.specs.declared.Run.{Run}
 use Rattle.operations.specs.declared.Zonked.{Zonked}
 use Rattle.operations.specs.State.{WellFormed, Does, going, zonkRun, zonkWords, ZonkAsk, Zonks}
 use Rattle.operations.proofs.Latch.{going-is, stays-does}
-use Rattle.operations.proofs.Zonking.{zonk-few, zonk-below}
+use Rattle.operations.proofs.Zonking.{zonk-few, zonk-fresh, zonk-below}
 use Rattle.operations.proofs.Then.{does-as, done-does, zonk-then, alive, grows}
-use Rattle.subtyping.specs.Subtyping.{Made, Written, Sound, SubAsk, SubtypeAsk}
+use Rattle.subtyping.specs.Subtyping.{Made, shapesReport, twiceReport, Written, Sound, SubAsk, SubtypeAsk}
 
 some-node : (t : Ty) → Whole nodeParts t 1 → 0 < length t
 some-node [] h = absurd (let z : 1 ≡ 0 = h in omega arith)
@@ -89,19 +89,21 @@ module _ {b k rep : List ℕ} {c : Run} {at fn tn w : ℕ} (p : SubtypeAsk b k r
       first-stays = zonk-below (z .run) (writeOut (sols k) t) (z .nodes) w rep₁ rep₂ q 0 (z .nodes) (omega arith)
 
       -- where the run goes on, both types are written out
+      outs : going (y .run .halt) ≡ true → (F ≡ writeOut (sols k) f) × (T ≡ writeOut (sols k) t)
+      outs g = (first-stays ∙ Z₁ .nodes (going-is _ (alive (D₂ []) g)), Z₂ .nodes (going-is _ g))
+
       pub both-asks : going (y .run .halt) ≡ true → SubAsk b k rep₂ (y .run) (z .nodes) (y .nodes)
       both-asks g =
           let later : c .fresh ≤ y .run .fresh = let m = grows (D₁ []) in let n = grows (D₂ []) in omega arith in
           let lim = p .limit in
           let l₁ : length F ≤ 4096 = let s = few₁ in omega (arith, length-nodesAt rep₂ 0 (z .nodes)) in
           let l₂ : length T ≤ 4096 = let s = zonk-few (z .run) (writeOut (sols k) t) (z .nodes) w e₂ in omega (arith, length-nodesAt rep₂ (2 * z .nodes) (y .nodes)) in
-          let g₁ = alive (D₂ []) g in
           record {
             formed = D₂ [] .kept;
             goes = g;
             within = Z₂ .within;
-            left = written-out (D₂ [] .kept) (c .fresh) later (p .solutions) f F (p .left) (first-stays ∙ Z₁ .nodes (going-is _ g₁)) l₁;
-            right = written-out (D₂ [] .kept) (c .fresh) later (p .solutions) t T (p .right) (Z₂ .nodes (going-is _ g)) l₂;
+            left = written-out (D₂ [] .kept) (c .fresh) later (p .solutions) f F (p .left) (outs g .0) l₁;
+            right = written-out (D₂ [] .kept) (c .fresh) later (p .solutions) t T (p .right) (outs g .1) l₂;
           }
 
       -- the rest of the rule, with the two types as they stand in the report
@@ -117,6 +119,28 @@ module _ {b k rep : List ℕ} {c : Run} {at fn tn w : ℕ} (p : SubtypeAsk b k r
       pub twice-done : (ls : List Triple) (G : Ty → Ty → Rule) → G F T ≡ done → Does w ls b k rep c (zonk f (λ (x : Ty). zonk t (G x))) b k rep₂ (y .run)
       twice-done ls G e = twice-then ls G (does-as (λ _. sym e) (done-does (D₂ ls .kept)))
 
+      -- every word of the report: the write-outs', and then what G makes of them, with the two types as they stand there
+      module _ (q₁ : rep₁ ≡ zonkWords rep c (writeOut (sols k) f) 0 w) where
+        twice-report : {g : Bool} → going (y .run .halt) ≡ g → (G : List ℕ → List ℕ) → cond g (G rep₂) rep₂ ≡ twiceReport rep c (writeOut (sols k) f) (writeOut (sols k) t) w G
+        twice-report h G =
+            ap₂ (λ (x : Bool) (o : List ℕ). cond x (G o) o) (sym h ∙ ap (λ (v : Zonked). going (v .run .halt)) (e₂ ∙ ap (λ (v : Zonked). zonkRun (v .run) (writeOut (sols k) t) (v .nodes) w) e₁))
+            (q ∙ ap₂ (λ (x : List ℕ) (v : Zonked). zonkWords x (v .run) (writeOut (sols k) t) (v .nodes) w) q₁ e₁)
+
+        fresh-is : y .run .fresh ≡ c .fresh
+        fresh-is =
+            ap (λ (v : Zonked). v .run .fresh) e₂ ∙ zonk-fresh (z .run) (writeOut (sols k) t) (z .nodes) w
+            ∙ ap (λ (v : Zonked). v .run .fresh) e₁ ∙ zonk-fresh c (writeOut (sols k) f) 0 w
+
+        pub report-then : (G : ℕ → Ty → Ty → List ℕ → List ℕ) → going (y .run .halt) ≡ true → {rep' : List ℕ} → rep' ≡ G (y .run .fresh) F T rep₂
+            → rep' ≡ twiceReport rep c (writeOut (sols k) f) (writeOut (sols k) t) w (G (c .fresh) (writeOut (sols k) f) (writeOut (sols k) t))
+        report-then G g e =
+            e ∙ ap (λ (n : ℕ). G n F T rep₂) fresh-is ∙ ap₂ (λ (l r : Ty). G (c .fresh) l r rep₂) (outs g .0) (outs g .1)
+            ∙ twice-report g (G (c .fresh) (writeOut (sols k) f) (writeOut (sols k) t))
+
+        pub report-stays : (G : ℕ → Ty → Ty → List ℕ → List ℕ) → going (y .run .halt) ≡ false
+            → rep₂ ≡ twiceReport rep c (writeOut (sols k) f) (writeOut (sols k) t) w (G (c .fresh) (writeOut (sols k) f) (writeOut (sols k) t))
+        report-stays G g = twice-report g (G (c .fresh) (writeOut (sols k) f) (writeOut (sols k) t))
+
 -- ---- Sub on its two written-out types
 abbrev pub compared : Ty → Ty → Rule
 compared l r = cond (eqTy l r) done (subtypeBy l r (view l) (view r))
@@ -126,3 +150,13 @@ same-done l r e = rw e
 
 pub other-shapes : (l r : Ty) → eqTy l r ≡ false → subtypeBy l r (view l) (view r) ≡ compared l r
 other-shapes l r e = rw e
+
+abbrev pub comparedReport : ℕ → Ty → Ty → List ℕ → List ℕ
+comparedReport u l r out = cond (eqTy l r) out (shapesReport out u l r (view r))
+
+module _ (u : ℕ) (l r : Ty) (out : List ℕ) where
+  pub same-report : eqTy l r ≡ true → out ≡ comparedReport u l r out
+  same-report e = rw e
+
+  pub other-report : eqTy l r ≡ false → shapesReport out u l r (view r) ≡ comparedReport u l r out
+  other-report e = rw e

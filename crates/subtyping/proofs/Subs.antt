@@ -6,7 +6,7 @@ use mathlib.Core.List.{List, [], _∷_, _++_}
 use Prim.Native.Nat.{ℕ, _+_, _*_, _-_, _≤_, _<_}
 use native.Mathlib.Omega.{arith}
 use lib.ListN.{length, getD}
-use Rattle.nodes.specs.Nodes.{Ty, nodesAt}
+use Rattle.nodes.specs.Nodes.{node, Ty, nodesAt}
 use Rattle.nodes.specs.Lists.{All}
 use Rattle.nodes.proofs.Laws.{length-nodesAt, nodesAt-append}
 use Rattle.judgment.specs.declared.TypeError.the-variants.{SubtypingError}
@@ -18,7 +18,7 @@ use Rattle.judgment.proofs.RuleLaws.{occurs-false}
 use Rattle.book.specs.Book.{sols}
 use Rattle.operations.specs.declared.Run.{Run}
 use Rattle.operations.specs.State.{WellFormed, going}
-use Rattle.subtyping.specs.Subtyping.{shapeOf, rightBy, partsBy, Written, InstAsk, PartsAsk, OpenAsk, SubAsk}
+use Rattle.subtyping.specs.Subtyping.{shapeOf, rightBy, partsBy, openedAt, instReport, rightReport, unknownReport, leftReport, shapesReport, Written, InstAsk, PartsAsk, OpenAsk, SubAsk}
 use Rattle.subtyping.proofs.Shapes.{arrow-view, app-view, forall-view, unknown-view, unknown-is}
 
 both-free : (x : ℕ) (ks : List ℕ) (t : Ty) → All (Avoids x) t → All (Free ks) t → All (Free (x ∷ ks)) t
@@ -173,3 +173,58 @@ module _ {b k rep : List ℕ} {c : Run} {l r : ℕ} (a : SubAsk b k rep c l r) w
 
     pub by-mismatch : s ≢ 4 → refuse (SubtypingError l r) (nodesAt rep 0 (l + r)) ≡ rightBy L R (view R)
     by-mismatch h = mismatch-is ∙ right-other L R (view R) (λ z. h (e ∙ z))
+
+  -- ---- every word of the report
+  pub report-left-occurs : {o p : Bool} → o ≡ occurs (getD rep 1 0) R → o ≡ p → cond p (rightReport rep L (view R)) (instReport rep R (view R)) ≡ unknownReport rep (getD rep 1 0) L R
+  report-left-occurs e q = ap (λ (z : Bool). cond z (rightReport rep L (view R)) (instReport rep R (view R))) (sym q ∙ e)
+
+  module _ {s : ℕ} (e : s ≡ shapeOf (view R)) where
+    pub report-right-occurs : s ≡ 4 → {o p : Bool} → o ≡ occurs (getD rep (2 * l + 1) 0) L → o ≡ p → cond p rep (instReport rep L (view L)) ≡ rightReport rep L (view R)
+    report-right-occurs h f q = ap (λ (z : Bool). cond z rep (instReport rep L (view L))) (sym q ∙ f) ∙ ap (rightReport rep L) (sym (unknown-view rep (2 * l) r (sym e ∙ h)))
+
+    pub report-mismatch : s ≢ 4 → rep ≡ rightReport rep L (view R)
+    report-mismatch h = by (view R) (λ z. h (e ∙ z))
+      where
+        by : (v : View) → shapeOf v ≢ 4 → rep ≡ rightReport rep L v
+        by (isArrow a b) h = refl
+        by (isApp a b) h = refl
+        by (isForall x b) h = refl
+        by (isUnknown k) h = absurd (h refl)
+        by isOther h = refl
+
+  module _ (u : ℕ) where
+    shapes-left : (w : View) → shapeOf w ≢ 3 → leftReport rep u L R (view L) ≡ shapesReport rep u L R w
+    shapes-left (isArrow b c) h = refl
+    shapes-left (isApp b c) h = refl
+    shapes-left (isForall y c) h = absurd (h refl)
+    shapes-left (isUnknown j) h = refl
+    shapes-left isOther h = refl
+
+    left-right : (v : View) → shapeOf v ≢ 3 → shapeOf v ≢ 4 → rightReport rep L (view R) ≡ leftReport rep u L R v
+    left-right (isArrow b c) h g = refl
+    left-right (isApp b c) h g = refl
+    left-right (isForall y c) h g = absurd (h refl)
+    left-right (isUnknown j) h g = absurd (g refl)
+    left-right isOther h g = refl
+
+    module _ {sl sr : ℕ} (el : sl ≡ shapeOf (view L)) (er : sr ≡ shapeOf (view R)) where
+      pub report-forall-right : sr ≡ 3 → openedAt rep (2 * l + 2) (getD rep (2 * l + 1) 0) (node 18 u) (nodesAt rep (2 * l + 2) (r - 1)) ≡ shapesReport rep u L R (view R)
+      report-forall-right e =
+          ap (λ (m : ℕ). openedAt rep (2 * m + 2) (getD rep (2 * l + 1) 0) (node 18 u) (nodesAt rep (2 * l + 2) (r - 1))) (sym (length-nodesAt rep 0 l))
+          ∙ ap (shapesReport rep u L R) (sym (forall-view rep (2 * l) r (sym er ∙ e)))
+
+      module _ (h : sr ≢ 3) where
+        by-left : {v : View} → view L ≡ v → leftReport rep u L R v ≡ shapesReport rep u L R (view R)
+        by-left e = ap (leftReport rep u L R) (sym e) ∙ shapes-left (view R) (λ z. h (er ∙ z))
+
+        pub report-forall-left : sl ≡ 3 → openedAt rep 2 (getD rep 1 0) (node 17 u) (nodesAt rep 2 (l - 1)) ≡ shapesReport rep u L R (view R)
+        report-forall-left e = by-left (forall-view rep 0 l (sym el ∙ e))
+
+        pub report-unknown-left : sl ≡ 4 → unknownReport rep (getD rep 1 0) L R ≡ shapesReport rep u L R (view R)
+        report-unknown-left e = by-left (unknown-view rep 0 l (sym el ∙ e))
+
+        pub report-right : sl ≢ 3 → sl ≢ 4 → rightReport rep L (view R) ≡ shapesReport rep u L R (view R)
+        report-right f g = left-right (view L) (λ z. f (el ∙ z)) (λ z. g (el ∙ z)) ∙ by-left refl
+
+        pub report-parts : sl ≢ 3 → sl ≢ 4 → sr ≢ 4 → rep ≡ shapesReport rep u L R (view R)
+        report-parts f g i = report-mismatch er i ∙ report-right f g

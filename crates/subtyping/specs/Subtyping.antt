@@ -1,20 +1,21 @@
--- What the code of Sub cites: a type's view as a number, and what a call asks. Assumes nothing: these are definitions.
+-- What the code of Sub cites: a type's view as a number, the words that it leaves in the report, and what a call asks. Assumes nothing: these are definitions.
 use mathlib.Core.Path.{_≡_}
 use mathlib.Core.Logic.{_≢_}
 use mathlib.Core.Bool.{Bool, true, false, cond}
 use mathlib.Core.List.{List, [], _∷_, _++_}
 use Prim.Native.Nat.{ℕ, zero, suc, _+_, _*_, _-_, _≤_, _<_}
 use lib.ListN.{length}
-use Rattle.nodes.specs.Nodes.{Node, node, Ty, kind, number, nodeParts, nodesAt}
+use lib.Seq.{sets}
+use Rattle.nodes.specs.Nodes.{Node, node, Ty, kind, number, nodeParts, words, nodesAt}
 use Rattle.nodes.specs.Parts.{Whole}
 use Rattle.nodes.specs.Lists.{All}
-use Rattle.judgment.specs.Types.{unknown, first, rest, View, isArrow, isApp, isForall, isUnknown, isOther, view, eqTy}
+use Rattle.judgment.specs.Types.{unknown, first, rest, View, isArrow, isApp, isForall, isUnknown, isOther, view, eqTy, occurs, isMonotype, substitute}
 use Rattle.judgment.specs.Solutions.{value, Free, keys}
 use Rattle.judgment.specs.Board.{tvar, sub, Rule, done, fresh, push, solve, _>>=_, _>>_}
 use Rattle.judgment.specs.Rules.{Side, left, right, onSide, mismatch, unknownRight, subtypeBy}
 use Rattle.book.specs.Book.{sols, Booked}
 use Rattle.operations.specs.declared.Run.{Run}
-use Rattle.operations.specs.State.{WellFormed, going, Solves}
+use Rattle.operations.specs.State.{WellFormed, going, Solves, zonkRun, zonkWords}
 
 -- a view as a number: the constants of the code
 abbrev pub shapeOf : View → ℕ
@@ -63,6 +64,63 @@ partsBy false l r = do
   push (sub (rest l) (rest r))
   done
 
+-- ---- every word of the report after, of which rep are those before
+-- a type with u put for the name x, laid at word `at`
+abbrev pub openedAt : List ℕ → ℕ → ℕ → Node → Ty → List ℕ
+openedAt rep at x u t = sets rep at (words (substitute x u t))
+
+-- a type that is no monotype is moved to the front
+abbrev pub monoReport : List ℕ → Ty → List ℕ
+monoReport rep t = cond (isMonotype t) rep (sets rep 0 (words t))
+
+-- instantiation with t; none is asked for with a quantifier in front
+abbrev pub instReport : List ℕ → Ty → View → List ℕ
+instReport rep t (isArrow a b) = rep
+instReport rep t (isApp a b) = rep
+instReport rep t (isForall x b) = rep
+instReport rep t (isUnknown k) = rep
+instReport rep t isOther = monoReport rep t
+
+-- the right side alone, by its view
+abbrev pub rightReport : List ℕ → Ty → View → List ℕ
+rightReport rep l (isArrow a b) = rep
+rightReport rep l (isApp a b) = rep
+rightReport rep l (isForall x b) = rep
+rightReport rep l (isUnknown k) = cond (occurs k l) rep (instReport rep l (view l))
+rightReport rep l isOther = rep
+
+-- the unknown k on the left
+abbrev pub unknownReport : List ℕ → ℕ → Ty → Ty → List ℕ
+unknownReport rep k l r = cond (occurs k r) (rightReport rep l (view r)) (instReport rep r (view r))
+
+-- no quantifier on the right: by the view of the left, u being the next fresh number
+abbrev pub leftReport : List ℕ → ℕ → Ty → Ty → View → List ℕ
+leftReport rep u l r (isArrow a b) = rightReport rep l (view r)
+leftReport rep u l r (isApp a b) = rightReport rep l (view r)
+leftReport rep u l r (isForall x a) = openedAt rep 2 x (node 17 u) a
+leftReport rep u l r (isUnknown k) = unknownReport rep k l r
+leftReport rep u l r isOther = rightReport rep l (view r)
+
+-- l and r, one after the other in the report and not the same: by the view of the right
+abbrev pub shapesReport : List ℕ → ℕ → Ty → Ty → View → List ℕ
+shapesReport rep u l r (isArrow a b) = leftReport rep u l r (view l)
+shapesReport rep u l r (isApp a b) = leftReport rep u l r (view l)
+shapesReport rep u l r (isForall x b) = openedAt rep (2 * length l + 2) x (node 18 u) b
+shapesReport rep u l r (isUnknown k) = leftReport rep u l r (view l)
+shapesReport rep u l r isOther = leftReport rep u l r (view l)
+
+-- l and r written out, one after the other, and then f of that while the run goes on
+abbrev pub twiceReport : List ℕ → Run → Ty → Ty → ℕ → (List ℕ → List ℕ) → List ℕ
+twiceReport rep c l r w f =
+    let z = zonkRun c l 0 w in
+    let out = zonkWords (zonkWords rep c l 0 w) (z .run) r (z .nodes) w in
+    cond (going (zonkRun (z .run) r (z .nodes) w .run .halt)) (f out) out
+
+-- Sub of types that are l and r when written out
+abbrev pub subtypeReport : List ℕ → Run → Ty → Ty → ℕ → List ℕ
+subtypeReport rep c l r w = twiceReport rep c l r w (λ out. cond (eqTy l r) out (shapesReport out (c .fresh) l r (view r)))
+
+-- ---- what a call asks
 -- A pair of kind 13 or 15 for the unsolved x, and a type whose parts are compared.
 pub record SplitAsk (b k : List ℕ) (c : Run) (kind x : ℕ) (t : List ℕ) (at n : ℕ) : Type 0 where
   pub formed : WellFormed b k c

@@ -5,14 +5,16 @@ ghost use mathlib.Core.Bool.{true};
 ghost use mathlib.Core.List.{List};
 ghost use Prim.Native.Nat.{ℕ, _+_, _*_, _-_, _≤_, _<_};
 ghost use lib.ListN.{length, getD};
-ghost use Rattle.nodes.specs.Nodes.{nodesAt};
+ghost use Rattle.nodes.specs.Nodes.{node, nodesAt};
 ghost use Rattle.spelling.specs.declared.Triple.{Triple};
 ghost use Rattle.judgment.specs.Types.{view};
+ghost use Rattle.judgment.specs.Solutions.{writeOut};
 ghost use Rattle.judgment.specs.Board.{push as pushRule, done};
 ghost use Rattle.judgment.specs.Rules.{left as leftSide, right as rightSide, onSide, solveMonotype, instantiate as instantiateRule, forallRight, forallLeft, unknownLeft, subtypeBy, subtype as subtypeRule};
 ghost use Rattle.board.specs.Board.{Stacked};
+ghost use Rattle.book.specs.Book.{sols};
 ghost use Rattle.operations.specs.State.{WellFormed, Does, PerformsOnBoard, going};
-ghost use Rattle.subtyping.specs.Subtyping.{shapeOf, sideOf, splitBy, rightBy, partsBy, SplitAsk, MonoAsk, InstAsk, PartsAsk, OpenAsk, SubAsk, SubtypeAsk};
+ghost use Rattle.subtyping.specs.Subtyping.{shapeOf, sideOf, splitBy, rightBy, partsBy, openedAt, monoReport, instReport, rightReport, unknownReport, shapesReport, subtypeReport, SplitAsk, MonoAsk, InstAsk, PartsAsk, OpenAsk, SubAsk, SubtypeAsk};
 use board::before;
 use core_types::first_part;
 use core_types::is_monotype;
@@ -120,7 +122,7 @@ fn split(
 // Solves x with the n nodes at word `at` of the report, or refuses if there is a quantifier in them.
 fn solve_monotype(book: &mut [u32], report: &mut [u32], c: Run, x: u32, at: usize, n: usize) -> Run
     requires { ⌜ MonoAsk (now book) (now report) c x at n ⌝ }
-    ensures { λ r. ⌜ ((w : ℕ) (ls : List Triple) (b : List ℕ) → WellFormed b (now (book .entry)) c → Does w ls b (now (book .entry)) (now (report .entry)) c (solveMonotype x (nodesAt (now (report .entry)) at n)) b (now (book .exit)) (now (report .exit)) r) ⌝ }
+    ensures { λ r. ⌜ ((w : ℕ) (ls : List Triple) (b : List ℕ) → WellFormed b (now (book .entry)) c → Does w ls b (now (book .entry)) (now (report .entry)) c (solveMonotype x (nodesAt (now (report .entry)) at n)) b (now (book .exit)) (now (report .exit)) r) × (now (report .exit) ≡ monoReport (now (report .entry)) (nodesAt (now (report .entry)) at n)) ⌝ }
 {
     if is_monotype(report, at, n) {
         return solve_evar(book, c, x, report, at, n);
@@ -141,7 +143,7 @@ fn instantiate(
     n: usize,
 ) -> Run
     requires { ⌜ InstAsk (now board) (now book) (now report) c x at n ⌝ }
-    ensures { λ r. ⌜ ((w : ℕ) (ls : List Triple) → Does w ls (now (board .entry)) (now (book .entry)) (now (report .entry)) c (instantiateRule (sideOf left) x (nodesAt (now (report .entry)) at n)) (now (board .exit)) (now (book .exit)) (now (report .exit)) r) ⌝ }
+    ensures { λ r. ⌜ ((w : ℕ) (ls : List Triple) → Does w ls (now (board .entry)) (now (book .entry)) (now (report .entry)) c (instantiateRule (sideOf left) x (nodesAt (now (report .entry)) at n)) (now (board .exit)) (now (book .exit)) (now (report .exit)) r) × (now (report .exit) ≡ instReport (now (report .entry)) (nodesAt (now (report .entry)) at n) (view (nodesAt (now (report .entry)) at n))) ⌝ }
 {
     let s = shape(report, at, n);
     let body = at + 2;
@@ -173,7 +175,7 @@ pub fn instantiate_left(
     n: usize,
 ) -> Run
     requires { ⌜ InstAsk (now board) (now book) (now report) c x at n ⌝ }
-    ensures { λ r. ⌜ ((w : ℕ) (ls : List Triple) → Does w ls (now (board .entry)) (now (book .entry)) (now (report .entry)) c (instantiateRule leftSide x (nodesAt (now (report .entry)) at n)) (now (board .exit)) (now (book .exit)) (now (report .exit)) r) ⌝ }
+    ensures { λ r. ⌜ ((w : ℕ) (ls : List Triple) → Does w ls (now (board .entry)) (now (book .entry)) (now (report .entry)) c (instantiateRule leftSide x (nodesAt (now (report .entry)) at n)) (now (board .exit)) (now (book .exit)) (now (report .exit)) r) × (now (report .exit) ≡ instReport (now (report .entry)) (nodesAt (now (report .entry)) at n) (view (nodesAt (now (report .entry)) at n))) ⌝ }
 {
     instantiate(board, book, report, c, true, x, at, n)
 }
@@ -188,7 +190,7 @@ pub fn instantiate_right(
     n: usize,
 ) -> Run
     requires { ⌜ InstAsk (now board) (now book) (now report) c x at n ⌝ }
-    ensures { λ r. ⌜ ((w : ℕ) (ls : List Triple) → Does w ls (now (board .entry)) (now (book .entry)) (now (report .entry)) c (instantiateRule rightSide x (nodesAt (now (report .entry)) at n)) (now (board .exit)) (now (book .exit)) (now (report .exit)) r) ⌝ }
+    ensures { λ r. ⌜ ((w : ℕ) (ls : List Triple) → Does w ls (now (board .entry)) (now (book .entry)) (now (report .entry)) c (instantiateRule rightSide x (nodesAt (now (report .entry)) at n)) (now (board .exit)) (now (book .exit)) (now (report .exit)) r) × (now (report .exit) ≡ instReport (now (report .entry)) (nodesAt (now (report .entry)) at n) (view (nodesAt (now (report .entry)) at n))) ⌝ }
 {
     instantiate(board, book, report, c, false, x, at, n)
 }
@@ -224,7 +226,7 @@ fn push_parts(
 // A quantifier on the right: its name is replaced by a fresh universal.
 fn open_right(board: &mut [u32], report: &mut [u32], c: Run, l: usize, r: usize) -> Run
     requires { ⌜ OpenAsk (now board) (now report) c l r × (0 < r) ⌝ }
-    ensures { λ o. ⌜ ((w : ℕ) (ls : List Triple) (k : List ℕ) → WellFormed (now (board .entry)) k c → Does w ls (now (board .entry)) k (now (report .entry)) c (forallRight (nodesAt (now (report .entry)) 0 l) (nodesAt (now (report .entry)) (2 * l) r) (getD (now (report .entry)) (2 * l + 1) 0) (nodesAt (now (report .entry)) (2 * l + 2) (r - 1))) (now (board .exit)) k (now (report .exit)) o) ⌝ }
+    ensures { λ o. ⌜ ((w : ℕ) (ls : List Triple) (k : List ℕ) → WellFormed (now (board .entry)) k c → Does w ls (now (board .entry)) k (now (report .entry)) c (forallRight (nodesAt (now (report .entry)) 0 l) (nodesAt (now (report .entry)) (2 * l) r) (getD (now (report .entry)) (2 * l + 1) 0) (nodesAt (now (report .entry)) (2 * l + 2) (r - 1))) (now (board .exit)) k (now (report .exit)) o) × (now (report .exit) ≡ openedAt (now (report .entry)) (2 * l + 2) (getD (now (report .entry)) (2 * l + 1) 0) (node 18 (c .fresh)) (nodesAt (now (report .entry)) (2 * l + 2) (r - 1))) ⌝ }
 {
     let head = 2 * l;
     let at = head + 2;
@@ -240,7 +242,7 @@ fn open_right(board: &mut [u32], report: &mut [u32], c: Run, l: usize, r: usize)
 // A quantifier on the left: its name is replaced by a fresh unknown, after its marker.
 fn open_left(board: &mut [u32], report: &mut [u32], c: Run, l: usize, r: usize) -> Run
     requires { ⌜ OpenAsk (now board) (now report) c l r × (0 < l) ⌝ }
-    ensures { λ o. ⌜ ((w : ℕ) (ls : List Triple) (k : List ℕ) → WellFormed (now (board .entry)) k c → Does w ls (now (board .entry)) k (now (report .entry)) c (forallLeft (nodesAt (now (report .entry)) 0 l) (nodesAt (now (report .entry)) (2 * l) r) (getD (now (report .entry)) 1 0) (nodesAt (now (report .entry)) 2 (l - 1))) (now (board .exit)) k (now (report .exit)) o) ⌝ }
+    ensures { λ o. ⌜ ((w : ℕ) (ls : List Triple) (k : List ℕ) → WellFormed (now (board .entry)) k c → Does w ls (now (board .entry)) k (now (report .entry)) c (forallLeft (nodesAt (now (report .entry)) 0 l) (nodesAt (now (report .entry)) (2 * l) r) (getD (now (report .entry)) 1 0) (nodesAt (now (report .entry)) 2 (l - 1))) (now (board .exit)) k (now (report .exit)) o) × (now (report .exit) ≡ openedAt (now (report .entry)) 2 (getD (now (report .entry)) 1 0) (node 17 (c .fresh)) (nodesAt (now (report .entry)) 2 (l - 1))) ⌝ }
 {
     let name = report[1];
     let m = l - 1;
@@ -263,7 +265,7 @@ fn unknown_right(
     r: usize,
 ) -> Run
     requires { ⌜ SubAsk (now board) (now book) (now report) c l r × (shapeOf (view (nodesAt (now report) 0 l)) ≢ 3) ⌝ }
-    ensures { λ o. ⌜ ((w : ℕ) (ls : List Triple) → Does w ls (now (board .entry)) (now (book .entry)) (now (report .entry)) c (rightBy (nodesAt (now (report .entry)) 0 l) (nodesAt (now (report .entry)) (2 * l) r) (view (nodesAt (now (report .entry)) (2 * l) r))) (now (board .exit)) (now (book .exit)) (now (report .exit)) o) ⌝ }
+    ensures { λ o. ⌜ ((w : ℕ) (ls : List Triple) → Does w ls (now (board .entry)) (now (book .entry)) (now (report .entry)) c (rightBy (nodesAt (now (report .entry)) 0 l) (nodesAt (now (report .entry)) (2 * l) r) (view (nodesAt (now (report .entry)) (2 * l) r))) (now (board .exit)) (now (book .exit)) (now (report .exit)) o) × (now (report .exit) ≡ rightReport (now (report .entry)) (nodesAt (now (report .entry)) 0 l) (view (nodesAt (now (report .entry)) (2 * l) r))) ⌝ }
 {
     let right = 2 * l;
     if shape(report, right, r) == UNKNOWN {
@@ -286,7 +288,7 @@ fn unknown_left(
     r: usize,
 ) -> Run
     requires { ⌜ SubAsk (now board) (now book) (now report) c l r × (shapeOf (view (nodesAt (now report) 0 l)) ≡ 4) × (shapeOf (view (nodesAt (now report) (2 * l) r)) ≢ 3) ⌝ }
-    ensures { λ o. ⌜ ((w : ℕ) (ls : List Triple) → Does w ls (now (board .entry)) (now (book .entry)) (now (report .entry)) c (unknownLeft (nodesAt (now (report .entry)) 0 l) (nodesAt (now (report .entry)) (2 * l) r) (getD (now (report .entry)) 1 0) (rightBy (nodesAt (now (report .entry)) 0 l) (nodesAt (now (report .entry)) (2 * l) r) (view (nodesAt (now (report .entry)) (2 * l) r)))) (now (board .exit)) (now (book .exit)) (now (report .exit)) o) ⌝ }
+    ensures { λ o. ⌜ ((w : ℕ) (ls : List Triple) → Does w ls (now (board .entry)) (now (book .entry)) (now (report .entry)) c (unknownLeft (nodesAt (now (report .entry)) 0 l) (nodesAt (now (report .entry)) (2 * l) r) (getD (now (report .entry)) 1 0) (rightBy (nodesAt (now (report .entry)) 0 l) (nodesAt (now (report .entry)) (2 * l) r) (view (nodesAt (now (report .entry)) (2 * l) r)))) (now (board .exit)) (now (book .exit)) (now (report .exit)) o) × (now (report .exit) ≡ unknownReport (now (report .entry)) (getD (now (report .entry)) 1 0) (nodesAt (now (report .entry)) 0 l) (nodesAt (now (report .entry)) (2 * l) r)) ⌝ }
 {
     let right = 2 * l;
     let x = report[1];
@@ -306,7 +308,7 @@ fn subtype_shapes(
     r: usize,
 ) -> Run
     requires { ⌜ SubAsk (now board) (now book) (now report) c l r ⌝ }
-    ensures { λ o. ⌜ ((w : ℕ) (ls : List Triple) → Does w ls (now (board .entry)) (now (book .entry)) (now (report .entry)) c (subtypeBy (nodesAt (now (report .entry)) 0 l) (nodesAt (now (report .entry)) (2 * l) r) (view (nodesAt (now (report .entry)) 0 l)) (view (nodesAt (now (report .entry)) (2 * l) r))) (now (board .exit)) (now (book .exit)) (now (report .exit)) o) ⌝ }
+    ensures { λ o. ⌜ ((w : ℕ) (ls : List Triple) → Does w ls (now (board .entry)) (now (book .entry)) (now (report .entry)) c (subtypeBy (nodesAt (now (report .entry)) 0 l) (nodesAt (now (report .entry)) (2 * l) r) (view (nodesAt (now (report .entry)) 0 l)) (view (nodesAt (now (report .entry)) (2 * l) r))) (now (board .exit)) (now (book .exit)) (now (report .exit)) o) × (now (report .exit) ≡ shapesReport (now (report .entry)) (c .fresh) (nodesAt (now (report .entry)) 0 l) (nodesAt (now (report .entry)) (2 * l) r) (view (nodesAt (now (report .entry)) (2 * l) r))) ⌝ }
 {
     let right = 2 * l;
     let body = right + 2;
@@ -348,7 +350,7 @@ pub fn solve_subtype(
     w: usize,
 ) -> Run
     requires { ⌜ SubtypeAsk (now board) (now book) (now report) c at ln rn w ⌝ }
-    ensures { λ o. ⌜ ((ls : List Triple) → Does w ls (now (board .entry)) (now (book .entry)) (now (report .entry)) c (subtypeRule (nodesAt (now (board .entry)) at ln) (nodesAt (now (board .entry)) (at + 2 * ln) rn)) (now (board .exit)) (now (book .exit)) (now (report .exit)) o) ⌝ }
+    ensures { λ o. ⌜ ((ls : List Triple) → Does w ls (now (board .entry)) (now (book .entry)) (now (report .entry)) c (subtypeRule (nodesAt (now (board .entry)) at ln) (nodesAt (now (board .entry)) (at + 2 * ln) rn)) (now (board .exit)) (now (book .exit)) (now (report .exit)) o) × (now (report .exit) ≡ subtypeReport (now (report .entry)) c (writeOut (sols (now (book .entry))) (nodesAt (now (board .entry)) at ln)) (writeOut (sols (now (book .entry))) (nodesAt (now (board .entry)) (at + 2 * ln) rn)) w) ⌝ }
 {
     let z = zonk(book, c, board, at, ln, report, 0, w);
     let c1 = z.run;

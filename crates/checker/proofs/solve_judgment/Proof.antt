@@ -22,7 +22,7 @@ returns c =
     let B = now (a .board) in
     let T : Ty = nodesAt B (a .o .at) (a .o .left) in
     let U : Ty = nodesAt B (a .o .at + 2 * a .o .left) (a .o .right) in
-    does-as (λ _. ap (rule E) (sym (is-sub ls (a .o .number) T U (a .o .kind) (c .before .before .before .before .before .before .before .before .before .before .if1 .taken)))) (c .before .before .before .before .before .before .solve-subtype .ensures ls)
+    does-as (λ _. ap (rule E) (sym (is-sub ls (a .o .number) T U (a .o .kind) (c .before .before .before .before .before .before .before .before .before .before .if1 .taken)))) (c .before .before .before .before .before .before .solve-subtype .ensures .0 ls)
 
 copy-nodes-requires : tie.Need-copy-nodes-requires
 copy-nodes-requires c κs = copy-asks (c .before .before .before .before .before .before .before .before .before .before .before .before .before .pre)
@@ -44,7 +44,7 @@ solve-checking-requires c κs = check-asks (c .before .before .before .before .b
 returns-3 : tie.Need-returns-3
 returns-3 c =
     let E = envOn (now (c .before .before .before .before .before .before .before .before .before .before .before .before .before .before .before .before .before .before .before .before .before .before .before .before .before .before .before .args .s)) in
-    checked (c .before .before .before .before .before .before .before .before .before .before .before .before .before .before .before .before .before .before .before .before .before .before .before .before .before .before .before .pre) (c .before .before .before .before .before .before .before .before .before .before .before .before .copy-nodes2 .ensures) E (c .before .before .before .before .before .before .before .before .before .before .before .before .before .before .before .if3 .taken) (c .before .before .before .before .before .before .solve-checking .ensures 1024 E _ _ (c .before .before .before .before .before .before .before .before .before .before .before .before .before .before .before .before .before .before .before .before .before .before .before .before .before .before .before .pre .formed))
+    checked (c .before .before .before .before .before .before .before .before .before .before .before .before .before .before .before .before .before .before .before .before .before .before .before .before .before .before .before .pre) (c .before .before .before .before .before .before .before .before .before .before .before .before .copy-nodes2 .ensures) E (c .before .before .before .before .before .before .before .before .before .before .before .before .before .before .before .if3 .taken) (c .before .before .before .before .before .before .solve-checking .ensures .0 1024 E _ _ (c .before .before .before .before .before .before .before .before .before .before .before .before .before .before .before .before .before .before .before .before .before .before .before .before .before .before .before .pre .formed))
 
 solve-inf-app-requires : tie.Need-solve-inf-app-requires
 solve-inf-app-requires c κs = app-asks (c .before .before .before .before .before .before .before .before .before .before .before .before .before .before .before .before .pre) (c .before .before .before .if4 .taken)
@@ -57,7 +57,7 @@ returns-4 c =
     let B = now (a .board) in
     let T : Ty = nodesAt B (a .o .at) (a .o .left) in
     let U : Ty = nodesAt B (a .o .at + 2 * a .o .left) (a .o .right) in
-    does-as (λ _. ap (rule E) (sym (is-app ls (a .o .number) T U (a .o .kind) (c .before .before .before .before .before .before .before .before .before .before .if4 .taken)))) (c .before .before .before .before .before .before .solve-inf-app .ensures ls E)
+    does-as (λ _. ap (rule E) (sym (is-app ls (a .o .number) T U (a .o .kind) (c .before .before .before .before .before .before .before .before .before .before .if4 .taken)))) (c .before .before .before .before .before .before .solve-inf-app .ensures .0 ls E)
 
 returns-5 : tie.Need-returns-5
 returns-5 c =

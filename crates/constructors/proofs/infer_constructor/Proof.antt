@@ -10,7 +10,7 @@ returns : tie.Need-returns
 returns c =
     let O = c .before .before .before .before .before .before .before .before .before .before .instantiate-constructor-type .ensures in
     let a = c .before .before .before .before .before .before .before .before .before .before .before .before .before .before .before .before .before .args in
-    λ E x w ls k rep h. opens-then (λ u. push (sub u (nodesAt (now (a .t)) (a .ta) (a .tn))) done) h O (c .before .before .push-sub .ensures .2 w ls k rep (O .named .kept k h))
+    (λ E x w ls k rep h. opens-then (λ u. push (sub u (nodesAt (now (a .t)) (a .ta) (a .tn))) done) h O (c .before .before .push-sub .ensures .2 w ls k rep (O .named .kept k h)), O .out)
 
 pub infer-constructor-spec : {M : Type 1} → statement M
 infer-constructor-spec =

@@ -20,7 +20,7 @@ returns : tie.Need-returns
 returns c =
     let p = c .before .before .before .before .before .before .before .before .before .before .before .before .before .before .before .before .pre .0 in
     let s = now (c .before .before .before .before .before .before .before .before .before .before .before .before .before .before .before .before .args .s) in
-    ruled p (constructor-rule p refl (c .before .before .before .before .before .before .before .before .before .before .before .value-at .ensures) (sym (c .before .before .before .before .before .before .before .before .line .given .1) ∙ c .before .before .before .before .before .before .before .before .before .before .find-entry .ensures)) (λ m. c .before .before .before .before .infer-constructor .ensures (envOn s) (c .before .before .before .before .before .before .before .before .before .before .before .value-at .result) m (rows s))
+    ruled p (constructor-rule p refl (c .before .before .before .before .before .before .before .before .before .before .before .value-at .ensures) (sym (c .before .before .before .before .before .before .before .before .line .given .1) ∙ c .before .before .before .before .before .before .before .before .before .before .find-entry .ensures)) (λ m. c .before .before .before .before .infer-constructor .ensures .0 (envOn s) (c .before .before .before .before .before .before .before .before .before .before .before .value-at .result) m (rows s))
 
 returns-2 : tie.Need-returns-2
 unfolding nodesAt

@@ -19,7 +19,7 @@ infer-variable-requires c κs =
 returns : tie.Need-returns
 returns c =
     let p = c .before .before .before .before .before .before .before .before .before .before .before .before .pre .0 in
-    viewed p (var-view p refl (c .before .before .before .before .before .before .before .value-at .ensures)) (c .before .before .before .before .infer-variable .ensures)
+    viewed p (var-view p refl (c .before .before .before .before .before .before .before .value-at .ensures)) (c .before .before .before .before .infer-variable .ensures .0)
 
 pub variable-term-spec : {M : Type 1} → statement M
 variable-term-spec =

@@ -11,7 +11,7 @@ use Rattle.judgment.specs.Board.{Rule, refuse, solve, done}
 use Rattle.judgment.specs.declared.TypeError.the-variants.{InstantiationError}
 use Rattle.operations.specs.State.{WellFormed}
 use Rattle.operations.proofs.Then.{does-as, report-free}
-use Rattle.subtyping.proofs.Fronts.{moved-front}
+use Rattle.subtyping.proofs.Fronts.{moved-front, mono-stays, mono-moves}
 use borrow.Author.Needs.{needs}
 use Rattle.subtyping.proofs.solve_monotype.Statement.{statement}
 use Rattle.subtyping.proofs.solve_monotype.Tie as tie
@@ -28,9 +28,11 @@ same-length : tie.Need-same-length
 same-length c = c .before .before .solve-evar .kept .0
 
 returns : tie.Need-returns
-returns c =
-    λ (w : ℕ) (ls : List Triple) (b : List ℕ) (f : WellFormed b (now (c .before .before .before .before .before .before .before .before .before .before .args .book)) (c .before .before .before .before .before .before .before .before .before .before .args .c)).
-    rw (sym (c .before .before .before .before .before .before .is-monotype .ensures) ∙ c .before .before .before .before .before .if1 .taken) (c .before .before .solve-evar .ensures .2 w ls b (now (c .before .before .before .before .before .before .before .before .before .before .args .report)) f)
+returns c = (
+  λ (w : ℕ) (ls : List Triple) (b : List ℕ) (f : WellFormed b (now (c .before .before .before .before .before .before .before .before .before .before .args .book)) (c .before .before .before .before .before .before .before .before .before .before .args .c)).
+      rw (sym (c .before .before .before .before .before .before .is-monotype .ensures) ∙ c .before .before .before .before .before .if1 .taken) (c .before .before .solve-evar .ensures .2 w ls b (now (c .before .before .before .before .before .before .before .before .before .before .args .report)) f),
+  mono-stays _ _ (sym (c .before .before .before .before .before .before .is-monotype .ensures) ∙ c .before .before .before .before .before .if1 .taken),
+)
 
 move-to-front-requires : tie.Need-move-to-front-requires
 move-to-front-requires c κs = c .before .before .before .before .before .before .pre .within
@@ -39,14 +41,16 @@ same-length-3 : tie.Need-same-length-3
 same-length-3 c = c .before .before .before .move-to-front .kept .0
 
 returns-2 : tie.Need-returns-2
-returns-2 c =
-    λ (w : ℕ) (ls : List Triple) (b : List ℕ) (f : WellFormed b (now (c .before .before .before .before .before .before .before .before .before .before .args .book)) (c .before .before .before .before .before .before .before .before .before .before .args .c)).
-    let a = c .before .before .before .before .before .before .before .before .before .before .args in
-    let T : Ty = nodesAt (now (a .report)) (a .at) (a .n) in
-    let D = c .refuse .ensures .1 w ls b (now (a .book)) (c .before .before .before .move-to-front .last .0) f in
-    let e = moved-front (now (a .report)) (a .at) (a .n) (c .before .before .before .move-to-front .last .0) (c .before .before .before .move-to-front .ensures) (c .before .before .before .before .before .before .before .before .before .before .pre .within) in
-    rw (sym (c .before .before .before .before .before .before .is-monotype .ensures) ∙ c .before .before .before .before .before .if1 .left)
-    (report-free (c .before .before .before .before .before .before .before .before .before .before .pre .goes) (does-as (λ _. ap₂ (λ (x : ℕ) (y : Ty). refuse (InstantiationError (a .x) x) y) (e .0) (e .1)) D))
+returns-2 c = (
+  λ (w : ℕ) (ls : List Triple) (b : List ℕ) (f : WellFormed b (now (c .before .before .before .before .before .before .before .before .before .before .args .book)) (c .before .before .before .before .before .before .before .before .before .before .args .c)).
+      let a = c .before .before .before .before .before .before .before .before .before .before .args in
+      let T : Ty = nodesAt (now (a .report)) (a .at) (a .n) in
+      let D = c .refuse .ensures .1 w ls b (now (a .book)) (c .before .before .before .move-to-front .last .0) f in
+      let e = moved-front (now (a .report)) (a .at) (a .n) (c .before .before .before .move-to-front .last .0) (c .before .before .before .move-to-front .ensures) (c .before .before .before .before .before .before .before .before .before .before .pre .within) in
+      rw (sym (c .before .before .before .before .before .before .is-monotype .ensures) ∙ c .before .before .before .before .before .if1 .left)
+      (report-free (c .before .before .before .before .before .before .before .before .before .before .pre .goes) (does-as (λ _. ap₂ (λ (x : ℕ) (y : Ty). refuse (InstantiationError (a .x) x) y) (e .0) (e .1)) D)),
+  c .before .before .before .move-to-front .ensures ∙ mono-moves _ _ (sym (c .before .before .before .before .before .before .is-monotype .ensures) ∙ c .before .before .before .before .before .if1 .left),
+)
 
 pub solve-monotype-spec : {M : Type 1} → statement M
 solve-monotype-spec =
