@@ -5,7 +5,7 @@ use mathlib.Core.List.{List}
 use Prim.Native.Nat.{ℕ, _+_, _*_, _-_, _≤_, _<_}
 use native.Mathlib.Omega.{arith}
 use lib.ListN.{length, getD}
-use Rattle.nodes.specs.Nodes.{Ty, nodesAt}
+use Rattle.nodes.specs.Nodes.{node, Ty, nodesAt}
 use Rattle.nodes.proofs.Laws.{length-nodesAt}
 use Rattle.judgment.specs.declared.TypeError.the-variants.{NotAFunction}
 use Rattle.judgment.specs.Types.{unknown, first, View, isArrow, isApp, isForall, isUnknown, isOther, view}
@@ -14,10 +14,11 @@ use Rattle.judgment.specs.Board.{refuse}
 use Rattle.judgment.specs.Rules.{Env, applyBy}
 use Rattle.core_types.proofs.Walks.{first-within}
 use Rattle.operations.specs.declared.Run.{Run}
-use Rattle.subtyping.specs.Subtyping.{shapeOf, Written, SubAsk}
-use Rattle.subtyping.proofs.Shapes.{unknown-is}
+use Rattle.subtyping.specs.Subtyping.{shapeOf, openedAt, Written, SubAsk}
+use Rattle.subtyping.proofs.Shapes.{forall-view, unknown-is}
 use Rattle.subtyping.proofs.Subs.{sizes}
 use Rattle.inference.specs.Inference.{Open}
+use Rattle.applying.specs.Applying.{applyReport}
 
 -- ---- the rule by views
 not-function : (E : Env) (f : Ty) (e : Term) (c : Ty) (v : View) → shapeOf v ≢ 1 → shapeOf v ≢ 3 → shapeOf v ≢ 4 → refuse (NotAFunction (length f)) f ≡ applyBy E f e c v
@@ -52,3 +53,18 @@ module _ {b k rep : List ℕ} {c : Run} {f n : ℕ} (a : SubAsk b k rep c f n) w
   -- anything else is refused, with the type at the front of the report
   pub refuses : (E : Env) (e : Term) (t : Ty) → shapeOf (view F) ≢ 1 → shapeOf (view F) ≢ 3 → shapeOf (view F) ≢ 4 → refuse (NotAFunction f) F ≡ applyBy E F e t (view F)
   refuses E e t p q r = ap (λ (m : ℕ). refuse (NotAFunction m) F) (sym (length-nodesAt rep 0 f)) ∙ not-function E F e t (view F) p q r
+
+  -- ---- every word of the report, by the shape that the code has read
+  module _ {s : ℕ} (e : s ≡ shapeOf (view F)) (u : ℕ) where
+    pub report-stays : s ≢ 3 → rep ≡ applyReport rep u (view F)
+    report-stays h = by (view F) (λ z. h (e ∙ z))
+      where
+        by : (v : View) → shapeOf v ≢ 3 → rep ≡ applyReport rep u v
+        by (isArrow a b) h = refl
+        by (isApp a b) h = refl
+        by (isForall x b) h = absurd (h refl)
+        by (isUnknown k) h = refl
+        by isOther h = refl
+
+    pub report-opened : s ≡ 3 → openedAt rep 2 (getD rep 1 0) (node 17 u) (nodesAt rep 2 (f - 1)) ≡ applyReport rep u (view F)
+    report-opened h = ap (applyReport rep u) (sym (forall-view rep 0 f (sym e ∙ h)))

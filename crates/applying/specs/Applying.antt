@@ -1,16 +1,19 @@
--- What the code of Var cites. Assumes nothing: these are definitions.
-use mathlib.Core.Option.{Option}
+-- What the code of InfApp and Var cites. Assumes nothing: these are definitions.
+use mathlib.Core.Option.{Option, none, some}
 use mathlib.Core.List.{List}
 use Prim.Native.Nat.{ℕ, _*_, _≤_}
 use lib.ListN.{length}
-use Rattle.nodes.specs.Nodes.{Ty}
+use lib.Seq.{sets}
+use Rattle.nodes.specs.Nodes.{node, Ty, words}
 use Rattle.sheet.specs.Plan.{planOf, declarations, bindingsIn, lookup}
 use Rattle.sheet.specs.Rows.{rows, Ended}
 use Rattle.sheet.specs.Form.{Formed}
+use Rattle.judgment.specs.Types.{View, isArrow, isApp, isForall, isUnknown, isOther, view}
 use Rattle.judgment.specs.Rules.{Env}
 use Rattle.judgment.specs.Result.{envOf}
 use Rattle.board.specs.Board.{Stacked}
 use Rattle.operations.specs.declared.Run.{Run}
+use Rattle.subtyping.specs.Subtyping.{openedAt, twiceReport}
 
 -- the data constructors and context variables on a sheet
 abbrev pub envOn : List ℕ → Env
@@ -20,6 +23,25 @@ envOn s = envOf (planOf (rows s))
 abbrev pub entryIn : ℕ → ℕ → List ℕ → Option Ty
 entryIn k x s = lookup x (bindingsIn k (rows s) (declarations (rows s) 0 0))
 
+-- ---- every word of the rooms after, of which rep and out are those before
+-- a function applied, by the view of its type, which stands at the front of the report; u is the next fresh number
+abbrev pub applyReport : List ℕ → ℕ → View → List ℕ
+applyReport rep u (isArrow a b) = rep
+applyReport rep u (isApp a b) = rep
+applyReport rep u (isForall x b) = openedAt rep 2 x (node 17 u) b
+applyReport rep u (isUnknown k) = rep
+applyReport rep u isOther = rep
+
+-- InfApp of types that are f and t when written out
+abbrev pub appReport : List ℕ → Run → Ty → Ty → ℕ → List ℕ
+appReport rep c f t w = twiceReport rep c f t w (λ out. applyReport out (c .fresh) (view f))
+
+-- the type that a Var is found to have is copied to the front
+abbrev pub foundOut : List ℕ → Option Ty → List ℕ
+foundOut out none = out
+foundOut out (some t) = sets out 0 (words t)
+
+-- ---- what a call asks
 -- A sheet with types on its entries, room to copy any of them or any of the board's, and the taken type: the tn nodes at the front of t.
 pub record VarAsk (b : List ℕ) (c : Run) (s out t : List ℕ) (tn : ℕ) : Type 0 where
   pub board : Stacked b (c .board)

@@ -13,7 +13,7 @@ use Rattle.core_types.proofs.Walks.{first-nodes, rest-nodes}
 use Rattle.operations.proofs.Then.{does-as, report-free}
 use Rattle.subtyping.specs.Subtyping.{shapeOf}
 use Rattle.subtyping.proofs.Shapes.{arrow-view, forall-view, unknown-view}
-use Rattle.applying.proofs.Applied.{bounds, part-within, unknown-open, refuses}
+use Rattle.applying.proofs.Applied.{bounds, part-within, unknown-open, refuses, report-stays, report-opened}
 use borrow.Author.Needs.{needs}
 use Rattle.applying.proofs.apply_shapes.Statement.{statement}
 use Rattle.applying.proofs.apply_shapes.Tie as tie
@@ -59,7 +59,6 @@ apply-arrow-requires c κs =
 
 returns : tie.Need-returns
 returns c =
-    λ (w : ℕ) (ls : List Triple) (E : Env).
     let a = c .before .before .before .before .before .before .before .before .before .before .before .before .before .args in
     let P = now (a .report) in
     let F : Ty = nodesAt P 0 (a .f) in
@@ -68,7 +67,7 @@ returns c =
     let v = arrow-view P 0 (a .f) (sym es ∙ c .before .before .before .before .before .before .before .if1 .taken) in
     let e1 = first-nodes P 2 (a .f - 1) (c .before .before .before .before .before .first-part .result) (c .before .before .before .before .before .first-part .ensures) in
     let e2 = rest-nodes P 2 (a .f - 1) (c .before .before .before .before .before .first-part .result) (c .before .before .before .before .before .first-part .ensures) in
-    does-as (λ _. ap (applyBy E F (termAt ls (a .line)) C) (ap₂ isArrow e1 e2 ∙ sym v)) (c .before .before .apply-arrow .ensures E F w ls _ P (c .before .before .before .before .before .before .before .before .before .before .before .before .before .pre .formed))
+    (λ (w : ℕ) (ls : List Triple) (E : Env). does-as (λ _. ap (applyBy E F (termAt ls (a .line)) C) (ap₂ isArrow e1 e2 ∙ sym v)) (c .before .before .apply-arrow .ensures E F w ls _ P (c .before .before .before .before .before .before .before .before .before .before .before .before .before .pre .formed)), report-stays (c .before .before .before .before .before .before .before .before .before .before .before .before .before .pre) es (a .c .fresh) (λ z. omega (arith, c .before .before .before .before .before .before .before .if1 .taken)))
 
 slice-read-name : tie.Need-slice-read-name
 slice-read-name c =
@@ -91,14 +90,13 @@ apply-forall-requires c κs =
 
 returns-2 : tie.Need-returns-2
 returns-2 c =
-    λ (w : ℕ) (ls : List Triple) (E : Env).
     let a = c .before .before .before .before .before .before .before .before .before .before .before .before .before .before .before .args in
     let P = now (a .report) in
     let F : Ty = nodesAt P 0 (a .f) in
     let C : Ty = nodesAt P (2 * a .f) (a .n) in
     let es : c .before .before .before .before .before .before .before .before .before .before .shape .result ≡ shapeOf (view F) = c .before .before .before .before .before .before .before .before .before .before .shape .ensures in
     let v = forall-view P 0 (a .f) (sym es ∙ c .before .before .before .before .before .before .before .before .if2 .taken) in
-    report-free (c .before .before .before .before .before .before .before .before .before .before .before .before .before .before .before .pre .goes) (does-as (λ _. ap (applyBy E F (termAt ls (a .line)) C) (sym v)) (c .before .before .before .before .apply-forall .ensures .1 E F w ls _ _ (c .before .before .before .before .before .before .before .before .before .before .before .before .before .before .before .pre .formed)))
+    (λ (w : ℕ) (ls : List Triple) (E : Env). report-free (c .before .before .before .before .before .before .before .before .before .before .before .before .before .before .before .pre .goes) (does-as (λ _. ap (applyBy E F (termAt ls (a .line)) C) (sym v)) (c .before .before .before .before .apply-forall .ensures .1 E F w ls _ _ (c .before .before .before .before .before .before .before .before .before .before .before .before .before .before .before .pre .formed))), c .before .before .before .before .apply-forall .ensures .0 ∙ report-opened (c .before .before .before .before .before .before .before .before .before .before .before .before .before .before .before .pre) es (a .c .fresh) (c .before .before .before .before .before .before .before .before .if2 .taken))
 
 slice-read-x : tie.Need-slice-read-x
 slice-read-x c =
@@ -118,14 +116,13 @@ apply-unknown-requires c κs =
 
 returns-3 : tie.Need-returns-3
 returns-3 c =
-    λ (w : ℕ) (ls : List Triple) (E : Env).
     let a = c .before .before .before .before .before .before .before .before .before .before .before .before .before .before .before .before .before .args in
     let P = now (a .report) in
     let F : Ty = nodesAt P 0 (a .f) in
     let C : Ty = nodesAt P (2 * a .f) (a .n) in
     let es : c .before .before .before .before .before .before .before .before .before .before .before .before .shape .result ≡ shapeOf (view F) = c .before .before .before .before .before .before .before .before .before .before .before .before .shape .ensures in
     let v = unknown-view P 0 (a .f) (sym es ∙ c .before .before .before .before .before .before .before .before .before .if3 .taken) in
-    does-as (λ _. ap (applyBy E F (termAt ls (a .line)) C) (sym v)) (c .before .before .before .before .apply-unknown .ensures w ls E F P)
+    (λ (w : ℕ) (ls : List Triple) (E : Env). does-as (λ _. ap (applyBy E F (termAt ls (a .line)) C) (sym v)) (c .before .before .before .before .apply-unknown .ensures w ls E F P), report-stays (c .before .before .before .before .before .before .before .before .before .before .before .before .before .before .before .before .before .pre) es (a .c .fresh) (λ z. omega (arith, c .before .before .before .before .before .before .before .before .before .if3 .taken)))
 
 cast-t39 : tie.Need-cast-t39
 cast-t39 c =
@@ -137,13 +134,12 @@ cast-t39 c =
 
 returns-4 : tie.Need-returns-4
 returns-4 c =
-    λ (w : ℕ) (ls : List Triple) (E : Env).
     let a = c .before .before .before .before .before .before .before .before .before .args in
     let P = now (a .report) in
     let F : Ty = nodesAt P 0 (a .f) in
     let C : Ty = nodesAt P (2 * a .f) (a .n) in
     let es : c .before .before .before .before .shape .result ≡ shapeOf (view F) = c .before .before .before .before .shape .ensures in
-    does-as (λ _. refuses (c .before .before .before .before .before .before .before .before .before .pre) E (termAt ls (a .line)) C (λ z. c .before .before .before .if1 .left (es ∙ z)) (λ z. c .before .before .if2 .left (es ∙ z)) (λ z. c .before .if3 .left (es ∙ z))) (c .refuse .ensures .1 w ls _ _ P (c .before .before .before .before .before .before .before .before .before .pre .formed))
+    (λ (w : ℕ) (ls : List Triple) (E : Env). does-as (λ _. refuses (c .before .before .before .before .before .before .before .before .before .pre) E (termAt ls (a .line)) C (λ z. c .before .before .before .if1 .left (es ∙ z)) (λ z. c .before .before .if2 .left (es ∙ z)) (λ z. c .before .if3 .left (es ∙ z))) (c .refuse .ensures .1 w ls _ _ P (c .before .before .before .before .before .before .before .before .before .pre .formed)), report-stays (c .before .before .before .before .before .before .before .before .before .pre) es (a .c .fresh) (c .before .before .if2 .left))
 
 pub apply-shapes-spec : {M : Type 1} → statement M
 apply-shapes-spec =

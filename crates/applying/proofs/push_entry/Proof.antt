@@ -12,13 +12,12 @@ use Rattle.applying.proofs.push_entry.Tie as tie
 
 returns : tie.Need-returns
 returns c =
-    λ w k rep f.
     let a = c .before .before .before .before .before .before .before .before .before .before .before .before .before .args in
     let p = c .before .before .before .before .before .before .before .before .before .before .before .before .before .pre in
     let T : Ty = typeOn (now (a .s)) (a .first) (a .n) in
     let l : length T ≡ a .n = length-typeOn (now (a .s)) (a .first) (a .n) (p .3 .within) in
     let e = copied (now (a .out)) T (a .n) l (p .2) (c .before .before .before .before .before .before .before .copy-type .ensures) in
-    does-as (λ _. rw e) (c .before .before .push-sub .ensures .2 w (rows (now (a .s))) k rep f)
+    (λ w k rep f. does-as (λ _. rw e) (c .before .before .push-sub .ensures .2 w (rows (now (a .s))) k rep f), c .before .before .before .before .before .before .before .copy-type .ensures)
 
 pub push-entry-spec : {M : Type 1} → statement M
 push-entry-spec =

@@ -4,8 +4,8 @@ use native.Mathlib.Omega.{arith}
 use Rattle.spelling.specs.declared.Triple.{Triple}
 use Rattle.judgment.specs.Rules.{Env, inferApp}
 use Rattle.board.specs.Board.{termAt}
-use Rattle.subtyping.proofs.Outs.{first-asks, second-asks, both-asks, twice-then, twice-stays}
-use Rattle.applying.proofs.Outs.{applied}
+use Rattle.subtyping.proofs.Outs.{first-asks, second-asks, both-asks, twice-then, twice-stays, report-then, report-stays}
+use Rattle.applying.proofs.Outs.{applied, appliedReport}
 use borrow.Author.Needs.{needs}
 use Rattle.applying.proofs.solve_inf_app.Statement.{statement}
 use Rattle.applying.proofs.solve_inf_app.Tie as tie
@@ -28,15 +28,22 @@ apply-shapes-requires c κs = both-asks (c .before .before .before .before .befo
 returns : tie.Need-returns
 unfolding inferApp
 returns c =
-    λ (ls : List Triple) (E : Env).
-    twice-then (c .before .before .before .before .before .before .before .before .before .before .before .before .before .before .before .before .before .before .before .before .before .before .before .before .before .before .before .before .before .pre) (c .before .before .before .before .before .before .before .before .before .before .before .before .before .before .before .before .before .before .before .before .before .before .zonk .ensures .0) (c .before .before .before .before .before .before .before .before .before .before .before .before .before .before .before .before .before .before .before .before .before .before .zonk .ensures .2) (c .before .before .before .before .before .before .before .before .before .before .before .before .before .before .before .zonk2 .ensures .0) (c .before .before .before .before .before .before .before .before .before .before .before .before .before .before .before .zonk2 .ensures .1) (c .before .before .before .before .before .before .before .before .before .before .before .before .before .before .before .zonk2 .ensures .2) ls (applied E (termAt ls (c .before .before .before .before .before .before .before .before .before .before .before .before .before .before .before .before .before .before .before .before .before .before .before .before .before .before .before .before .before .args .line)))
-    (c .before .before .before .before .before .before .apply-shapes .ensures (c .before .before .before .before .before .before .before .before .before .before .before .before .before .before .before .before .before .before .before .before .before .before .before .before .before .before .before .before .before .args .w) ls E)
+    let a = c .before .before .before .before .before .before .before .before .before .before .before .before .before .before .before .before .before .before .before .before .before .before .before .before .before .before .before .before .before .args in
+    let p = c .before .before .before .before .before .before .before .before .before .before .before .before .before .before .before .before .before .before .before .before .before .before .before .before .before .before .before .before .before .pre in
+    let Z = c .before .before .before .before .before .before .before .before .before .before .before .before .before .before .before .before .before .before .before .before .before .before .zonk .ensures in
+    let Y = c .before .before .before .before .before .before .before .before .before .before .before .before .before .before .before .zonk2 .ensures in
+    let S = c .before .before .before .before .before .before .apply-shapes .ensures in
+    let g = sym (c .before .before .before .before .before .before .before .before .before .before .before .is-going .ensures) ∙ c .before .before .before .before .before .before .before .before .before .before .if1 .taken in
+    (λ (ls : List Triple) (E : Env). twice-then p (Z .0) (Z .2) (Y .0) (Y .1) (Y .2) ls (applied E (termAt ls (a .line))) (S .0 (a .w) ls E), report-then p (Z .0) (Z .2) (Y .0) (Y .1) (Y .2) (Z .1) appliedReport g (S .1))
 
 returns-2 : tie.Need-returns-2
 unfolding inferApp
 returns-2 c =
-    λ (ls : List Triple) (E : Env).
-    twice-stays (c .before .before .before .before .before .before .before .before .before .before .before .before .before .before .before .before .before .before .before .pre) (c .before .before .before .before .before .before .before .before .before .before .before .before .zonk .ensures .0) (c .before .before .before .before .before .before .before .before .before .before .before .before .zonk .ensures .2) (c .before .before .before .before .before .zonk2 .ensures .0) (c .before .before .before .before .before .zonk2 .ensures .1) (c .before .before .before .before .before .zonk2 .ensures .2) ls (applied E (termAt ls (c .before .before .before .before .before .before .before .before .before .before .before .before .before .before .before .before .before .before .before .args .line))) (sym (c .before .is-going .ensures) ∙ c .if1 .left)
+    let p = c .before .before .before .before .before .before .before .before .before .before .before .before .before .before .before .before .before .before .before .pre in
+    let Z = c .before .before .before .before .before .before .before .before .before .before .before .before .zonk .ensures in
+    let Y = c .before .before .before .before .before .zonk2 .ensures in
+    let g = sym (c .before .is-going .ensures) ∙ c .if1 .left in
+    (λ (ls : List Triple) (E : Env). twice-stays p (Z .0) (Z .2) (Y .0) (Y .1) (Y .2) ls (applied E (termAt ls (c .before .before .before .before .before .before .before .before .before .before .before .before .before .before .before .before .before .before .before .args .line))) g, report-stays p (Z .0) (Z .2) (Y .0) (Y .1) (Y .2) (Z .1) appliedReport g)
 
 pub solve-inf-app-spec : {M : Type 1} → statement M
 solve-inf-app-spec =
