@@ -2,7 +2,7 @@
 use mathlib.Core.Path.{_≡_, refl, sym, ap, ap₂, _∙_, subst⁻¹}
 use mathlib.Core.Logic.{_≢_}
 use mathlib.Core.Bool.{Bool, cond}
-use mathlib.Core.Option.{none, some}
+use mathlib.Core.Option.{Option, none, some}
 use mathlib.Core.List.{List}
 use Prim.Native.Nat.{ℕ, _+_, _-_, _≤_, _<_}
 use native.Mathlib.Omega.{arith}
@@ -18,7 +18,7 @@ use Rattle.judgment.specs.Rules.{Env, synthesize, checkBy}
 use Rattle.board.specs.Board.{termAt}
 use Rattle.board.proofs.Terms.{lineOf, bodyAt, term-head, part-at}
 use Rattle.operations.specs.declared.Run.{Run}
-use Rattle.checking.specs.Checking.{CheckAsk}
+use Rattle.checking.specs.Checking.{checkedType, checkedOut, CheckAsk}
 use Rattle.inference.specs.Inference.{lambdaOn}
 use Rattle.inference.proofs.Heads.{part-within, two-parts, first-lines, head-narrow}
 use Rattle.subtyping.specs.Subtyping.{shapeOf}
@@ -29,6 +29,21 @@ check-other E e t (isApp a b) f g = refl
 check-other E e t (isForall x b) f g = absurd (g refl)
 check-other E e t (isUnknown k) f g = refl
 check-other E e t isOther f g = refl
+
+-- every word of the rooms, where the view says that they stay
+pub type-stays : (t : List ℕ) (u : ℕ) (v : View) → shapeOf v ≢ 3 → t ≡ checkedType t u v
+type-stays t u (isArrow a b) h = refl
+type-stays t u (isApp a b) h = refl
+type-stays t u (isForall x b) h = absurd (h refl)
+type-stays t u (isUnknown k) h = refl
+type-stays t u isOther h = refl
+
+pub out-stays : (out : List ℕ) (f : Option Lambda) (v : View) → shapeOf v ≢ 1 → out ≡ checkedOut out f v
+out-stays out f (isArrow a b) h = absurd (h refl)
+out-stays out f (isApp a b) h = refl
+out-stays out f (isForall x b) h = refl
+out-stays out f (isUnknown k) h = refl
+out-stays out f isOther h = refl
 
 module _ (s : List ℕ) (p : ℕ) (h : p < length (rows s)) where
   abbrev ls : List Triple

@@ -1,4 +1,5 @@
 // Chk (worklist.rs: `solve_checking`). The taken type is the tn nodes at the front of t, which is changed; out is room for a type of the sheet.
+ghost use mathlib.Core.Path.{_≡_};
 ghost use mathlib.Core.List.{List};
 ghost use Prim.Native.Nat.{ℕ, _+_, _*_, _-_, _<_};
 ghost use Rattle.nodes.specs.Nodes.{nodesAt};
@@ -8,7 +9,7 @@ ghost use Rattle.judgment.specs.Terms.{lambdaOf};
 ghost use Rattle.judgment.specs.Rules.{Env, checkArrow, checkBy};
 ghost use Rattle.board.specs.Board.{termAt};
 ghost use Rattle.operations.specs.State.{WellFormed, Does};
-ghost use Rattle.checking.specs.Checking.{CheckAsk};
+ghost use Rattle.checking.specs.Checking.{checkedType, lambdaOut, checkedOut, CheckAsk};
 use core_types::first_part;
 use inference::check_forall;
 use inference::check_lambda;
@@ -32,7 +33,7 @@ fn check_arrow(
     out: &mut [u32],
 ) -> Run
     requires { ⌜ CheckAsk (now board) c (now s) line (now t) tn (now out) × (0 < tn) ⌝ }
-    ensures { λ r. ⌜ ((w : ℕ) (E : Env) (k rep : List ℕ) → WellFormed (now (board .entry)) k c → Does w (rows (now (s .entry))) (now (board .entry)) k rep c (checkArrow E (termAt (rows (now (s .entry))) line) (nodesAt (now (t .entry)) 0 tn) (first (nodesAt (now (t .entry)) 2 (tn - 1))) (rest (nodesAt (now (t .entry)) 2 (tn - 1))) (lambdaOf (termAt (rows (now (s .entry))) line))) (now (board .exit)) k rep r) ⌝ }
+    ensures { λ r. ⌜ ((w : ℕ) (E : Env) (k rep : List ℕ) → WellFormed (now (board .entry)) k c → Does w (rows (now (s .entry))) (now (board .entry)) k rep c (checkArrow E (termAt (rows (now (s .entry))) line) (nodesAt (now (t .entry)) 0 tn) (first (nodesAt (now (t .entry)) 2 (tn - 1))) (rest (nodesAt (now (t .entry)) 2 (tn - 1))) (lambdaOf (termAt (rows (now (s .entry))) line))) (now (board .exit)) k rep r) × (now (out .exit) ≡ lambdaOut (now (out .entry)) (lambdaOf (termAt (rows (now (s .entry))) line))) ⌝ }
 {
     let at = wide(line);
     let head = triple_at(s, at);
@@ -61,7 +62,7 @@ pub fn solve_checking(
     out: &mut [u32],
 ) -> Run
     requires { ⌜ CheckAsk (now board) c (now s) line (now t) tn (now out) ⌝ }
-    ensures { λ r. ⌜ ((w : ℕ) (E : Env) (k rep : List ℕ) → WellFormed (now (board .entry)) k c → Does w (rows (now (s .entry))) (now (board .entry)) k rep c (checkBy E (termAt (rows (now (s .entry))) line) (nodesAt (now (t .entry)) 0 tn) (view (nodesAt (now (t .entry)) 0 tn))) (now (board .exit)) k rep r) ⌝ }
+    ensures { λ r. ⌜ ((w : ℕ) (E : Env) (k rep : List ℕ) → WellFormed (now (board .entry)) k c → Does w (rows (now (s .entry))) (now (board .entry)) k rep c (checkBy E (termAt (rows (now (s .entry))) line) (nodesAt (now (t .entry)) 0 tn) (view (nodesAt (now (t .entry)) 0 tn))) (now (board .exit)) k rep r) × (now (t .exit) ≡ checkedType (now (t .entry)) (c .fresh) (view (nodesAt (now (t .entry)) 0 tn))) × (now (out .exit) ≡ checkedOut (now (out .entry)) (lambdaOf (termAt (rows (now (s .entry))) line)) (view (nodesAt (now (t .entry)) 0 tn))) ⌝ }
 {
     let k = shape(t, 0, tn);
     if k == ARROW {

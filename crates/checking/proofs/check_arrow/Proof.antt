@@ -20,6 +20,7 @@ use Rattle.inference.proofs.Heads.{lines-asks}
 use Rattle.operations.specs.State.{WellFormed}
 use Rattle.operations.proofs.Then.{does-as}
 use Rattle.core_types.proofs.Walks.{first-within, first-nodes, rest-nodes}
+use Rattle.checking.specs.Checking.{lambdaOut}
 use Rattle.checking.proofs.Checks.{head-is, name-narrow, bounds, no-lambda, lambda-read}
 use borrow.Author.Needs.{needs}
 use Rattle.checking.proofs.check_arrow.Statement.{statement}
@@ -80,25 +81,22 @@ check-lambda-requires c κs =
 
 returns : tie.Need-returns
 returns c =
-    λ (w : ℕ) (E : Env) (k rep : List ℕ) (f : WellFormed (now (c .before .before .before .before .before .before .before .before .before .before .before .before .before .before .before .before .before .before .args .board)) k (c .before .before .before .before .before .before .before .before .before .before .before .before .before .before .before .before .before .before .args .c)).
     let a = c .before .before .before .before .before .before .before .before .before .before .before .before .before .before .before .before .before .before .args in
     let p = c .before .before .before .before .before .before .before .before .before .before .before .before .before .before .before .before .before .before .pre .0 in
     let W = c .before .before .before .before .before .before .before .before .before .before .before .before .before .wide .ensures in
     let e : c .before .before .before .before .before .before .before .before .before .before .before .before .triple-at .result ≡ lineOf (rows (now (a .s))) (a .line) = head-is (now (a .s)) (a .line) (c .before .before .before .before .before .before .before .before .before .before .before .before .before .wide .result) (c .before .before .before .before .before .before .before .before .before .before .before .before .triple-at .result) (c .before .before .before .before .before .before .before .before .before .before .before .before .before .wide .ensures) (c .before .before .before .before .before .before .before .before .before .before .before .before .triple-at .ensures) in
     let ls = rows (now (a .s)) in
     let T : Ty = nodesAt (now (a .t)) 0 (a .tn) in
-    let D = c .before .before .before .before .check-lambda .ensures .1 w E (termAt ls (a .line)) T k rep f in
     let e1 = first-nodes (now (a .t)) 2 (a .tn - 1) (c .before .before .before .before .before .before .before .first-part .result) (c .before .before .before .before .before .before .before .first-part .ensures) in
     let e2 = rest-nodes (now (a .t)) 2 (a .tn - 1) (c .before .before .before .before .before .before .before .first-part .result) (c .before .before .before .before .before .before .before .first-part .ensures) in
     let e3 = lambda-read (now (a .s)) (a .line) (c .before .before .before .before .before .before .before .before .before .before .before .before .before .wide .result) (c .before .before .before .before .before .before .before .before .part-line .result) (c .before .before .before .before .before .before .before .before .before .before .before .before .triple-at .result) (p .stands) W e (c .before .before .before .before .before .before .before .before .part-line .ensures) (c .before .before .before .before .before .before .before .before .before .before .if1 .taken) in
-    does-as (λ _. ap₂ (λ (x : Ty × Ty) (y : Option Lambda). checkArrow E (termAt ls (a .line)) T (x .0) (x .1) y) (ap₂ (λ (x y : Ty). (x, y)) e1 e2) e3) D
+    (λ (w : ℕ) (E : Env) (k rep : List ℕ) (f : WellFormed (now (c .before .before .before .before .before .before .before .before .before .before .before .before .before .before .before .before .before .before .args .board)) k (c .before .before .before .before .before .before .before .before .before .before .before .before .before .before .before .before .before .before .args .c)). does-as (λ _. ap₂ (λ (x : Ty × Ty) (y : Option Lambda). checkArrow E (termAt ls (a .line)) T (x .0) (x .1) y) (ap₂ (λ (x y : Ty). (x, y)) e1 e2) e3) (c .before .before .before .before .check-lambda .ensures .1 w E (termAt ls (a .line)) T k rep f), c .before .before .before .before .check-lambda .ensures .0 ∙ ap (lambdaOut (now (a .out))) e3)
 
 synthesize-requires : tie.Need-synthesize-requires
 synthesize-requires c κs = (c .before .before .before .before .before .before .before .before .before .pre .0 .board, c .before .before .before .before .before .before .before .before .before .pre .0 .within)
 
 returns-2 : tie.Need-returns-2
 returns-2 c =
-    λ (w : ℕ) (E : Env) (k rep : List ℕ) (f : WellFormed (now (c .before .before .before .before .before .before .before .before .before .before .before .before .args .board)) k (c .before .before .before .before .before .before .before .before .before .before .before .before .args .c)).
     let a = c .before .before .before .before .before .before .before .before .before .before .before .before .args in
     let p = c .before .before .before .before .before .before .before .before .before .before .before .before .pre .0 in
     let W = c .before .before .before .before .before .before .before .wide .ensures in
@@ -106,8 +104,8 @@ returns-2 c =
     let ls = rows (now (a .s)) in
     let T : Ty = nodesAt (now (a .t)) 0 (a .tn) in
     let B : Ty = nodesAt (now (a .t)) 2 (a .tn - 1) in
-    let D = c .before .before .synthesize .ensures E w ls k rep f in
-    does-as (λ _. ap (checkArrow E (termAt ls (a .line)) T (first B) (rest B)) (sym (no-lambda (now (a .s)) (a .line) (p .stands) (λ z. c .before .before .before .before .if1 .left (ap (λ (t : Triple). t .kind) e ∙ z))))) D
+    let n = no-lambda (now (a .s)) (a .line) (p .stands) (λ z. c .before .before .before .before .if1 .left (ap (λ (t : Triple). t .kind) e ∙ z)) in
+    (λ (w : ℕ) (E : Env) (k rep : List ℕ) (f : WellFormed (now (c .before .before .before .before .before .before .before .before .before .before .before .before .args .board)) k (c .before .before .before .before .before .before .before .before .before .before .before .before .args .c)). does-as (λ _. ap (checkArrow E (termAt ls (a .line)) T (first B) (rest B)) (sym n)) (c .before .before .synthesize .ensures E w ls k rep f), ap (lambdaOut (now (a .out))) (sym n))
 
 pub check-arrow-spec : {M : Type 1} → statement M
 check-arrow-spec =

@@ -6,6 +6,7 @@ use denote.Ref.{now}
 use lib.ListN.{length, getD}
 use Rattle.nodes.specs.Nodes.{Ty, nodesAt}
 use Rattle.judgment.specs.Types.{View, view}
+use Rattle.judgment.specs.Terms.{lambdaOf}
 use Rattle.judgment.specs.Rules.{Env, checkBy}
 use Rattle.board.specs.Board.{termAt}
 use Rattle.sheet.specs.Rows.{rows}
@@ -13,7 +14,8 @@ use Rattle.operations.specs.State.{WellFormed}
 use Rattle.operations.proofs.Then.{does-as}
 use Rattle.subtyping.specs.Subtyping.{shapeOf}
 use Rattle.subtyping.proofs.Shapes.{arrow-view, forall-view, shaped-some}
-use Rattle.checking.proofs.Checks.{check-other}
+use Rattle.checking.specs.Checking.{checkedType, checkedOut}
+use Rattle.checking.proofs.Checks.{check-other, type-stays, out-stays}
 use borrow.Author.Needs.{needs}
 use Rattle.checking.proofs.solve_checking.Statement.{statement}
 use Rattle.checking.proofs.solve_checking.Tie as tie
@@ -26,13 +28,12 @@ check-arrow-requires c κs = (c .before .before .before .before .before .before 
 
 returns : tie.Need-returns
 returns c =
-    λ (w : ℕ) (E : Env) (k rep : List ℕ) (f : WellFormed (now (c .before .before .before .before .before .before .before .before .before .before .before .before .before .before .before .args .board)) k (c .before .before .before .before .before .before .before .before .before .before .before .before .before .before .before .args .c)).
     let a = c .before .before .before .before .before .before .before .before .before .before .before .before .before .before .before .args in
     let P = now (a .t) in
     let T : Ty = nodesAt P 0 (a .tn) in
     let ls = rows (now (a .s)) in
     let e = arrow-view P 0 (a .tn) (sym (c .before .before .before .before .before .before .before .before .before .shape .ensures) ∙ c .before .before .before .before .before .before .before .before .if1 .taken) in
-    does-as (λ _. ap (checkBy E (termAt ls (a .line)) T) (sym e)) (c .before .before .before .before .check-arrow .ensures w E k rep f)
+    (λ (w : ℕ) (E : Env) (k rep : List ℕ) (f : WellFormed (now (c .before .before .before .before .before .before .before .before .before .before .before .before .before .before .before .args .board)) k (c .before .before .before .before .before .before .before .before .before .before .before .before .before .before .before .args .c)). does-as (λ _. ap (checkBy E (termAt ls (a .line)) T) (sym e)) (c .before .before .before .before .check-arrow .ensures .0 w E k rep f), ap (checkedType P (a .c .fresh)) (sym e), c .before .before .before .before .check-arrow .ensures .1 ∙ ap (checkedOut (now (a .out)) (lambdaOf (termAt ls (a .line)))) (sym e))
 
 slice-read-name : tie.Need-slice-read-name
 slice-read-name c = let s = shaped-some (now (c .before .before .before .before .before .before .before .before .before .args .t)) 0 (c .before .before .before .before .before .before .before .before .before .args .tn) (λ z. (let y = sym (c .before .before .before .shape .ensures) ∙ c .before .if2 .taken in omega arith)) in let x = c .before .before .before .before .before .before .before .before .before .pre .within in omega arith
@@ -49,25 +50,23 @@ check-forall-requires c κs =
 
 returns-2 : tie.Need-returns-2
 returns-2 c =
-    λ (w : ℕ) (E : Env) (k rep : List ℕ) (f : WellFormed (now (c .before .before .before .before .before .before .before .before .before .before .before .before .before .before .before .before .args .board)) k (c .before .before .before .before .before .before .before .before .before .before .before .before .before .before .before .before .args .c)).
     let a = c .before .before .before .before .before .before .before .before .before .before .before .before .before .before .before .before .args in
     let P = now (a .t) in
     let T : Ty = nodesAt P 0 (a .tn) in
     let ls = rows (now (a .s)) in
     let e = forall-view P 0 (a .tn) (sym (c .before .before .before .before .before .before .before .before .before .before .shape .ensures) ∙ c .before .before .before .before .before .before .before .before .if2 .taken) in
-    does-as (λ _. ap (checkBy E (termAt ls (a .line)) T) (sym e)) (c .before .before .before .before .check-forall .ensures .1 E T w ls k rep f)
+    (λ (w : ℕ) (E : Env) (k rep : List ℕ) (f : WellFormed (now (c .before .before .before .before .before .before .before .before .before .before .before .before .before .before .before .before .args .board)) k (c .before .before .before .before .before .before .before .before .before .before .before .before .before .before .before .before .args .c)). does-as (λ _. ap (checkBy E (termAt ls (a .line)) T) (sym e)) (c .before .before .before .before .check-forall .ensures .1 E T w ls k rep f), c .before .before .before .before .check-forall .ensures .0 ∙ ap (checkedType P (a .c .fresh)) (sym e), ap (checkedOut (now (a .out)) (lambdaOf (termAt ls (a .line)))) (sym e))
 
 synthesize-requires : tie.Need-synthesize-requires
 synthesize-requires c κs = (c .before .before .before .before .before .before .before .before .before .before .pre .board, c .before .before .before .before .before .before .before .before .before .before .pre .within)
 
 returns-3 : tie.Need-returns-3
 returns-3 c =
-    λ (w : ℕ) (E : Env) (k rep : List ℕ) (f : WellFormed (now (c .before .before .before .before .before .before .before .before .before .before .before .before .before .args .board)) k (c .before .before .before .before .before .before .before .before .before .before .before .before .before .args .c)).
     let a = c .before .before .before .before .before .before .before .before .before .before .before .before .before .args in
     let P = now (a .t) in
     let T : Ty = nodesAt P 0 (a .tn) in
     let ls = rows (now (a .s)) in
-    does-as (λ _. check-other E (termAt ls (a .line)) T (view T) (λ z. c .before .before .before .before .before .before .if1 .left (c .before .before .before .before .before .before .before .shape .ensures ∙ z)) (λ z. c .before .before .before .before .before .if2 .left (c .before .before .before .before .before .before .before .shape .ensures ∙ z))) (c .before .before .synthesize .ensures E w ls k rep f)
+    (λ (w : ℕ) (E : Env) (k rep : List ℕ) (f : WellFormed (now (c .before .before .before .before .before .before .before .before .before .before .before .before .before .args .board)) k (c .before .before .before .before .before .before .before .before .before .before .before .before .before .args .c)). does-as (λ _. check-other E (termAt ls (a .line)) T (view T) (λ z. c .before .before .before .before .before .before .if1 .left (c .before .before .before .before .before .before .before .shape .ensures ∙ z)) (λ z. c .before .before .before .before .before .if2 .left (c .before .before .before .before .before .before .before .shape .ensures ∙ z))) (c .before .before .synthesize .ensures E w ls k rep f), type-stays P (a .c .fresh) (view T) (λ z. c .before .before .before .before .before .if2 .left (c .before .before .before .before .before .before .before .shape .ensures ∙ z)), out-stays (now (a .out)) (lambdaOf (termAt ls (a .line))) (view T) (λ z. c .before .before .before .before .before .before .if1 .left (c .before .before .before .before .before .before .before .shape .ensures ∙ z)))
 
 pub solve-checking-spec : {M : Type 1} → statement M
 solve-checking-spec =
