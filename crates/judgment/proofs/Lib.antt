@@ -15,3 +15,6 @@ pub mod WholeTerms
 pub mod WholeRun
 pub mod Orders
 pub mod Narrow
+pub mod Alike
+pub mod Reordered
+pub mod AnyOrder

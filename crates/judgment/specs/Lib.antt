@@ -12,3 +12,4 @@ pub mod Telling
 pub mod AtLimits
 pub mod Calls
 pub mod Narrow
+pub mod AnyOrder

@@ -1,0 +1,208 @@
+-- Boards that no rule tells apart, and rules that ask no more of a board than these share. Assumes nothing.
+use Prim.Native.Nat.{ℕ, zero, suc, _+_}
+use mathlib.Core.Path.{_≡_, refl, ap, ap₂, subst}
+use mathlib.Core.Bool.{Bool, true, false, cond}
+use mathlib.Core.Option.{Option, none, some}
+use mathlib.Core.List.{[], _∷_, _++_}
+use lib.Dec.{leb, ltb}
+use lib.ListN.{length}
+use Rattle.nodes.proofs.ListLaws.{cond-ind}
+use Rattle.nodes.specs.Nodes.{Ty}
+use Rattle.judgment.specs.declared.TypeError.{TypeError}
+use Rattle.judgment.specs.Types.{unknown, eqTy, View, isArrow, isApp, isForall, isUnknown, isOther, view, canUnify, occurs, isMonotype}
+use Rattle.judgment.specs.Terms.{Term, Lambda, lambdaOf}
+use Rattle.judgment.specs.Solutions.{_≔_, Solutions, find, writeOut, solutionNodes}
+use Rattle.judgment.specs.Board.{Entry, var, Board, entryNodes, boardNodes, varNamed, orElse, findVar, isTVar, hasTVar, before, Limits, Rule, done, refuse, fresh, push, solve, zonk, look, state, Outcome, finished, refused, solving, roomFor, perform}
+use Rattle.judgment.specs.Rules.{Env, Side, left, right, openBody, solveMonotype, instantiateBy, instantiateFrom, mismatch, unknownLeft, unknownRight, subtypeBy, subtype, variable, checkArrow, checkBy, applyBy, inferApp}
+
+-- ---- boards that no rule tells apart
+-- the same answers, and as many nodes
+pub record Same (Γ Δ : Board) : Type 0 where
+  pub found : (x : ℕ) → findVar x Γ ≡ findVar x Δ
+  pub nodes : boardNodes Γ ≡ boardNodes Δ
+
+-- Entry by entry the same, but that Vars may differ, which do nothing when taken. Under an entry that does not differ the boards are the same.
+pub data Alike : Board → Board → Type 0 where
+  empty : Alike [] []
+  entry : (e : Entry) {Γ Δ : Board} → Same Γ Δ → Alike Γ Δ → Alike (e ∷ Γ) (e ∷ Δ)
+  vars : (x : ℕ) (t : Ty) (y : ℕ) (u : Ty) {Γ Δ : Board} → Alike Γ Δ → Alike (var x t ∷ Γ) (var y u ∷ Δ)
+
+pub record Near (Γ Δ : Board) : Type 0 where
+  pub alike : Alike Γ Δ
+  pub whole : Same Γ Δ
+
+pub alike-length : {Γ Δ : Board} → Alike Γ Δ → length Γ ≡ length Δ
+alike-length empty = refl
+alike-length (entry e s h) = ap suc (alike-length h)
+alike-length (vars x t y u h) = ap suc (alike-length h)
+
+alike-has : (k : ℕ) {Γ Δ : Board} → Alike Γ Δ → hasTVar k Γ ≡ hasTVar k Δ
+alike-has k empty = refl
+alike-has k (entry e s h) = ap (cond (isTVar k e) true) (alike-has k h)
+alike-has k (vars x t y u h) = alike-has k h
+
+alike-before : (a b : ℕ) {Γ Δ : Board} → Alike Γ Δ → before a b Γ ≡ before a b Δ
+unfolding before
+alike-before a b empty = refl
+alike-before a b (entry e s h) = ap₂ (λ p q. cond (isTVar a e) false (cond (isTVar b e) p q)) (alike-has a h) (alike-before a b h)
+alike-before a b (vars x t y u h) = alike-before a b h
+
+near-push : (e : Entry) {Γ Δ : Board} → Near Γ Δ → Near (e ∷ Γ) (e ∷ Δ)
+unfolding findVar boardNodes
+near-push e h = record {
+  alike = entry e (h .whole) (h .alike);
+  whole = record { found = λ x. ap (orElse (varNamed x e)) (h .whole .found x); nodes = ap (λ n. entryNodes e + n) (h .whole .nodes) };
+}
+
+-- ---- rules that go the same way on such boards
+-- the same but for the boards; a refusal's is no part of a result
+pub data Agree : Outcome → Outcome → Type 0 where
+  finish : {Γ Δ : Board} {σ : Solutions} {n : ℕ} → Near Γ Δ → Agree (finished (state Γ σ n)) (finished (state Δ σ n))
+  stop : {r : TypeError} {ts : Ty} {Γ Δ : Board} {σ : Solutions} {n : ℕ} → Agree (refused r ts (state Γ σ n)) (refused r ts (state Δ σ n))
+
+either : (b : Bool) {o q o′ q′ : Outcome} → Agree o o′ → Agree q q′ → Agree (cond b o q) (cond b o′ q′)
+either true f g = f
+either false f g = g
+
+solving-agree : (f : Option Ty) (s : Ty) {a b c a′ b′ c′ : Outcome} → Agree a a′ → Agree b b′ → Agree c c′ → Agree (solving f s a b c) (solving f s a′ b′ c′)
+solving-agree none s f g h = f
+solving-agree (some t) s f g h = either (canUnify s t) g h
+
+-- a rule that asks of the board only what is the same
+abbrev pub Steady : Rule → Type 0
+Steady done = Unit {0}
+Steady (refuse r ts) = Unit {0}
+Steady (fresh f) = (n : ℕ) → Steady (f n)
+Steady (push e p) = Steady p
+Steady (solve k s p) = Steady p
+Steady (zonk t f) = (u : Ty) → Steady (f u)
+Steady (look f) = ((Γ Δ : Board) → Near Γ Δ → f Γ ≡ f Δ) × ((Γ : Board) → Steady (f Γ))
+
+module _ (L : Limits) where
+  -- two rules that come to the same
+  pub record Parallel (p q : Rule) : Type 0 where
+    pub go : {Γ Δ : Board} (σ : Solutions) (n : ℕ) → Near Γ Δ → Agree (perform L p Γ σ n) (perform L q Δ σ n)
+
+  pub done-parallel : Parallel done done
+  unfolding perform
+  done-parallel = record { go = λ σ n h. finish h }
+
+  pub refuse-parallel : {r : TypeError} {ts : Ty} → Parallel (refuse r ts) (refuse r ts)
+  unfolding perform
+  refuse-parallel = record { go = λ σ n h. stop }
+
+  pub fresh-parallel : {f g : ℕ → Rule} → ((n : ℕ) → Parallel (f n) (g n)) → Parallel (fresh f) (fresh g)
+  unfolding perform
+  fresh-parallel k = record { go = λ σ n h. either (ltb n (L .numbers)) (k n .go σ (suc n) h) stop }
+
+  pub push-parallel : {e : Entry} {p q : Rule} → Parallel p q → Parallel (push e p) (push e q)
+  unfolding perform boardNodes
+  push-parallel {e} {p} {q} k = record {
+    go = λ {Γ} {Δ} σ n h.
+        rw (alike-length (h .alike), h .whole .nodes) (either (roomFor L e Δ) (k .go σ n (near-push e h)) stop);
+  }
+
+  pub steady-parallel : (p : Rule) → Steady p → Parallel p p
+  unfolding perform
+  steady-parallel done s = done-parallel
+  steady-parallel (refuse r ts) s = refuse-parallel
+  steady-parallel (fresh f) s = fresh-parallel (λ n. steady-parallel (f n) (s n))
+  steady-parallel (push e p) s = push-parallel (steady-parallel p s)
+  steady-parallel (solve k t p) s =
+      let i = steady-parallel p s in
+      record { go = λ σ n h. solving-agree (find k σ) t (either (leb (solutionNodes σ + length t) (L .solved)) (i .go (σ ++ (_≔_ k t ∷ [])) n h) stop) (i .go σ n h) stop }
+  steady-parallel (zonk t f) s =
+      record { go = λ σ n h. either (leb (length (writeOut σ t)) (L .written)) (steady-parallel (f (writeOut σ t)) (s (writeOut σ t)) .go σ n h) stop }
+  steady-parallel (look f) s =
+      record { go = λ {Γ} {Δ} σ n h. subst (λ p. Agree (perform L (f Γ) Γ σ n) (perform L p Δ σ n)) (s .0 Γ Δ h) (steady-parallel (f Γ) (s .1 Γ) .go σ n h) }
+
+-- ---- the rules that push no pattern's Vars
+monotype-steady : (k : ℕ) (t : Ty) → Steady (solveMonotype k t)
+monotype-steady k t = cond-ind Steady (isMonotype t) (λ _. tt) (λ _. tt)
+
+openBody-steady : (d : Side) (x : ℕ) (b : Ty) (again : Ty → Rule) → ((t : Ty) → Steady (again t)) → Steady (openBody d x b again)
+openBody-steady left x b again f = λ u. f _
+openBody-steady right x b again f = λ u. f _
+
+instantiateBy-steady : (d : Side) (k : ℕ) (t : Ty) (again : Ty → Rule) (v : View) → ((t : Ty) → Steady (again t)) → Steady (instantiateBy d k t again v)
+instantiateBy-steady d k t again (isUnknown b) f = (
+  λ Γ Δ h. ap (λ c. cond c (solve b (unknown k) done) (solveMonotype k t)) (alike-before k b (h .alike)),
+  λ Γ. cond-ind Steady (before k b Γ) (λ _. tt) (λ _. monotype-steady k t),
+)
+instantiateBy-steady d k t again (isArrow t₁ t₂) f = λ a b. tt
+instantiateBy-steady d k t again (isApp t₁ t₂) f = λ a b. tt
+instantiateBy-steady d k t again (isForall x b) f = openBody-steady d x b again f
+instantiateBy-steady d k t again isOther f = monotype-steady k t
+
+instantiateFrom-steady : (n : ℕ) (d : Side) (k : ℕ) (t : Ty) → Steady (instantiateFrom n d k t)
+unfolding instantiateFrom
+instantiateFrom-steady zero d k t = tt
+instantiateFrom-steady (suc n) d k t =
+    instantiateBy-steady d k t (λ t′. instantiateFrom n d k t′) (view t) (λ t′. instantiateFrom-steady n d k t′)
+
+module _ (l r : Ty) where
+  right-steady : (k : ℕ) → Steady (unknownRight l r k)
+  right-steady k = cond-ind Steady (occurs k l) (λ _. tt) (λ _. instantiateFrom-steady (suc (length l)) right k l)
+
+  left-steady : (k : ℕ) (otherwise : Rule) → Steady otherwise → Steady (unknownLeft l r k otherwise)
+  left-steady k otherwise h = cond-ind Steady (occurs k r) (λ _. h) (λ _. instantiateFrom-steady (suc (length r)) left k r)
+
+  subtypeBy-steady : (v w : View) → Steady (subtypeBy l r v w)
+  subtypeBy-steady (isArrow a₁ a₂) (isArrow b₁ b₂) = tt
+  subtypeBy-steady (isArrow a₁ a₂) (isApp b₁ b₂) = tt
+  subtypeBy-steady (isArrow a₁ a₂) (isForall x b) = λ u. tt
+  subtypeBy-steady (isArrow a₁ a₂) (isUnknown k) = right-steady k
+  subtypeBy-steady (isArrow a₁ a₂) isOther = tt
+  subtypeBy-steady (isApp a₁ a₂) (isArrow b₁ b₂) = tt
+  subtypeBy-steady (isApp a₁ a₂) (isApp b₁ b₂) = tt
+  subtypeBy-steady (isApp a₁ a₂) (isForall x b) = λ u. tt
+  subtypeBy-steady (isApp a₁ a₂) (isUnknown k) = right-steady k
+  subtypeBy-steady (isApp a₁ a₂) isOther = tt
+  subtypeBy-steady (isForall x a) (isArrow b₁ b₂) = λ u. tt
+  subtypeBy-steady (isForall x a) (isApp b₁ b₂) = λ u. tt
+  subtypeBy-steady (isForall x a) (isForall y b) = λ u. tt
+  subtypeBy-steady (isForall x a) (isUnknown k) = λ u. tt
+  subtypeBy-steady (isForall x a) isOther = λ u. tt
+  subtypeBy-steady (isUnknown k) (isArrow b₁ b₂) = left-steady k (mismatch l r) tt
+  subtypeBy-steady (isUnknown k) (isApp b₁ b₂) = left-steady k (mismatch l r) tt
+  subtypeBy-steady (isUnknown k) (isForall y b) = λ u. tt
+  subtypeBy-steady (isUnknown k) (isUnknown j) = left-steady k (unknownRight l r j) (right-steady j)
+  subtypeBy-steady (isUnknown k) isOther = left-steady k (mismatch l r) tt
+  subtypeBy-steady isOther (isArrow b₁ b₂) = tt
+  subtypeBy-steady isOther (isApp b₁ b₂) = tt
+  subtypeBy-steady isOther (isForall y b) = λ u. tt
+  subtypeBy-steady isOther (isUnknown k) = right-steady k
+  subtypeBy-steady isOther isOther = tt
+
+pub subtype-steady : (s t : Ty) → Steady (subtype s t)
+unfolding subtype
+subtype-steady s t = λ l r. cond-ind Steady (eqTy l r) (λ _. tt) (λ _. subtypeBy-steady l r (view l) (view r))
+
+module _ (E : Env) where
+  pub variable-steady : (x : ℕ) (t : Ty) (a b c : Option Ty) → Steady (variable E x t a b c)
+  variable-steady x t (some u) b c = tt
+  variable-steady x t none (some u) c = tt
+  variable-steady x t none none (some u) = tt
+  variable-steady x t none none none = tt
+
+  checkArrow-steady : (e : Term) (t a b : Ty) (f : Option Lambda) → Steady (checkArrow E e t a b f)
+  checkArrow-steady e t a b none = λ u. tt
+  checkArrow-steady e t a b (some f) = tt
+
+  pub checkBy-steady : (e : Term) (t : Ty) (v : View) → Steady (checkBy E e t v)
+  checkBy-steady e t (isArrow a b) = checkArrow-steady e t a b (lambdaOf e)
+  checkBy-steady e t (isForall x b) = λ u. tt
+  checkBy-steady e t (isApp a b) = λ u. tt
+  checkBy-steady e t (isUnknown k) = λ u. tt
+  checkBy-steady e t isOther = λ u. tt
+
+  applyBy-steady : (f : Ty) (e : Term) (c : Ty) (v : View) → Steady (applyBy E f e c v)
+  applyBy-steady f e c (isArrow a b) = tt
+  applyBy-steady f e c (isForall x b) = λ u. tt
+  applyBy-steady f e c (isUnknown k) = λ a b. tt
+  applyBy-steady f e c (isApp a b) = tt
+  applyBy-steady f e c isOther = tt
+
+  pub inferApp-steady : (f : Ty) (e : Term) (c : Ty) → Steady (inferApp E f e c)
+  unfolding inferApp
+  inferApp-steady f e c = λ f′ c′. applyBy-steady f′ e c′ (view f′)
