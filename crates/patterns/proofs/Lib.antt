@@ -1,4 +1,5 @@
 pub mod Steps
+pub mod Rooms
 pub mod Entries
 pub mod Opened
 pub mod Lines

@@ -22,10 +22,8 @@ use Rattle.tables.proofs.Tables.{ref-stored}
 use Rattle.patterns.specs.declared.Lined.{Lined}
 use Rattle.patterns.specs.Turns.{Ready}
 use Rattle.patterns.specs.Readings.{envAt, Lining, Reading, Checking}
+use Rattle.patterns.specs.Rooms.{aloneOf}
 use Rattle.patterns.proofs.Steps.{turn-none, turn-then, turn-as}
-
-abbrev pub aloneOf : ℕ → TypeRef
-aloneOf u = record { first = 0; lines = 0; at = 0; count = 1; base = u }
 
 alone-frame : (ls : List Triple) (u : ℕ) → u ≤ 1000 → Frame ls (aloneOf u)
 unfolding frontNames pendingOf

@@ -2,12 +2,15 @@
 ghost use mathlib.Core.Path.{_≡_};
 ghost use mathlib.Core.List.{List};
 ghost use Prim.Native.Nat.{ℕ, _+_, _*_, _≤_, _<_};
-ghost use lib.ListN.{length};
+ghost use lib.ListN.{length, getD, take, drop};
 ghost use Rattle.spelling.specs.declared.Triple.{Triple};
+ghost use Rattle.sheet.specs.Plan.{noTriple, nodesOf, findEntry};
 ghost use Rattle.sheet.specs.Rows.{rows, Ended};
-ghost use Rattle.references.specs.References.{typeOf};
+ghost use Rattle.constructors.specs.Opening.{openedOut};
+ghost use Rattle.references.specs.References.{typeOf, instanceOut};
 ghost use Rattle.patterns.specs.Turns.{Ready};
 ghost use Rattle.patterns.specs.Readings.{Arity, PartsAsk, Parting, Adds, NameAsk, Naming, LineAsk, Lining, CheckAsk, Checking};
+ghost use Rattle.patterns.specs.Rooms.{rooms, arityRun, partsAnswer, frameWords, frameDepth, constructorRooms, lineRooms, patternRooms, Leaves};
 use constructors::instantiate_constructor_type;
 use judgment::TypeError;
 use nodes::wide;
@@ -27,7 +30,7 @@ use tables::put;
 // Refuses, unless the counts agree.
 fn check_arity(c: Run, arity: usize, count: usize) -> Run
     requires { ⌜ (arity ≤ 4096) × (count < 131072) ⌝ }
-    ensures { λ r. ⌜ ((ls : List Triple) (b : List ℕ) → Ready b c → Arity ls b c arity count r) ⌝ }
+    ensures { λ r. ⌜ ((ls : List Triple) (b : List ℕ) → Ready b c → Arity ls b c arity count r) × (r ≡ arityRun c arity count) ⌝ }
 {
     if count == arity {
         return c;
@@ -55,7 +58,7 @@ fn pattern_parts(
     r: &mut [u32],
 ) -> Parts
     requires { ⌜ PartsAsk (now board) c (rows (now s)) first n count want (now l) (now r) ⌝ }
-    ensures { λ o. ⌜ Parting (now (board .entry)) c (rows (now (s .entry))) first n count (typeOf (rows (now (s .entry))) want) (now (board .exit)) o ⌝ }
+    ensures { λ o. ⌜ Parting (now (board .entry)) c (rows (now (s .entry))) first n count (typeOf (rows (now (s .entry))) want) (now (board .exit)) o × (o ≡ partsAnswer (rows (now (s .entry))) first n count want c) × (now (l .exit) ≡ openedOut (nodesOf (take n (drop first (rows (now (s .entry)))))) (c .fresh) (now (l .entry))) × (now (r .exit) ≡ instanceOut (rows (now (s .entry))) want (now (r .entry))) ⌝ }
 {
     let ra = 2 * want.at;
     let rn = want.count;
@@ -76,7 +79,7 @@ fn pattern_parts(
 // A frame for the parameters of r, if it has any: the answer is how many frames there are then.
 fn add_frame(w: &mut [usize], n: usize, r: TypeRef, arity: usize) -> usize
     requires { ⌜ 6 * n + 6 ≤ length (now w) ⌝ }
-    ensures { λ d. ⌜ Adds (now (w .entry)) n r arity (now (w .exit)) d ⌝ }
+    ensures { λ d. ⌜ Adds (now (w .entry)) n r arity (now (w .exit)) d × (now (w .exit) ≡ frameWords (now (w .entry)) n r arity) × (d ≡ frameDepth n arity) ⌝ }
 {
     if 0 < arity {
         put(w, n, 0, r);
@@ -104,7 +107,7 @@ fn constructor_line(
     r: &mut [u32],
 ) -> Named
     requires { ⌜ NameAsk (now board) c (rows (now s)) name count want (now w) n (now l) (now r) × Ended (now s) ⌝ }
-    ensures { λ o. ⌜ Naming (now (board .entry)) c (rows (now (s .entry))) name count (typeOf (rows (now (s .entry))) want) (now (w .entry)) n (now (board .exit)) (now (w .exit)) o ⌝ }
+    ensures { λ o. ⌜ Naming (now (board .entry)) c (rows (now (s .entry))) name count (typeOf (rows (now (s .entry))) want) (now (w .entry)) n (now (board .exit)) (now (w .exit)) o × ((v : List ℕ) (j : ℕ) → rooms (o .run) (now (w .exit)) (o .depth) v j (now (l .exit)) (now (r .exit)) ≡ constructorRooms (rows (now (s .entry))) name count want (rooms c (now (w .entry)) n v j (now (l .entry)) (now (r .entry))) (findEntry 1 name (rows (now (s .entry))))) ⌝ }
 {
     match find_entry(s, 1, name) {
         Found::At { line, count: lines } => {
@@ -151,7 +154,7 @@ fn pattern_line(
     r: &mut [u32],
 ) -> Lined
     requires { ⌜ LineAsk (now board) c (rows (now s)) p (now w) n (now v) j (now l) (now r) × Ended (now s) ⌝ }
-    ensures { λ o. ⌜ Lining (now (board .entry)) c (rows (now (s .entry))) p (now (w .entry)) n (now (v .entry)) j (now (board .exit)) (now (w .exit)) (now (v .exit)) o ⌝ }
+    ensures { λ o. ⌜ Lining (now (board .entry)) c (rows (now (s .entry))) p (now (w .entry)) n (now (v .entry)) j (now (board .exit)) (now (w .exit)) (now (v .exit)) o × (rooms (o .run) (now (w .exit)) (o .depth) (now (v .exit)) (o .bound) (now (l .exit)) (now (r .exit)) ≡ lineRooms (rows (now (s .entry))) (getD (rows (now (s .entry))) p noTriple) (rooms c (now (w .entry)) n (now (v .entry)) j (now (l .entry)) (now (r .entry)))) ⌝ }
 {
     let t = triple_at(s, p);
     let name = t.value;
@@ -203,7 +206,7 @@ pub fn check_pattern(
     r: &mut [u32],
 ) -> Checked
     requires { ⌜ CheckAsk (now board) c (rows (now s)) first lines u (now w) (now v) (now l) (now r) × Ended (now s) ⌝ }
-    ensures { λ o. ⌜ Checking (now (board .entry)) c (rows (now (s .entry))) first lines u (now (board .exit)) (now (v .exit)) o ⌝ }
+    ensures { λ o. ⌜ Checking (now (board .entry)) c (rows (now (s .entry))) first lines u (now (board .exit)) (now (v .exit)) o × Leaves (patternRooms (rows (now (s .entry))) first lines u c (now (w .entry)) (now (v .entry)) (now (l .entry)) (now (r .entry))) (now (w .exit)) (now (v .exit)) (now (l .exit)) (now (r .exit)) o ⌝ }
 {
     let base = wide(u);
     put(

@@ -56,7 +56,7 @@ push-vars-requires c κs =
     let body : ℕ = c .before .before .before .before .before .before .before .before .before .before .before .before .before .before .before .before .before .before .before .before .part-line .result in
     let B : (a .first ≤ body) × (body ≤ length ls) = body-within ls (a .first) (p .within) body (c .before .before .before .before .before .before .before .before .before .before .before .before .before .before .before .before .before .before .before .before .part-line .ensures) in
     let few : length ls ≤ 4096 = p .lent .sheet .few in
-    let C = c .before .before .before .before .before .before .before .before .before .before .before .before .before .before .check-pattern .ensures in
+    let C = c .before .before .before .before .before .before .before .before .before .before .before .before .before .before .check-pattern .ensures .0 in
     let m = C .few in
     let g = p .lent .rows in
     let h = p .lent .left in
@@ -104,7 +104,7 @@ returns c =
     let B : (a .first ≤ body) × (body ≤ length ls) = body-within ls (a .first) (p .within) body (c .before .before .before .before .before .before .before .before .before .before .before .before .before .before .before .before .before .before .before .before .before .before .before .before .before .before .before .before .before .before .part-line .ensures) in
     let few : length ls ≤ 4096 = p .lent .sheet .few in
     let next : ℕ = c .part-line2 .result in
-    armed ls (a .first) (p .within) body (c .before .before .before .before .before .before .before .before .before .before .before .before .before .before .before .before .before .before .before .before .before .before .before .before .before .before .before .before .before .before .part-line .ensures) (a .u) (nodesAt (now (a .t)) (a .ta) (a .tn)) next (c .part-line2 .ensures) (body-within ls body (B .1) next (c .part-line2 .ensures) .1) (c .before .before .before .before .before .before .before .before .before .before .before .before .before .before .before .before .before .before .before .before .before .before .before .before .check-pattern .ensures) (c .before .before .before .before .before .before .before .before .before .push-vars .ensures) (c .before .before .before .push-chk .ensures)
+    armed ls (a .first) (p .within) body (c .before .before .before .before .before .before .before .before .before .before .before .before .before .before .before .before .before .before .before .before .before .before .before .before .before .before .before .before .before .before .part-line .ensures) (a .u) (nodesAt (now (a .t)) (a .ta) (a .tn)) next (c .part-line2 .ensures) (body-within ls body (B .1) next (c .part-line2 .ensures) .1) (c .before .before .before .before .before .before .before .before .before .before .before .before .before .before .before .before .before .before .before .before .before .before .before .before .check-pattern .ensures .0) (c .before .before .before .before .before .before .before .before .before .push-vars .ensures) (c .before .before .before .push-chk .ensures)
 
 pub check-arm-spec : {M : Type 1} → statement M
 check-arm-spec =

@@ -8,12 +8,14 @@ use lib.Seq.{sets}
 use Rattle.sheet.specs.Rows.{rows}
 use Rattle.tables.specs.Rows.{row}
 use Rattle.patterns.specs.Readings.{Reading}
-use Rattle.patterns.proofs.Patterns.{aloneOf, read-start, line-narrow, read-turn, read-end, read-stop}
+use Rattle.patterns.specs.Rooms.{rooms, aloneOf}
+use Rattle.patterns.proofs.Rooms.{Roomed, rooms-start, rooms-turn, rooms-stop, rooms-end}
+use Rattle.patterns.proofs.Patterns.{read-start, line-narrow, read-turn, read-end, read-stop}
 use Rattle.patterns.proofs.check_pattern.Statement.{statement}
 use Rattle.patterns.proofs.check_pattern.Tie as tie
 
 abbrev Inv-loop : tie.InvT-loop
-Inv-loop board₀ s first lines u w₀ v₀ l₀ r₀ base run₀ n₀ j₀ i₀ board w v l r run n j i = Reading board₀ run₀ (rows s) first lines u board run w n v j i × (length board ≡ length board₀) × (length w ≡ length w₀) × (length v ≡ length v₀) × (length l ≡ length l₀) × (length r ≡ length r₀)
+Inv-loop board₀ s first lines u w₀ v₀ l₀ r₀ base run₀ n₀ j₀ i₀ board w v l r run n j i = Reading board₀ run₀ (rows s) first lines u board run w n v j i × (length board ≡ length board₀) × (length w ≡ length w₀) × (length v ≡ length v₀) × (length l ≡ length l₀) × (length r ≡ length r₀) × Roomed (rows s) first lines (rooms run₀ w₀ n₀ v₀ j₀ l₀ r₀) (rooms run w n v j l r) i
 
 abbrev μ-loop : tie.MeasureT-loop
 μ-loop board₀ s first lines u w₀ v₀ l₀ r₀ base run₀ n₀ j₀ i₀ board w v l r run n j i = lines - i
@@ -28,7 +30,7 @@ loop-holds c =
     let a = c .before .before .before .before .before .before .before .before .before .before .before .args in
     let p = c .before .before .before .before .before .before .before .before .before .before .before .pre .0 in
     let f = p .frames in
-    (read-start (now (a .board)) (a .c) (rows (now (a .s))) (a .first) (a .lines) (a .u) (now (a .w)) _ (now (a .v)) (p .ready) (p .narrow) (omega arith) (c .before .before .put .ensures ∙ ap (λ (x : ℕ). sets (now (a .w)) (6 * 0) (row 0 (aloneOf x))) (c .before .before .before .before .wide .ensures)) (p .low), refl, refl, refl, refl, refl)
+    (read-start (now (a .board)) (a .c) (rows (now (a .s))) (a .first) (a .lines) (a .u) (now (a .w)) _ (now (a .v)) (p .ready) (p .narrow) (omega arith) (c .before .before .put .ensures ∙ ap (λ (x : ℕ). sets (now (a .w)) (6 * 0) (row 0 (aloneOf x))) (c .before .before .before .before .wide .ensures)) (p .low), refl, refl, refl, refl, refl, rooms-start (rows (now (a .s))) (a .first) (a .lines) _)
 
 same-length : tie.Need-same-length Inv-loop μ-loop
 same-length c = c .before .before .loop .inv .1
@@ -52,7 +54,7 @@ returns c =
     let ls = rows (now (a .s)) in
     let L = c .before .before .loop in
     let R = L .inv .0 in
-    read-stop _ _ ls (a .first) (a .lines) (a .u) R (c .if1 .taken)
+    (read-stop _ _ ls (a .first) (a .lines) (a .u) R (c .if1 .taken), rooms-stop ls (a .first) (a .lines) (a .u) (a .c) (now (a .w)) _ (now (a .v)) (now (a .l)) (now (a .r)) _ (L .i) (c .before .before .before .before .before .put .ensures ∙ ap (λ (x : ℕ). sets (now (a .w)) (6 * 0) (row 0 (aloneOf x))) (c .before .before .before .before .before .before .before .wide .ensures)) (L .inv .6) (c .if1 .taken))
 
 pattern-line-requires : tie.Need-pattern-line-requires Inv-loop μ-loop
 pattern-line-requires c κs =
@@ -103,7 +105,7 @@ loop-again c =
     let R = L .inv .0 in
     let K = c .before .before .before .before .before .before .before .before .before .before .before .pattern-line .kept in
     let h = L .inv in
-    (read-turn _ _ ls (a .first) (a .lines) (a .u) R (c .before .before .before .before .before .before .before .before .before .before .before .before .before .before .before .before .before .before .loop-test .taken) (p .stands) (c .before .before .before .before .before .before .before .before .before .before .before .pattern-line .ensures), K .0 ∙ h .1, K .1 .1 .1 .1 .0 ∙ h .2, K .1 .1 .1 .1 .1 .1 .0 ∙ h .3, K .1 .1 .1 .1 .1 .1 .1 .1 .0 ∙ h .4, K .1 .1 .1 .1 .1 .1 .1 .1 .1 .0 ∙ h .5)
+    (read-turn _ _ ls (a .first) (a .lines) (a .u) R (c .before .before .before .before .before .before .before .before .before .before .before .before .before .before .before .before .before .before .loop-test .taken) (p .stands) (c .before .before .before .before .before .before .before .before .before .before .before .pattern-line .ensures .0), K .0 ∙ h .1, K .1 .1 .1 .1 .0 ∙ h .2, K .1 .1 .1 .1 .1 .1 .0 ∙ h .3, K .1 .1 .1 .1 .1 .1 .1 .1 .0 ∙ h .4, K .1 .1 .1 .1 .1 .1 .1 .1 .1 .0 ∙ h .5, rooms-turn ls (a .first) (a .lines) _ _ _ (L .i) (c .before .before .before .before .before .before .before .before .before .before .before .before .before .before .before .before .before .before .loop-test .taken) (p .stands) (c .before .before .before .before .before .before .before .before .before .before .before .before .before .before .before .before .before .if1 .left) (h .6) (c .before .before .before .before .before .before .before .before .before .before .before .pattern-line .ensures .1))
 
 same-length-6 : tie.Need-same-length-6 Inv-loop μ-loop
 same-length-6 c = c .before .loop .inv .1
@@ -127,7 +129,8 @@ returns-2 c =
     let ls = rows (now (a .s)) in
     let L = c .before .loop in
     let R = L .inv .0 in
-    read-end _ _ ls (a .first) (a .lines) (a .u) R (let z = c .loop-test .left in omega arith)
+    let z = c .loop-test .left in
+    (read-end _ _ ls (a .first) (a .lines) (a .u) R (omega arith), rooms-end ls (a .first) (a .lines) (a .u) (a .c) (now (a .w)) _ (now (a .v)) (now (a .l)) (now (a .r)) _ (L .i) (c .before .before .before .before .put .ensures ∙ ap (λ (x : ℕ). sets (now (a .w)) (6 * 0) (row 0 (aloneOf x))) (c .before .before .before .before .before .before .wide .ensures)) (L .inv .6) (omega arith))
 
 pub check-pattern-spec : {M : Type 1} → statement M
 check-pattern-spec =

@@ -5,6 +5,7 @@ use Rattle.sheet.specs.Rows.{rows}
 use Rattle.references.specs.References.{typeOf}
 use Rattle.patterns.proofs.Entries.{entry-at}
 use Rattle.patterns.proofs.Lines.{naming-hit, naming-miss}
+use Rattle.patterns.proofs.Rooms.{rooms-hit, rooms-miss}
 use borrow.Author.Needs.{needs}
 use Rattle.patterns.proofs.constructor_line.Statement.{statement}
 use Rattle.patterns.proofs.constructor_line.Tie as tie
@@ -25,14 +26,18 @@ returns c =
     let a = c .before .before .before .before .before .before .before .before .before .before .before .before .before .before .before .before .before .before .before .before .before .before .before .before .before .args in
     let p = c .before .before .before .before .before .before .before .before .before .before .before .before .before .before .before .before .before .before .before .before .before .before .before .before .before .pre .0 in
     let ls = rows (now (a .s)) in
-    naming-hit ls (a .name) (a .count) (typeOf ls (a .want)) (now (a .w)) (a .n) _ _ _ (sym (c .before .before .before .before .before .before .before .before .before .before .before .before .before .before .before .before .before .line .given .1) ∙ c .before .before .before .before .before .before .before .before .before .before .before .before .before .before .before .before .before .before .before .find-entry .ensures) (c .before .before .before .before .before .before .before .before .before .before .before .before .before .before .before .wide .ensures) (p .frames) (c .before .before .before .before .before .before .before .before .before .before .before .pattern-parts .ensures) (c .before .before .add-frame .ensures)
+    let q = sym (c .before .before .before .before .before .before .before .before .before .before .before .before .before .before .before .before .before .line .given .1) ∙ c .before .before .before .before .before .before .before .before .before .before .before .before .before .before .before .before .before .before .before .find-entry .ensures in
+    let P = c .before .before .before .before .before .before .before .before .before .before .before .pattern-parts .ensures in
+    let A = c .before .before .add-frame .ensures in
+    (naming-hit ls (a .name) (a .count) (typeOf ls (a .want)) (now (a .w)) (a .n) _ _ _ q (c .before .before .before .before .before .before .before .before .before .before .before .before .before .before .before .wide .ensures) (p .frames) (P .0) (A .0), rooms-hit ls (a .name) (a .count) (a .want) (a .c) (now (a .w)) (a .n) (now (a .l)) (now (a .r)) _ _ _ q (c .before .before .before .before .before .before .before .before .before .before .before .before .before .before .before .wide .ensures) (P .1) (P .2) (P .3) (A .1) (A .2))
 
 returns-2 : tie.Need-returns-2
 returns-2 c =
     let a = c .before .before .before .before .before .before .before .before .before .args in
     let p = c .before .before .before .before .before .before .before .before .before .pre .0 in
     let ls = rows (now (a .s)) in
-    naming-miss ls (a .name) (a .count) (typeOf ls (a .want)) (now (a .w)) (a .n) (sym (c .before .enum-told .given .1) ∙ c .before .before .before .find-entry .ensures) (p .ready) (p .frames) (c .refuse .ensures)
+    let q = sym (c .before .enum-told .given .1) ∙ c .before .before .before .find-entry .ensures in
+    (naming-miss ls (a .name) (a .count) (typeOf ls (a .want)) (now (a .w)) (a .n) q (p .ready) (p .frames) (c .refuse .ensures), rooms-miss ls (a .name) (a .count) (a .want) (a .c) (now (a .w)) (a .n) (now (a .l)) (now (a .r)) q (c .refuse .ensures .0))
 
 pub constructor-line-spec : {M : Type 1} → statement M
 constructor-line-spec =

@@ -8,6 +8,7 @@ use Rattle.sheet.specs.Plan.{noTriple}
 use Rattle.sheet.specs.Rows.{rows}
 use Rattle.sheet.proofs.RowLaws.{row-count}
 use Rattle.patterns.proofs.Lines.{lining-variable, lining-wildcard, lining-constructor}
+use Rattle.patterns.proofs.Rooms.{rooms-variable, rooms-wildcard, rooms-constructor}
 use borrow.Author.Needs.{needs}
 use Rattle.patterns.proofs.pattern_line.Statement.{statement}
 use Rattle.patterns.proofs.pattern_line.Tie as tie
@@ -21,7 +22,8 @@ returns c =
     let is : X ≡ getD ls (a .p) noTriple = c .before .before .before .before .before .before .before .before .before .before .before .before .before .before .triple-at .ensures in
     let y : X .value ≡ getD ls (a .p) noTriple .value = ap (λ (t : Triple). t .value) is in
     let m : getD ls (a .p) noTriple .value < 4294967296 = p .narrow in
-    lining-variable ls (a .p) (a .n) (now (a .v)) (a .j) (p .line) (p .ready) (c .before .before .before .before .before .before .before .before .before .before .before .next .ensures .0) (p .sound) X is (c .before .before .before .before .if1 .taken) (omega arith) (c .before .before .insert .ensures)
+    let N = c .before .before .before .before .before .before .before .before .before .before .before .next .ensures in
+    (lining-variable ls (a .p) (a .n) (now (a .v)) (a .j) (p .line) (p .ready) (N .0) (p .sound) X is (c .before .before .before .before .if1 .taken) (omega arith) (c .before .before .insert .ensures), rooms-variable ls (a .p) (a .c) (now (a .w)) (a .n) (now (a .v)) (a .j) (now (a .l)) (now (a .r)) (N .0) (N .1) X is (c .before .before .before .before .if1 .taken) (c .before .before .insert .ensures))
 
 constructor-line-requires : tie.Need-constructor-line-requires
 constructor-line-requires c κs =
@@ -51,7 +53,8 @@ returns-2 c =
     let is : X ≡ getD ls (a .p) noTriple = c .before .before .before .before .before .before .before .before .before .before .before .before .before .before .before .before .before .before .before .before .before .before .before .before .before .before .triple-at .ensures in
     let y : X .value ≡ getD ls (a .p) noTriple .value = ap (λ (t : Triple). t .value) is in
     let m : getD ls (a .p) noTriple .value < 4294967296 = p .narrow in
-    lining-constructor ls (a .p) (a .n) (now (a .v)) (a .j) (p .line) (p .ready) (c .before .before .before .before .before .before .before .before .before .before .before .before .before .before .before .before .before .before .before .before .before .before .before .next .ensures .0) (p .sound) X is (c .before .before .before .before .before .before .before .before .before .before .before .before .before .before .if2 .taken) (c .before .before .before .before .before .before .before .before .before .constructor-line .ensures)
+    let N = c .before .before .before .before .before .before .before .before .before .before .before .before .before .before .before .before .before .before .before .before .before .before .before .next .ensures in
+    (lining-constructor ls (a .p) (a .n) (now (a .v)) (a .j) (p .line) (p .ready) (N .0) (p .sound) X is (c .before .before .before .before .before .before .before .before .before .before .before .before .before .before .if2 .taken) (c .before .before .before .before .before .before .before .before .before .constructor-line .ensures .0), rooms-constructor ls (a .p) (a .c) (now (a .w)) (a .n) (now (a .v)) (a .j) (now (a .l)) (now (a .r)) (N .0) (N .1) X is (c .before .before .before .before .before .before .before .before .before .before .before .before .before .before .if2 .taken) (c .before .before .before .before .before .before .before .before .before .constructor-line .ensures .1 _ _))
 
 returns-3 : tie.Need-returns-3
 returns-3 c =
@@ -62,7 +65,8 @@ returns-3 c =
     let is : X ≡ getD ls (a .p) noTriple = c .before .before .before .before .before .before .before .before .before .before .before .before .triple-at .ensures in
     let y : X .value ≡ getD ls (a .p) noTriple .value = ap (λ (t : Triple). t .value) is in
     let m : getD ls (a .p) noTriple .value < 4294967296 = p .narrow in
-    lining-wildcard ls (a .p) (a .n) (now (a .v)) (a .j) (p .line) (p .ready) (c .before .before .before .before .before .before .before .before .before .next .ensures .0) (p .sound) X is (c .before .before .if1 .left) (c .if2 .left)
+    let N = c .before .before .before .before .before .before .before .before .before .next .ensures in
+    (lining-wildcard ls (a .p) (a .n) (now (a .v)) (a .j) (p .line) (p .ready) (N .0) (p .sound) X is (c .before .before .if1 .left) (c .if2 .left), rooms-wildcard ls (a .p) (a .c) (now (a .w)) (a .n) (now (a .v)) (a .j) (now (a .l)) (now (a .r)) (N .0) (N .1) X is (c .before .before .if1 .left) (c .if2 .left))
 
 pub pattern-line-spec : {M : Type 1} → statement M
 pattern-line-spec =

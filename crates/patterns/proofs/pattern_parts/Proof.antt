@@ -5,6 +5,7 @@ use denote.Ref.{now}
 use Rattle.sheet.specs.Rows.{rows}
 use Rattle.patterns.proofs.Steps.{sub-turn}
 use Rattle.patterns.proofs.Opened.{good-within, few-arity, few-nodes, opened-ready, parting}
+use Rattle.patterns.proofs.Rooms.{parts-are}
 use borrow.Author.Needs.{needs}
 use Rattle.patterns.proofs.pattern_parts.Statement.{statement}
 use Rattle.patterns.proofs.pattern_parts.Tie as tie
@@ -100,7 +101,7 @@ returns c =
     let st : c .before .before .before .before .before .before .before .before .before .signature .result .start ≤ o .nodes = S .0 in
     let r1 = opened-ready ls (a .first) (a .n) (a .count) (a .want) p O in
     let T = sub-turn {ls = ls} _ _ r1 (c .before .before .before .push-sub .ensures) in
-    parting ls (a .first) (a .n) (a .count) (a .want) p O (c .before .before .before .before .before .before .before .before .before .signature .result .start) (c .before .before .before .before .before .before .before .before .before .signature .result .arity) (S .1) _ (c .before .before .before .before .before .before .before .before .before .before .before .before .before .before .before .before .before .before .before .before .before .instance .ensures .0) (S .2) (c .before .before .before .push-sub .ensures .2) (c .check-arity .ensures ls _ (T .ready)) (T .taken)
+    (parting ls (a .first) (a .n) (a .count) (a .want) p O (c .before .before .before .before .before .before .before .before .before .signature .result .start) (c .before .before .before .before .before .before .before .before .before .signature .result .arity) (S .1) _ (c .before .before .before .before .before .before .before .before .before .before .before .before .before .before .before .before .before .before .before .before .before .instance .ensures .0) (S .2) (c .before .before .before .push-sub .ensures .2) (c .check-arity .ensures .0 ls _ (T .ready)) (T .taken), parts-are ls (a .first) (a .n) (a .count) (a .want) O _ (S .1) _ _ (S .2) (c .before .before .before .before .before .before .before .before .before .before .before .before .before .before .before .before .before .before .before .before .before .instance .ensures .0) (c .before .before .before .push-sub .ensures .0) (c .check-arity .ensures .1), O .out, c .before .before .before .before .before .before .before .before .before .before .before .before .before .before .before .before .before .before .before .before .before .instance .ensures .1)
 
 pub pattern-parts-spec : {M : Type 1} → statement M
 pattern-parts-spec =
