@@ -1,3 +1,4 @@
+pub mod Rooms
 pub mod Vars
 pub mod Bodies
 pub mod Cut

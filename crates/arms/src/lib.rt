@@ -14,6 +14,7 @@ ghost use Rattle.tables.specs.Rows.{bindingsAt};
 ghost use Rattle.patterns.specs.Turns.{Turn};
 ghost use Rattle.patterns.specs.Readings.{envAt};
 ghost use Rattle.arms.specs.Arms.{VarsAsk, ArmAsk, Armed, ArmsAsk, CaseAsk};
+ghost use Rattle.arms.specs.Rooms.{room, varsRun, varsOut, armRoom, afterArm, armsRoom, caseRoom};
 use operations::Run;
 use operations::fresh_evar;
 use operations::push_chk;
@@ -27,7 +28,7 @@ use tables::get;
 // Pushes the Var of each of the n bindings in v. l is scratch.
 fn push_vars(board: &mut [u32], c: Run, s: &[u64], v: &[usize], n: usize, l: &mut [u32]) -> Run
     requires { ⌜ VarsAsk (now board) c (rows (now s)) (now v) n (now l) ⌝ }
-    ensures { λ r. ⌜ Turn {A = ℕ} (rows (now (s .entry))) (now (board .entry)) c (λ f. pushVars (bindingsAt (rows (now (s .entry))) (now (v .entry)) 0 n) (f 0)) (now (board .exit)) r (λ f. f 0) ⌝ }
+    ensures { λ r. ⌜ Turn {A = ℕ} (rows (now (s .entry))) (now (board .entry)) c (λ f. pushVars (bindingsAt (rows (now (s .entry))) (now (v .entry)) 0 n) (f 0)) (now (board .exit)) r (λ f. f 0) × (r ≡ varsRun (rows (now (s .entry))) (now (v .entry)) 0 n c) × (now (l .exit) ≡ varsOut (rows (now (s .entry))) (now (v .entry)) 0 n (now (l .entry))) ⌝ }
 {
     let mut run = c;
     let mut i: usize = 0;
@@ -65,7 +66,7 @@ fn check_arm(
     tn: usize,
 ) -> Arm
     requires { ⌜ ArmAsk (now board) c (rows (now s)) first u (now w) (now v) (now l) (now r) (now t) ta tn × Ended (now s) ⌝ }
-    ensures { λ o. ⌜ Armed (now (board .entry)) c (rows (now (s .entry))) first u (nodesAt (now (t .entry)) ta tn) (now (board .exit)) o ⌝ }
+    ensures { λ o. ⌜ Armed (now (board .entry)) c (rows (now (s .entry))) first u (nodesAt (now (t .entry)) ta tn) (now (board .exit)) o × (o .next ≡ afterArm (rows (now (s .entry))) first) × (room (o .run) (now (w .exit)) (now (v .exit)) (now (l .exit)) (now (r .exit)) ≡ armRoom (rows (now (s .entry))) u (nodesAt (now (t .entry)) ta tn) first (room c (now (w .entry)) (now (v .entry)) (now (l .entry)) (now (r .entry)))) ⌝ }
 {
     let body = part_line(s, first, 1);
     let lines = body - first;
@@ -94,7 +95,7 @@ pub fn check_arms(
     tn: usize,
 ) -> Run
     requires { ⌜ ArmsAsk (now board) c (rows (now s)) line n u (now w) (now v) (now l) (now r) (now t) ta tn × Ended (now s) ⌝ }
-    ensures { λ o. ⌜ ((m : ℕ) (k rep : List ℕ) → WellFormed (now (board .entry)) k c → Does m (rows (now (s .entry))) (now (board .entry)) k rep c (checkArms (envAt (rows (now (s .entry)))) n (fromLine (rows (now (s .entry))) line) (unknown u) (nodesAt (now (t .entry)) ta tn)) (now (board .exit)) k rep o) ⌝ }
+    ensures { λ o. ⌜ ((m : ℕ) (k rep : List ℕ) → WellFormed (now (board .entry)) k c → Does m (rows (now (s .entry))) (now (board .entry)) k rep c (checkArms (envAt (rows (now (s .entry)))) n (fromLine (rows (now (s .entry))) line) (unknown u) (nodesAt (now (t .entry)) ta tn)) (now (board .exit)) k rep o) × (room o (now (w .exit)) (now (v .exit)) (now (l .exit)) (now (r .exit)) ≡ armsRoom (rows (now (s .entry))) u (nodesAt (now (t .entry)) ta tn) n line (room c (now (w .entry)) (now (v .entry)) (now (l .entry)) (now (r .entry)))) ⌝ }
 {
     let mut run = c;
     let mut at = line;
@@ -124,7 +125,7 @@ pub fn infer_case(
     tn: usize,
 ) -> Run
     requires { ⌜ CaseAsk (now board) c (rows (now s)) line n (now w) (now v) (now l) (now r) (now t) tn × Ended (now s) ⌝ }
-    ensures { λ o. ⌜ ((m : ℕ) (k rep : List ℕ) → WellFormed (now (board .entry)) k c → Does m (rows (now (s .entry))) (now (board .entry)) k rep c (inferBy (envAt (rows (now (s .entry)))) (nodesAt (now (t .entry)) 0 tn) (isCase n (termAt (rows (now (s .entry))) e) (fromLine (rows (now (s .entry))) line))) (now (board .exit)) k rep o) ⌝ }
+    ensures { λ o. ⌜ ((m : ℕ) (k rep : List ℕ) → WellFormed (now (board .entry)) k c → Does m (rows (now (s .entry))) (now (board .entry)) k rep c (inferBy (envAt (rows (now (s .entry)))) (nodesAt (now (t .entry)) 0 tn) (isCase n (termAt (rows (now (s .entry))) e) (fromLine (rows (now (s .entry))) line))) (now (board .exit)) k rep o) × (room o (now (w .exit)) (now (v .exit)) (now (l .exit)) (now (r .exit)) ≡ caseRoom (rows (now (s .entry))) (nodesAt (now (t .entry)) 0 tn) n line (room c (now (w .entry)) (now (v .entry)) (now (l .entry)) (now (r .entry)))) ⌝ }
 {
     let a = c.fresh;
     let c1 = fresh_evar(c);

@@ -1,15 +1,16 @@
-use mathlib.Core.Path.{_≡_, sym, _∙_, subst⁻¹}
+use mathlib.Core.Path.{_≡_, sym, ap, _∙_, subst⁻¹}
 use mathlib.Core.List.{List}
 use Prim.Native.Nat.{ℕ, _+_, _*_, _-_, _≤_, _<_}
 use native.Mathlib.Omega.{arith}
 use denote.Ref.{now}
 use lib.ListN.{length, take, drop}
-use Rattle.nodes.specs.Nodes.{nodesAt}
+use Rattle.nodes.specs.Nodes.{Ty, nodesAt}
 use Rattle.nodes.specs.Lists.{All}
 use Rattle.spelling.specs.declared.Triple.{Triple}
-use Rattle.sheet.specs.Plan.{Narrow}
+use Rattle.sheet.specs.Plan.{Narrow, partLine}
 use Rattle.sheet.specs.Rows.{rows}
 use Rattle.arms.proofs.Bodies.{body-within, pattern-lines, armed}
+use Rattle.arms.proofs.Rooms.{room-arm}
 use borrow.Author.Needs.{needs}
 use Rattle.arms.proofs.check_arm.Statement.{statement}
 use Rattle.arms.proofs.check_arm.Tie as tie
@@ -75,7 +76,7 @@ cast-push-chk c =
     omega arith
 
 push-chk-requires : tie.Need-push-chk-requires
-push-chk-requires c κs = (c .before .before .before .before .before .push-vars .ensures .ready .board, c .before .before .before .before .before .before .before .before .before .before .before .before .before .before .before .before .before .before .before .before .before .before .before .before .before .before .before .before .before .before .before .before .before .before .pre .0 .lent .type)
+push-chk-requires c κs = (c .before .before .before .before .before .push-vars .ensures .0 .ready .board, c .before .before .before .before .before .before .before .before .before .before .before .before .before .before .before .before .before .before .before .before .before .before .before .before .before .before .before .before .before .before .before .before .before .before .pre .0 .lent .type)
 
 part-line-requires-2 : tie.Need-part-line-requires-2
 part-line-requires-2 c κs = c .before .before .before .before .before .before .before .before .before .before .before .before .before .before .before .before .before .before .before .before .before .before .before .before .before .before .before .before .before .before .before .before .before .before .before .before .before .pre .1
@@ -104,7 +105,12 @@ returns c =
     let B : (a .first ≤ body) × (body ≤ length ls) = body-within ls (a .first) (p .within) body (c .before .before .before .before .before .before .before .before .before .before .before .before .before .before .before .before .before .before .before .before .before .before .before .before .before .before .before .before .before .before .part-line .ensures) in
     let few : length ls ≤ 4096 = p .lent .sheet .few in
     let next : ℕ = c .part-line2 .result in
-    armed ls (a .first) (p .within) body (c .before .before .before .before .before .before .before .before .before .before .before .before .before .before .before .before .before .before .before .before .before .before .before .before .before .before .before .before .before .before .part-line .ensures) (a .u) (nodesAt (now (a .t)) (a .ta) (a .tn)) next (c .part-line2 .ensures) (body-within ls body (B .1) next (c .part-line2 .ensures) .1) (c .before .before .before .before .before .before .before .before .before .before .before .before .before .before .before .before .before .before .before .before .before .before .before .before .check-pattern .ensures .0) (c .before .before .before .before .before .before .before .before .before .push-vars .ensures) (c .before .before .before .push-chk .ensures)
+    let b = c .before .before .before .before .before .before .before .before .before .before .before .before .before .before .before .before .before .before .before .before .before .before .before .before .before .before .before .before .before .before .part-line .ensures in
+    let C = c .before .before .before .before .before .before .before .before .before .before .before .before .before .before .before .before .before .before .before .before .before .before .before .before .check-pattern .ensures in
+    let W = c .before .before .before .before .before .before .before .before .before .push-vars .ensures in
+    let P = c .before .before .before .push-chk .ensures in
+    let T : Ty = nodesAt (now (a .t)) (a .ta) (a .tn) in
+    (armed ls (a .first) (p .within) body b (a .u) T next (c .part-line2 .ensures) (body-within ls body (B .1) next (c .part-line2 .ensures) .1) (C .0) (W .0) P, c .part-line2 .ensures ∙ ap (λ (i : ℕ). partLine ls i 1) b, room-arm ls (a .u) T (a .first) (a .c) (now (a .w)) (now (a .v)) (now (a .l)) (now (a .r)) b (C .1) (W .1) (W .2) (P .0))
 
 pub check-arm-spec : {M : Type 1} → statement M
 check-arm-spec =

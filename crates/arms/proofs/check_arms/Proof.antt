@@ -10,11 +10,13 @@ use Rattle.nodes.specs.Nodes.{Ty, nodesAt}
 use Rattle.sheet.specs.Rows.{rows}
 use Rattle.arms.specs.Arms.{NarrowArms}
 use Rattle.arms.proofs.Bodies.{Arms, arms-start, arms-turn, arms-does, narrow-arms}
+use Rattle.arms.specs.Rooms.{room, armsRoom}
+use Rattle.arms.proofs.Rooms.{room-turn, room-end}
 use Rattle.arms.proofs.check_arms.Statement.{statement}
 use Rattle.arms.proofs.check_arms.Tie as tie
 
 abbrev Inv-loop : tie.InvT-loop
-Inv-loop board₀ s line n u w₀ v₀ l₀ r₀ t ta tn run₀ at₀ left₀ board w v l r run at left = Arms (rows s) u (nodesAt t ta tn) board₀ run₀ n (fromLine (rows s) line) board run left at × (at ≤ length (rows s)) × NarrowArms left (fromLine (rows s) at) × (length board ≡ length board₀) × (length w ≡ length w₀) × (length v ≡ length v₀) × (length l ≡ length l₀) × (length r ≡ length r₀)
+Inv-loop board₀ s line n u w₀ v₀ l₀ r₀ t ta tn run₀ at₀ left₀ board w v l r run at left = Arms (rows s) u (nodesAt t ta tn) board₀ run₀ n (fromLine (rows s) line) board run left at × (at ≤ length (rows s)) × NarrowArms left (fromLine (rows s) at) × (length board ≡ length board₀) × (length w ≡ length w₀) × (length v ≡ length v₀) × (length l ≡ length l₀) × (length r ≡ length r₀) × (armsRoom (rows s) u (nodesAt t ta tn) left at (room run w v l r) ≡ armsRoom (rows s) u (nodesAt t ta tn) n line (room run₀ w₀ v₀ l₀ r₀))
 
 abbrev μ-loop : tie.MeasureT-loop
 μ-loop board₀ s line n u w₀ v₀ l₀ r₀ t ta tn run₀ at₀ left₀ board w v l r run at left = left
@@ -23,7 +25,7 @@ loop-holds : tie.Need-loop-holds Inv-loop μ-loop
 loop-holds c =
     let a = c .before .before .before .before .before .before .before .args in
     let p = c .before .before .before .before .before .before .before .pre .0 in
-    (arms-start (rows (now (a .s))) (a .u) (nodesAt (now (a .t)) (a .ta) (a .tn)) (a .n) (a .line) (p .ready), p .within, p .narrow, refl, refl, refl, refl, refl)
+    (arms-start (rows (now (a .s))) (a .u) (nodesAt (now (a .t)) (a .ta) (a .tn)) (a .n) (a .line) (p .ready), p .within, p .narrow, refl, refl, refl, refl, refl, refl)
 
 check-arm-requires : tie.Need-check-arm-requires Inv-loop μ-loop
 check-arm-requires c κs =
@@ -56,8 +58,9 @@ loop-again c =
     let L = c .before .before .before .before .before .before .before .before .before .before .before .before .before .before .before .before .before .before .loop in
     let h = L .inv in
     let K = c .before .before .before .before .before .before .before .before .before .before .before .check-arm .kept in
-    let A = c .before .before .before .before .before .before .before .before .before .before .before .check-arm .ensures in
-    (arms-turn ls (a .u) T (a .n) (fromLine ls (a .line)) (L .left) (L .at) (c .before .before .before .before .before .before .before .before .before .before .before .before .before .before .before .before .before .loop-test .taken) (h .0) A, A .within, subst⁻¹ (NarrowArms (L .left - 1)) (A .after) (narrow-arms (L .left) (fromLine ls (L .at)) (c .before .before .before .before .before .before .before .before .before .before .before .before .before .before .before .before .before .loop-test .taken) (h .2) .1), K .0 ∙ h .3, K .1 .1 .1 .1 .1 .0 ∙ h .4, K .1 .1 .1 .1 .1 .1 .0 ∙ h .5, K .1 .1 .1 .1 .1 .1 .1 .0 ∙ h .6, K .1 .1 .1 .1 .1 .1 .1 .1 .0 ∙ h .7)
+    let A = c .before .before .before .before .before .before .before .before .before .before .before .check-arm .ensures .0 in
+    let R = c .before .before .before .before .before .before .before .before .before .before .before .check-arm .ensures in
+    (arms-turn ls (a .u) T (a .n) (fromLine ls (a .line)) (L .left) (L .at) (c .before .before .before .before .before .before .before .before .before .before .before .before .before .before .before .before .before .loop-test .taken) (h .0) A, A .within, subst⁻¹ (NarrowArms (L .left - 1)) (A .after) (narrow-arms (L .left) (fromLine ls (L .at)) (c .before .before .before .before .before .before .before .before .before .before .before .before .before .before .before .before .before .loop-test .taken) (h .2) .1), K .0 ∙ h .3, K .1 .1 .1 .1 .1 .0 ∙ h .4, K .1 .1 .1 .1 .1 .1 .0 ∙ h .5, K .1 .1 .1 .1 .1 .1 .1 .0 ∙ h .6, K .1 .1 .1 .1 .1 .1 .1 .1 .0 ∙ h .7, room-turn ls (a .u) T _ (L .left) (L .at) (c .before .before .before .before .before .before .before .before .before .before .before .before .before .before .before .before .before .loop-test .taken) (h .8) (R .1) (R .2))
 
 same-length : tie.Need-same-length Inv-loop μ-loop
 same-length c = c .before .loop .inv .3
@@ -82,7 +85,8 @@ returns c =
     let T : Ty = nodesAt (now (a .t)) (a .ta) (a .tn) in
     let L = c .before .loop in
     let h = L .inv in
-    arms-does ls (a .u) T (a .n) (fromLine ls (a .line)) (L .left) (L .at) (h .0) (let z = c .loop-test .left in omega arith)
+    let z = c .loop-test .left in
+    (arms-does ls (a .u) T (a .n) (fromLine ls (a .line)) (L .left) (L .at) (h .0) (omega arith), room-end ls (a .u) T _ (L .left) (L .at) (omega arith) (h .8))
 
 pub check-arms-spec : {M : Type 1} → statement M
 check-arms-spec =

@@ -4,6 +4,8 @@ use Rattle.nodes.specs.Nodes.{nodesAt}
 use Rattle.sheet.specs.Rows.{rows}
 use Rattle.operations.proofs.Then.{fresh-then, push-then}
 use Rattle.arms.proofs.Cases.{fresh-ready, tvar-ready, chk-ready}
+use mathlib.Core.Path.{_∙_}
+use Rattle.arms.proofs.Rooms.{room-case}
 use borrow.Author.Needs.{needs}
 use Rattle.arms.proofs.infer_case.Statement.{statement}
 use Rattle.arms.proofs.infer_case.Tie as tie
@@ -32,12 +34,19 @@ check-arms-requires c κs =
 returns : tie.Need-returns
 unfolding nodesAt
 returns c =
-    λ m k rep f.
-    let ls = rows (now (c .before .before .before .before .before .before .before .before .before .before .before .before .before .before .before .before .before .before .before .before .before .before .before .before .before .before .before .before .before .before .before .before .before .args .s)) in
-    let D1 = c .before .before .before .before .before .before .before .before .before .before .before .before .before .before .before .before .before .before .before .before .before .before .before .before .before .fresh-evar .ensures .1 m ls _ k rep f in
-    let D2 = c .before .before .before .before .before .before .before .before .before .before .before .before .before .before .before .before .before .before .before .before .before .before .before .push-tvar .ensures .2 m ls k rep (D1 .kept) in
-    let D3 = c .before .before .before .before .before .before .before .before .before .before .before .before .before .before .before .before .before .before .push-chk .ensures .2 m ls k rep (D2 .kept) in
-    fresh-then D1 (push-then D2 (push-then D3 (c .before .before .before .before .before .before .before .before .before .before .check-arms .ensures m k rep (D3 .kept))))
+    let a = c .before .before .before .before .before .before .before .before .before .before .before .before .before .before .before .before .before .before .before .before .before .before .before .before .before .before .before .before .before .before .before .before .before .args in
+    let ls = rows (now (a .s)) in
+    let F = c .before .before .before .before .before .before .before .before .before .before .before .before .before .before .before .before .before .before .before .before .before .before .before .before .before .fresh-evar .ensures in
+    let W = c .before .before .before .before .before .before .before .before .before .before .before .before .before .before .before .before .before .before .before .before .before .before .before .push-tvar .ensures in
+    let K = c .before .before .before .before .before .before .before .before .before .before .before .before .before .before .before .before .before .before .push-chk .ensures in
+    let A = c .before .before .before .before .before .before .before .before .before .before .check-arms .ensures in (
+      λ m k rep f.
+          let D1 = F .1 m ls _ k rep f in
+          let D2 = W .2 m ls k rep (D1 .kept) in
+          let D3 = K .2 m ls k rep (D2 .kept) in
+          fresh-then D1 (push-then D2 (push-then D3 (A .0 m k rep (D3 .kept)))),
+      A .1 ∙ room-case ls (nodesAt (now (a .t)) 0 (a .tn)) (a .n) (a .line) (a .c) (now (a .w)) (now (a .v)) (now (a .l)) (now (a .r)) (F .0) (W .0) (K .0),
+    )
 
 pub infer-case-spec : {M : Type 1} → statement M
 infer-case-spec =

@@ -9,17 +9,18 @@ use Rattle.judgment.specs.Rules.{pushVars}
 use Rattle.tables.specs.Rows.{bindingsAt}
 use Rattle.patterns.specs.Turns.{Turn}
 use Rattle.arms.proofs.Vars.{Left, vars-start, vars-turn, vars-end, row-good, row-fits}
+use Rattle.arms.proofs.Rooms.{Vars, room-start, room-var, room-vars}
 use Rattle.arms.proofs.push_vars.Statement.{statement}
 use Rattle.arms.proofs.push_vars.Tie as tie
 
 abbrev Inv-loop : tie.InvT-loop
-Inv-loop board₀ s v n l₀ run₀ i₀ board l run i = Turn {A = ℕ} (rows s) board₀ run₀ (λ f. pushVars (bindingsAt (rows s) v 0 n) (f 0)) board run (Left (rows s) v n i) × (length board ≡ length board₀) × (length l ≡ length l₀)
+Inv-loop board₀ s v n l₀ run₀ i₀ board l run i = Turn {A = ℕ} (rows s) board₀ run₀ (λ f. pushVars (bindingsAt (rows s) v 0 n) (f 0)) board run (Left (rows s) v n i) × (length board ≡ length board₀) × (length l ≡ length l₀) × Vars (rows s) v n run₀ l₀ run l i
 
 abbrev μ-loop : tie.MeasureT-loop
 μ-loop board₀ s v n l₀ run₀ i₀ board l run i = n - i
 
 loop-holds : tie.Need-loop-holds Inv-loop μ-loop
-loop-holds c = (vars-start (rows (now (c .before .before .before .before .args .s))) (now (c .before .before .before .before .args .v)) (c .before .before .before .before .args .n) (c .before .before .before .before .pre .ready), refl, refl)
+loop-holds c = (vars-start (rows (now (c .before .before .before .before .args .s))) (now (c .before .before .before .before .args .v)) (c .before .before .before .before .args .n) (c .before .before .before .before .pre .ready), refl, refl, room-start (rows (now (c .before .before .before .before .args .s))) (now (c .before .before .before .before .args .v)) (c .before .before .before .before .args .n) _ _)
 
 get-requires : tie.Need-get-requires Inv-loop μ-loop
 get-requires c κs = omega (arith, c .before .before .before .before .before .before .pre .rows)
@@ -62,7 +63,9 @@ loop-again : tie.Need-loop-again Inv-loop μ-loop
 loop-again c =
     let a = c .before .before .before .before .before .before .before .before .before .before .before .before .before .before .before .before .before .before .args in
     let L = c .before .before .before .before .before .before .before .before .before .before .before .before .before .loop in
-    (vars-turn (rows (now (a .s))) (now (a .v)) (a .n) (L .i) (c .before .before .before .before .before .before .before .before .before .before .before .get .result) _ (L .inv .0) (c .before .before .before .before .before .before .before .before .before .before .before .before .loop-test .taken) (c .before .before .before .before .before .before .before .before .before .before .before .get .ensures) (c .before .before .before .before .before .before .before .instance .ensures .0) (c .before .before .push-var .ensures), c .before .before .push-var .kept .0 ∙ L .inv .1, c .before .before .before .before .before .before .before .instance .kept .0 ∙ L .inv .2)
+    let G = c .before .before .before .before .before .before .before .before .before .before .before .get in
+    let I = c .before .before .before .before .before .before .before .instance in
+    (vars-turn (rows (now (a .s))) (now (a .v)) (a .n) (L .i) (c .before .before .before .before .before .before .before .before .before .before .before .get .result) _ (L .inv .0) (c .before .before .before .before .before .before .before .before .before .before .before .before .loop-test .taken) (c .before .before .before .before .before .before .before .before .before .before .before .get .ensures) (c .before .before .before .before .before .before .before .instance .ensures .0) (c .before .before .push-var .ensures), c .before .before .push-var .kept .0 ∙ L .inv .1, c .before .before .before .before .before .before .before .instance .kept .0 ∙ L .inv .2, room-var (rows (now (a .s))) (now (a .v)) (a .n) (G .result) _ (L .inv .3) (c .before .before .before .before .before .before .before .before .before .before .before .before .loop-test .taken) (G .ensures) (I .ensures .0) (I .ensures .1) (c .before .before .push-var .ensures .0))
 
 same-length : tie.Need-same-length Inv-loop μ-loop
 same-length c = c .before .loop .inv .1
@@ -71,7 +74,12 @@ same-length-2 : tie.Need-same-length-2 Inv-loop μ-loop
 same-length-2 c = c .before .loop .inv .2
 
 returns : tie.Need-returns Inv-loop μ-loop
-returns c = vars-end (rows (now (c .before .before .before .before .before .before .args .s))) (now (c .before .before .before .before .before .before .args .v)) (c .before .before .before .before .before .before .args .n) (c .before .loop .i) (c .before .loop .inv .0) (let z = c .loop-test .left in omega arith)
+returns c =
+    let a = c .before .before .before .before .before .before .args in
+    let z = c .loop-test .left in
+    let L = c .before .loop in
+    let W = room-vars (rows (now (a .s))) (now (a .v)) (a .n) (L .inv .3) (omega arith) in
+    (vars-end (rows (now (a .s))) (now (a .v)) (a .n) (L .i) (L .inv .0) (omega arith), W .0, W .1)
 
 pub push-vars-spec : {M : Type 1} → statement M
 push-vars-spec =

@@ -13,7 +13,7 @@ infer-case-requires c κs =
 returns : tie.Need-returns
 returns c =
     let p = term-asks (c .before .before .before .before .before .before .before .before .before .before .before .before .before .before .before .before .before .before .before .before .before .before .before .before .before .before .before .pre .0) refl (c .before .before .before .before .before .before .before .before .before .before .before .before .before .before .before .before .before .before .before .before .before .before .before .before .before .before .before .pre .2) in
-    ruled p (case-rule p refl (ap (λ (t : Triple). t .count) (c .before .before .before .before .before .before .before .before .before .before .before .before .before .before .before .before .before .before .before .triple-at .ensures)) (c .before .before .before .before .before .before .before .before .before .before .before .before .before .before .before .before .before .before .part-at .ensures) (c .before .before .before .before .before .before .before .before .before .before .before .before .before .before .before .before .wide .ensures ∙ c .before .before .before .before .before .before .before .before .before .before .before .before .before .before .before .before .before .part-at2 .ensures)) (c .before .before .before .before .before .before .before .before .before .before .infer-case .ensures)
+    ruled p (case-rule p refl (ap (λ (t : Triple). t .count) (c .before .before .before .before .before .before .before .before .before .before .before .before .before .before .before .before .before .before .before .triple-at .ensures)) (c .before .before .before .before .before .before .before .before .before .before .before .before .before .before .before .before .before .before .part-at .ensures) (c .before .before .before .before .before .before .before .before .before .before .before .before .before .before .before .before .wide .ensures ∙ c .before .before .before .before .before .before .before .before .before .before .before .before .before .before .before .before .before .part-at2 .ensures)) (c .before .before .before .before .before .before .before .before .before .before .infer-case .ensures .0)
 
 pub case-term-spec : {M : Type 1} → statement M
 case-term-spec =
