@@ -1,6 +1,7 @@
 -- A term by the kind of its first line: what the code reads of it is its view. Assumes nothing.
 use mathlib.Core.Path.{_≡_, refl, sym, ap, ap₂, _∙_}
 use mathlib.Core.Bool.{Bool, true, false, not, _&&_, _||_, and-eq-true-iff}
+use mathlib.Core.Logic.{_≢_}
 use mathlib.Core.List.{List}
 use Prim.Native.Nat.{ℕ, _+_, _*_, _-_, _≤_, _<_}
 use native.Mathlib.Omega.{arith}
@@ -185,6 +186,13 @@ module _ {b : List ℕ} {c : Run} {s : List ℕ} {p : ℕ} {t : List ℕ} {tn : 
 
   pub kinds : (21 ≤ kindAt s p) × (kindAt s p ≤ 30)
   kinds = term-kind (lineOf (rows s) p) (head-ok s p (a .stands) (a .term) .0)
+
+  -- the last of the kinds, where it is none of those before
+  pub last-kind : {h : Triple} → h ≡ lineOf (rows s) p → 25 ≤ kindAt s p → h .kind ≢ 25 → h .kind ≢ 26 → h .kind ≢ 27 → h .kind ≢ 28 → h .kind ≢ 29 → TermAsk 30 b c s p t tn
+  last-kind q l f1 f2 f3 f4 f5 =
+      let k = kinds .1 in
+      let e = ap (λ (t : Triple). t .kind) q in
+      term-asks q (omega arith)
 
   pub case-asks : {r w v : List ℕ} → CaseRoom s r w v → kindAt s p ≡ 27 → {n j : ℕ} → n ≡ lineOf (rows s) p .count → j ≡ partLine (rows s) (p + 1) 1 → CaseAsk b c (rows s) j n w v l r t tn × Ended s
   case-asks room e qn q =

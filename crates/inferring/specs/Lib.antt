@@ -1,1 +1,2 @@
 pub mod Inferring
+pub mod Rooms

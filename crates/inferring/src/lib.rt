@@ -5,7 +5,7 @@ ghost use mathlib.Core.List.{List};
 ghost use Prim.Native.Nat.{ℕ, _+_, _≤_, _<_};
 ghost use lib.ListN.{length, getD};
 ghost use Rattle.nodes.specs.Nodes.{nodesAt};
-ghost use Rattle.sheet.specs.Plan.{noTriple, partLine};
+ghost use Rattle.sheet.specs.Plan.{noTriple, partLine, findEntry};
 ghost use Rattle.sheet.specs.Rows.{rows, Ended};
 ghost use Rattle.judgment.specs.Terms.{termView};
 ghost use Rattle.judgment.specs.Rules.{inferBy};
@@ -13,6 +13,7 @@ ghost use Rattle.board.specs.Board.{termAt};
 ghost use Rattle.operations.specs.State.{WellFormed, Does};
 ghost use Rattle.applying.specs.Applying.{envOn};
 ghost use Rattle.inferring.specs.Inferring.{InferAsk, CaseRoom, TermAsk, kindAt, Infers};
+ghost use Rattle.inferring.specs.Rooms.{scratch, variableOut, lambdaOut, constructorOut, caseScratch, inferScratch};
 use applying::infer_variable;
 use arms::infer_case;
 use constructors::infer_constructor;
@@ -59,7 +60,7 @@ fn variable_term(
     l: &mut [u32],
 ) -> Run
     requires { ⌜ TermAsk 21 (now board) c (now s) at (now t) tn × (8192 ≤ length (now l)) ⌝ }
-    ensures { λ o. ⌜ Infers (now (board .entry)) c (now (s .entry)) at (now (t .entry)) tn (now (board .exit)) o ⌝ }
+    ensures { λ o. ⌜ Infers (now (board .entry)) c (now (s .entry)) at (now (t .entry)) tn (now (board .exit)) o × (now (l .exit) ≡ variableOut (now (board .entry)) c (now (s .entry)) (getD (rows (now (s .entry))) at noTriple .value) (now (l .entry))) ⌝ }
 {
     let name = value_at(s, at);
     infer_variable(board, c, s, name, l, t, tn)
@@ -76,7 +77,7 @@ fn lambda_term(
     l: &mut [u32],
 ) -> Run
     requires { ⌜ TermAsk 23 (now board) c (now s) at (now t) tn × (8192 ≤ length (now l)) ⌝ }
-    ensures { λ o. ⌜ Infers (now (board .entry)) c (now (s .entry)) at (now (t .entry)) tn (now (board .exit)) o ⌝ }
+    ensures { λ o. ⌜ Infers (now (board .entry)) c (now (s .entry)) at (now (t .entry)) tn (now (board .exit)) o × (now (l .exit) ≡ lambdaOut c (now (s .entry)) at (now (l .entry))) ⌝ }
 {
     let name = value_at(s, at);
     let body = part_at(s, at, 1);
@@ -116,7 +117,7 @@ fn constructor_term(
     l: &mut [u32],
 ) -> Run
     requires { ⌜ TermAsk 26 (now board) c (now s) at (now t) tn × (8192 ≤ length (now l)) ⌝ }
-    ensures { λ o. ⌜ Infers (now (board .entry)) c (now (s .entry)) at (now (t .entry)) tn (now (board .exit)) o ⌝ }
+    ensures { λ o. ⌜ Infers (now (board .entry)) c (now (s .entry)) at (now (t .entry)) tn (now (board .exit)) o × (now (l .exit) ≡ constructorOut c (rows (now (s .entry))) (now (l .entry)) (findEntry 1 (getD (rows (now (s .entry))) at noTriple .value) (rows (now (s .entry))))) ⌝ }
 {
     let name = value_at(s, at);
     match find_entry(s, 1, name as u64) {
@@ -139,7 +140,7 @@ fn case_term(
     v: &mut [usize],
 ) -> Run
     requires { ⌜ InferAsk (now board) c (now s) at (now t) tn (now l) × CaseRoom (now s) (now r) (now w) (now v) × (kindAt (now s) at ≡ 27) ⌝ }
-    ensures { λ o. ⌜ Infers (now (board .entry)) c (now (s .entry)) at (now (t .entry)) tn (now (board .exit)) o ⌝ }
+    ensures { λ o. ⌜ Infers (now (board .entry)) c (now (s .entry)) at (now (t .entry)) tn (now (board .exit)) o × (scratch (now (l .exit)) (now (r .exit)) (now (w .exit)) (now (v .exit)) ≡ caseScratch c (rows (now (s .entry))) (nodesAt (now (t .entry)) 0 tn) (getD (rows (now (s .entry))) at noTriple .count) (partLine (rows (now (s .entry))) (at + 1) 1) (scratch (now (l .entry)) (now (r .entry)) (now (w .entry)) (now (v .entry)))) ⌝ }
 {
     let n = triple_at(s, at).count as usize;
     let e = part_at(s, at, 0);
@@ -194,7 +195,7 @@ fn infer_other(
     v: &mut [usize],
 ) -> Run
     requires { ⌜ InferAsk (now board) c (now s) at (now t) tn (now l) × CaseRoom (now s) (now r) (now w) (now v) × (25 ≤ kindAt (now s) at) ⌝ }
-    ensures { λ o. ⌜ Infers (now (board .entry)) c (now (s .entry)) at (now (t .entry)) tn (now (board .exit)) o ⌝ }
+    ensures { λ o. ⌜ Infers (now (board .entry)) c (now (s .entry)) at (now (t .entry)) tn (now (board .exit)) o × (scratch (now (l .exit)) (now (r .exit)) (now (w .exit)) (now (v .exit)) ≡ inferScratch (now (board .entry)) c (now (s .entry)) at (nodesAt (now (t .entry)) 0 tn) (scratch (now (l .entry)) (now (r .entry)) (now (w .entry)) (now (v .entry)))) ⌝ }
 {
     let kind = triple_at(s, at).kind;
     if kind == 25 {
@@ -229,7 +230,7 @@ fn infer_term(
     v: &mut [usize],
 ) -> Run
     requires { ⌜ InferAsk (now board) c (now s) at (now t) tn (now l) × CaseRoom (now s) (now r) (now w) (now v) ⌝ }
-    ensures { λ o. ⌜ Infers (now (board .entry)) c (now (s .entry)) at (now (t .entry)) tn (now (board .exit)) o ⌝ }
+    ensures { λ o. ⌜ Infers (now (board .entry)) c (now (s .entry)) at (now (t .entry)) tn (now (board .exit)) o × (scratch (now (l .exit)) (now (r .exit)) (now (w .exit)) (now (v .exit)) ≡ inferScratch (now (board .entry)) c (now (s .entry)) at (nodesAt (now (t .entry)) 0 tn) (scratch (now (l .entry)) (now (r .entry)) (now (w .entry)) (now (v .entry)))) ⌝ }
 {
     let kind = triple_at(s, at).kind;
     if kind == 21 {
@@ -261,7 +262,7 @@ pub fn solve_inference(
     v: &mut [usize],
 ) -> Run
     requires { ⌜ InferAsk (now board) c (now s) line (now t) tn (now l) × CaseRoom (now s) (now r) (now w) (now v) ⌝ }
-    ensures { λ o. ⌜ ((m : ℕ) (k rep : List ℕ) → WellFormed (now (board .entry)) k c → Does m (rows (now (s .entry))) (now (board .entry)) k rep c (inferBy (envOn (now (s .entry))) (nodesAt (now (t .entry)) 0 tn) (termView (termAt (rows (now (s .entry))) line))) (now (board .exit)) k rep o) ⌝ }
+    ensures { λ o. ⌜ ((m : ℕ) (k rep : List ℕ) → WellFormed (now (board .entry)) k c → Does m (rows (now (s .entry))) (now (board .entry)) k rep c (inferBy (envOn (now (s .entry))) (nodesAt (now (t .entry)) 0 tn) (termView (termAt (rows (now (s .entry))) line))) (now (board .exit)) k rep o) × (scratch (now (l .exit)) (now (r .exit)) (now (w .exit)) (now (v .exit)) ≡ inferScratch (now (board .entry)) c (now (s .entry)) line (nodesAt (now (t .entry)) 0 tn) (scratch (now (l .entry)) (now (r .entry)) (now (w .entry)) (now (v .entry)))) ⌝ }
 {
     infer_term(board, c, s, wide(line), t, tn, l, r, w, v)
 }

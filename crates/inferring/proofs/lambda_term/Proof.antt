@@ -1,7 +1,11 @@
-use mathlib.Core.Path.{refl, _∙_}
-use Prim.Native.Nat.{_-_}
+use mathlib.Core.Path.{refl, ap, _∙_}
+use Prim.Native.Nat.{ℕ, _+_, _-_}
 use native.Mathlib.Omega.{arith}
 use denote.Ref.{now}
+use lib.Seq.{sets}
+use Rattle.nodes.specs.Nodes.{words}
+use Rattle.judgment.specs.Types.{arrow, unknown}
+use Rattle.inference.specs.Inference.{typeOn}
 use Rattle.applying.specs.Applying.{envOn}
 use Rattle.inferring.proofs.Views.{viewed, value-fits, type-lines, lambda-view}
 use borrow.Author.Needs.{needs}
@@ -27,7 +31,11 @@ infer-lambda-requires c κs =
 returns : tie.Need-returns
 returns c =
     let p = c .before .before .before .before .before .before .before .before .before .before .before .before .before .before .pre .0 in
-    viewed p (lambda-view p refl (c .before .before .before .before .before .before .before .before .before .value-at .ensures) (c .before .before .before .before .before .before .before .wide .ensures) (c .before .before .before .before .before .before .before .before .part-at .ensures)) (λ m. c .before .before .before .before .infer-lambda .ensures .1 m (envOn (now (c .before .before .before .before .before .before .before .before .before .before .before .before .before .before .args .s))))
+    let a = c .before .before .before .before .before .before .before .before .before .before .before .before .before .before .args in
+    let w = c .before .before .before .before .before .before .before .wide .ensures in
+    let q = c .before .before .before .before .before .before .before .before .part-at .ensures in
+    let I = c .before .before .before .before .infer-lambda .ensures in
+    (viewed p (lambda-view p refl (c .before .before .before .before .before .before .before .before .before .value-at .ensures) w q) (λ m. I .1 m (envOn (now (a .s)))), I .0 ∙ ap (λ (i : ℕ). sets (now (a .l)) 0 (words (arrow (typeOn (now (a .s)) (a .at + 1) (i - (a .at + 1))) (unknown (a .c .fresh))))) (w ∙ q))
 
 pub lambda-term-spec : {M : Type 1} → statement M
 lambda-term-spec =

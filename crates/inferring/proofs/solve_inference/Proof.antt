@@ -1,4 +1,4 @@
-use mathlib.Core.Path.{ap}
+use mathlib.Core.Path.{ap, _∙_}
 use Prim.Native.Nat.{ℕ}
 use denote.Ref.{now}
 use Rattle.nodes.specs.Nodes.{nodesAt}
@@ -8,6 +8,7 @@ use Rattle.judgment.specs.Rules.{inferBy}
 use Rattle.board.specs.Board.{termAt}
 use Rattle.operations.proofs.Then.{does-as}
 use Rattle.applying.specs.Applying.{envOn}
+use Rattle.inferring.specs.Rooms.{Scratch, scratch, inferScratch}
 use borrow.Author.Needs.{needs}
 use Rattle.inferring.proofs.solve_inference.Statement.{statement}
 use Rattle.inferring.proofs.solve_inference.Tie as tie
@@ -20,7 +21,9 @@ returns c =
     let a = c .before .before .before .before .before .before .before .before .before .before .before .before .before .before .before .before .before .before .before .before .before .before .before .before .args in
     let s = now (a .s) in
     let e = ap (λ (i : ℕ). inferBy (envOn s) (nodesAt (now (a .t)) 0 (a .tn)) (termView (termAt (rows s) i))) (c .before .before .before .before .before .before .before .before .before .before .before .before .before .before .before .wide .ensures) in
-    λ m k rep f. does-as (λ _. e) (c .before .before .before .before .before .before .before .before .before .before .infer-term .ensures m k rep f)
+    let I = c .before .before .before .before .before .before .before .before .before .before .infer-term .ensures in
+    let x : Scratch = scratch (now (a .l)) (now (a .r)) (now (a .w)) (now (a .v)) in
+    (λ m k rep f. does-as (λ _. e) (I .0 m k rep f), I .1 ∙ ap (λ (i : ℕ). inferScratch (now (a .board)) (a .c) s i (nodesAt (now (a .t)) 0 (a .tn)) x) (c .before .before .before .before .before .before .before .before .before .before .before .before .before .before .before .wide .ensures))
 
 pub solve-inference-spec : {M : Type 1} → statement M
 solve-inference-spec =

@@ -1,6 +1,9 @@
-use mathlib.Core.Path.{refl}
+use mathlib.Core.Path.{refl, ap, _∙_}
+use Prim.Native.Nat.{ℕ}
+use denote.Ref.{now}
 use native.Mathlib.Omega.{arith}
 use Rattle.inferring.proofs.Views.{viewed, value-fits, var-view}
+use Rattle.inferring.specs.Rooms.{variableOut}
 use borrow.Author.Needs.{needs}
 use Rattle.inferring.proofs.variable_term.Statement.{statement}
 use Rattle.inferring.proofs.variable_term.Tie as tie
@@ -19,7 +22,10 @@ infer-variable-requires c κs =
 returns : tie.Need-returns
 returns c =
     let p = c .before .before .before .before .before .before .before .before .before .before .before .before .pre .0 in
-    viewed p (var-view p refl (c .before .before .before .before .before .before .before .value-at .ensures)) (c .before .before .before .before .infer-variable .ensures .0)
+    let a = c .before .before .before .before .before .before .before .before .before .before .before .before .args in
+    let x = c .before .before .before .before .before .before .before .value-at .ensures in
+    let I = c .before .before .before .before .infer-variable .ensures in
+    (viewed p (var-view p refl x) (I .0), I .1 ∙ ap (λ (i : ℕ). variableOut (now (a .board)) (a .c) (now (a .s)) i (now (a .l))) x)
 
 pub variable-term-spec : {M : Type 1} → statement M
 variable-term-spec =
