@@ -13,6 +13,7 @@ use Rattle.judgment.specs.Rules.{Env}
 use Rattle.judgment.specs.Result.{envOf}
 use Rattle.board.specs.Board.{Stacked}
 use Rattle.operations.specs.declared.Run.{Run}
+use Rattle.operations.specs.State.{Bookable}
 use Rattle.subtyping.specs.Subtyping.{openedAt, twiceReport}
 
 -- the data constructors and context variables on a sheet
@@ -44,6 +45,7 @@ foundOut out (some t) = sets out 0 (words t)
 -- ---- what a call asks
 -- A sheet with types on its entries, room to copy any of them or any of the board's, and the taken type: the tn nodes at the front of t.
 pub record VarAsk (b : List ℕ) (c : Run) (s out t : List ℕ) (tn : ℕ) : Type 0 where
+  pub formed : Bookable b c
   pub board : Stacked b (c .board)
   pub sheet : Formed (rows s)
   pub ended : Ended s

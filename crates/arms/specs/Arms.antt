@@ -13,6 +13,7 @@ use Rattle.judgment.specs.Board.{chk, push}
 use Rattle.judgment.specs.Rules.{pushVars, checkPatterns}
 use Rattle.board.specs.Board.{fromLine}
 use Rattle.operations.specs.declared.Run.{Run}
+use Rattle.operations.specs.State.{Bookable}
 use Rattle.tables.specs.Rows.{Sound}
 use Rattle.patterns.specs.Turns.{Ready, Turn}
 use Rattle.patterns.specs.Readings.{envAt, Sheet}
@@ -36,6 +37,7 @@ pub record Lent (ls : List Triple) (u : ℕ) (w v l r t : List ℕ) (ta tn : ℕ
   pub type : ta + 2 * tn ≤ length t
 
 pub record ArmAsk (b : List ℕ) (c : Run) (ls : List Triple) (first u : ℕ) (w v l r t : List ℕ) (ta tn : ℕ) : Type 0 where
+  pub formed : Bookable b c
   pub ready : Ready b c
   pub lent : Lent ls u w v l r t ta tn
   pub within : first ≤ length ls
@@ -53,6 +55,7 @@ NarrowArms zero e = Unit
 NarrowArms (suc n) e = All Narrow (part 0 e .lines) × NarrowArms n (afterParts 2 e)
 
 pub record ArmsAsk (b : List ℕ) (c : Run) (ls : List Triple) (line n u : ℕ) (w v l r t : List ℕ) (ta tn : ℕ) : Type 0 where
+  pub formed : Bookable b c
   pub ready : Ready b c
   pub lent : Lent ls u w v l r t ta tn
   pub within : line ≤ length ls
@@ -60,6 +63,7 @@ pub record ArmsAsk (b : List ℕ) (c : Run) (ls : List Triple) (line n u : ℕ) 
 
 -- a Case of n arms, the first at `line`; the bodies must have the type of tn nodes at the front of t
 pub record CaseAsk (b : List ℕ) (c : Run) (ls : List Triple) (line n : ℕ) (w v l r t : List ℕ) (tn : ℕ) : Type 0 where
+  pub formed : Bookable b c
   pub ready : Ready b c
   pub sheet : Sheet ls
   pub frames : 6 * length ls + 12 ≤ length w

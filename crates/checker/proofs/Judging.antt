@@ -106,6 +106,7 @@ module _ {s b k rep : List ℕ} {c : Run} {o : Top} {t l r w v : List ℕ} (a : 
       let h = subst (EntrySound (c .fresh)) (is-inf ls (o .number) _ _ (o .kind) e) (a .entry) in
       let n = read-few (a .plan) in
       record {
+        formed = (k, a .formed);
         ready = record { board = a .formed .board; numbers = a .formed .numbers };
         sheet = read-formed (a .plan);
         ended = a .plan .ended;
@@ -122,6 +123,7 @@ module _ {s b k rep : List ℕ} {c : Run} {o : Top} {t l r w v : List ℕ} (a : 
       let n = read-few (a .plan) in
       let g = a .lent .left in
       record {
+        formed = (k, a .formed);
         board = a .formed .board;
         ended = a .plan .ended;
         stands = part-stands aTerm ls (o .number) h;

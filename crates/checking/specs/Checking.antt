@@ -12,6 +12,7 @@ use Rattle.judgment.specs.Types.{View, isArrow, isApp, isForall, isUnknown, isO
 use Rattle.judgment.specs.Terms.{Lambda}
 use Rattle.board.specs.Board.{termAt, Stacked}
 use Rattle.operations.specs.declared.Run.{Run}
+use Rattle.operations.specs.State.{Bookable}
 use Rattle.subtyping.specs.Subtyping.{openedAt}
 
 -- ---- every word of the rooms after, of which t and out are those before
@@ -39,6 +40,7 @@ checkedOut out f isOther = out
 -- ---- what a call asks
 -- A whole term from this line of the sheet on, the taken type at the front of t, and room to copy any type of the sheet.
 pub record CheckAsk (b : List ℕ) (c : Run) (s : List ℕ) (line : ℕ) (t : List ℕ) (tn : ℕ) (out : List ℕ) : Type 0 where
+  pub formed : Bookable b c
   pub board : Stacked b (c .board)
   pub ended : Ended s
   pub stands : line < length (rows s)

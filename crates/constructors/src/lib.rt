@@ -8,7 +8,7 @@ ghost use Rattle.sheet.specs.Plan.{nodesOf};
 ghost use Rattle.sheet.specs.Rows.{rows};
 ghost use Rattle.judgment.specs.Rules.{Env, constructor};
 ghost use Rattle.board.specs.Board.{Stacked};
-ghost use Rattle.operations.specs.State.{PerformsOnBoard};
+ghost use Rattle.operations.specs.State.{Bookable, PerformsOnBoard};
 ghost use Rattle.nodes.specs.Lists.{All};
 ghost use Rattle.sheet.specs.Plan.{Narrow};
 ghost use Rattle.constructors.specs.Opening.{Named, Copied, OpenAsk, openedOut, Opens};
@@ -88,7 +88,7 @@ pub fn infer_constructor(
     ta: usize,
     tn: usize,
 ) -> Run
-    requires { ⌜ OpenAsk (now board) c (rows (now s)) first n (now out) × (ta + 2 * tn ≤ length (now t)) ⌝ }
+    requires { ⌜ OpenAsk (now board) c (rows (now s)) first n (now out) × (ta + 2 * tn ≤ length (now t)) × Bookable (now board) c ⌝ }
     ensures { λ r. ⌜ ((E : Env) (x : ℕ) → PerformsOnBoard (now (board .entry)) c (λ ls. constructor E x (nodesAt (now (t .entry)) ta tn) (some (nodesOf (take n (drop first (rows (now (s .entry)))))))) (now (board .exit)) r) × (now (out .exit) ≡ openedOut (nodesOf (take n (drop first (rows (now (s .entry)))))) (c .fresh) (now (out .entry))) ⌝ }
 {
     let o = instantiate_constructor_type(board, c, s, first, n, out);

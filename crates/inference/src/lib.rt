@@ -17,7 +17,7 @@ ghost use Rattle.judgment.specs.Terms.{Term, isLitInt, isLambda, isApply, isTyp
 ghost use Rattle.judgment.specs.Board.{done};
 ghost use Rattle.judgment.specs.Rules.{Env, freshUnknown, inferBy, synthesize as synthesizeRule, checkArrow, checkBy, applyBy};
 ghost use Rattle.board.specs.Board.{termAt, Stacked};
-ghost use Rattle.operations.specs.State.{WellFormed, Does, PerformsOnBoard};
+ghost use Rattle.operations.specs.State.{Bookable, WellFormed, Does, PerformsOnBoard};
 ghost use Rattle.inference.specs.Inference.{typeOn, lambdaOn, LinesAsk, Open};
 use core_types::substitute_type;
 use judgment::TypeError;
@@ -45,7 +45,7 @@ fn fresh_unknown(board: &mut [u32], c: Run) -> Run
 
 // LitInt.
 pub fn infer_lit_int(board: &mut [u32], c: Run, t: &[u32], tn: usize) -> Run
-    requires { ⌜ Stacked (now board) (c .board) × (2 * tn ≤ length (now t)) ⌝ }
+    requires { ⌜ Stacked (now board) (c .board) × (2 * tn ≤ length (now t)) × Bookable (now board) c ⌝ }
     ensures { λ r. ⌜ ((E : Env) → PerformsOnBoard (now (board .entry)) c (λ ls. inferBy E (nodesAt (now (t .entry)) 0 tn) isLitInt) (now (board .exit)) r) ⌝ }
 {
     let int = [12u32, 1];
@@ -54,7 +54,7 @@ pub fn infer_lit_int(board: &mut [u32], c: Run, t: &[u32], tn: usize) -> Run
 
 // Sub: the term's type is a fresh unknown, which is compared with the taken type.
 pub fn synthesize(board: &mut [u32], c: Run, line: u32, t: &[u32], tn: usize) -> Run
-    requires { ⌜ Stacked (now board) (c .board) × (2 * tn ≤ length (now t)) ⌝ }
+    requires { ⌜ Stacked (now board) (c .board) × (2 * tn ≤ length (now t)) × Bookable (now board) c ⌝ }
     ensures { λ r. ⌜ ((E : Env) → PerformsOnBoard (now (board .entry)) c (λ ls. synthesizeRule E (termAt ls line) (nodesAt (now (t .entry)) 0 tn)) (now (board .exit)) r) ⌝ }
 {
     let a = c.fresh;
@@ -66,7 +66,7 @@ pub fn synthesize(board: &mut [u32], c: Run, line: u32, t: &[u32], tn: usize) ->
 
 // App: the function's type is a fresh unknown.
 pub fn infer_apply(board: &mut [u32], c: Run, f: u32, e: u32, t: &[u32], tn: usize) -> Run
-    requires { ⌜ Stacked (now board) (c .board) × (2 * tn ≤ length (now t)) ⌝ }
+    requires { ⌜ Stacked (now board) (c .board) × (2 * tn ≤ length (now t)) × Bookable (now board) c ⌝ }
     ensures { λ r. ⌜ ((E : Env) → PerformsOnBoard (now (board .entry)) c (λ ls. inferBy E (nodesAt (now (t .entry)) 0 tn) (isApply (termAt ls f) (termAt ls e))) (now (board .exit)) r) ⌝ }
 {
     let a = c.fresh;
@@ -78,7 +78,7 @@ pub fn infer_apply(board: &mut [u32], c: Run, f: u32, e: u32, t: &[u32], tn: usi
 
 // If.
 pub fn infer_if(board: &mut [u32], c: Run, e1: u32, e2: u32, e3: u32, t: &[u32], tn: usize) -> Run
-    requires { ⌜ Stacked (now board) (c .board) × (2 * tn ≤ length (now t)) ⌝ }
+    requires { ⌜ Stacked (now board) (c .board) × (2 * tn ≤ length (now t)) × Bookable (now board) c ⌝ }
     ensures { λ r. ⌜ ((E : Env) → PerformsOnBoard (now (board .entry)) c (λ ls. inferBy E (nodesAt (now (t .entry)) 0 tn) (isIf (termAt ls e1) (termAt ls e2) (termAt ls e3))) (now (board .exit)) r) ⌝ }
 {
     let truth = [12u32, 2];
@@ -104,7 +104,7 @@ pub fn infer_bin_op(
     t: &[u32],
     tn: usize,
 ) -> Run
-    requires { ⌜ Stacked (now board) (c .board) × (2 * tn ≤ length (now t)) ⌝ }
+    requires { ⌜ Stacked (now board) (c .board) × (2 * tn ≤ length (now t)) × Bookable (now board) c ⌝ }
     ensures { λ r. ⌜ ((E : Env) → PerformsOnBoard (now (board .entry)) c (λ ls. inferBy E (nodesAt (now (t .entry)) 0 tn) (isBinOp op (termAt ls e1) (termAt ls e2))) (now (board .exit)) r) ⌝ }
 {
     let result = result_name(op);
@@ -116,7 +116,7 @@ pub fn infer_bin_op(
 
 // TypeLambda: its type is a Forall of a fresh unknown.
 pub fn infer_type_lambda(board: &mut [u32], c: Run, name: u32, e: u32, t: &[u32], tn: usize) -> Run
-    requires { ⌜ Stacked (now board) (c .board) × (2 * tn ≤ length (now t)) ⌝ }
+    requires { ⌜ Stacked (now board) (c .board) × (2 * tn ≤ length (now t)) × Bookable (now board) c ⌝ }
     ensures { λ r. ⌜ ((E : Env) → PerformsOnBoard (now (board .entry)) c (λ ls. inferBy E (nodesAt (now (t .entry)) 0 tn) (isTypeLambda name (termAt ls e))) (now (board .exit)) r) ⌝ }
 {
     let b = c.fresh;
@@ -137,7 +137,7 @@ pub fn infer_intrinsic(
     t: &[u32],
     tn: usize,
 ) -> Run
-    requires { ⌜ Stacked (now board) (c .board) × (2 * tn ≤ length (now t)) ⌝ }
+    requires { ⌜ Stacked (now board) (c .board) × (2 * tn ≤ length (now t)) × Bookable (now board) c ⌝ }
     ensures { λ r. ⌜ ((E : Env) → PerformsOnBoard (now (board .entry)) c (λ ls. inferBy E (nodesAt (now (t .entry)) 0 tn) (isIntrinsic name count (termAt ls e))) (now (board .exit)) r) ⌝ }
 {
     if name != 4 {
@@ -177,7 +177,7 @@ pub fn infer_lambda(
     t: &[u32],
     tn: usize,
 ) -> Run
-    requires { ⌜ Stacked (now board) (c .board) × (2 * tn ≤ length (now t)) × (2 * n + 4 ≤ length (now out)) × LinesAsk (now s) first n ⌝ }
+    requires { ⌜ Stacked (now board) (c .board) × (2 * tn ≤ length (now t)) × (2 * n + 4 ≤ length (now out)) × LinesAsk (now s) first n × Bookable (now board) c ⌝ }
     ensures { λ r. ⌜ (now (out .exit) ≡ sets (now (out .entry)) 0 (words (arrow (typeOn (now (s .entry)) first n) (unknown (c .fresh))))) × ((w : ℕ) (E : Env) (k rep : List ℕ) → WellFormed (now (board .entry)) k c → Does w (rows (now (s .entry))) (now (board .entry)) k rep c (inferBy E (nodesAt (now (t .entry)) 0 tn) (isLambda name (typeOn (now (s .entry)) first n) (termAt (rows (now (s .entry))) body))) (now (board .exit)) k rep r) ⌝ }
 {
     let b = c.fresh;
@@ -205,7 +205,7 @@ pub fn check_lambda(
     an: usize,
     bn: usize,
 ) -> Run
-    requires { ⌜ Stacked (now board) (c .board) × (a + 2 * an + 2 * bn ≤ length (now t)) × (2 * n ≤ length (now out)) × LinesAsk (now s) first n ⌝ }
+    requires { ⌜ Stacked (now board) (c .board) × (a + 2 * an + 2 * bn ≤ length (now t)) × (2 * n ≤ length (now out)) × LinesAsk (now s) first n × Bookable (now board) c ⌝ }
     ensures { λ r. ⌜ (now (out .exit) ≡ sets (now (out .entry)) 0 (words (typeOn (now (s .entry)) first n))) × ((w : ℕ) (E : Env) (e : Term) (T : Ty) (k rep : List ℕ) → WellFormed (now (board .entry)) k c → Does w (rows (now (s .entry))) (now (board .entry)) k rep c (checkArrow E e T (nodesAt (now (t .entry)) a an) (nodesAt (now (t .entry)) (a + 2 * an) bn) (some (lambdaOn (now (s .entry)) name first n body))) (now (board .exit)) k rep r) ⌝ }
 {
     let b = a + 2 * an;
@@ -225,7 +225,7 @@ pub fn check_forall(
     at: usize,
     n: usize,
 ) -> Run
-    requires { ⌜ Stacked (now board) (c .board) × (at + 2 * n ≤ length (now t)) × (n ≤ 4096) ⌝ }
+    requires { ⌜ Stacked (now board) (c .board) × (at + 2 * n ≤ length (now t)) × (n ≤ 4096) × Bookable (now board) c ⌝ }
     ensures { λ r. ⌜ (now (t .exit) ≡ sets (now (t .entry)) at (words (substitute name (node 18 (c .fresh)) (nodesAt (now (t .entry)) at n)))) × ((E : Env) (T : Ty) → PerformsOnBoard (now (board .entry)) c (λ ls. checkBy E (termAt ls line) T (isForall name (nodesAt (now (t .entry)) at n))) (now (board .exit)) r) ⌝ }
 {
     let u = c.fresh;
@@ -247,7 +247,7 @@ pub fn apply_arrow(
     ct: usize,
     cn: usize,
 ) -> Run
-    requires { ⌜ Stacked (now board) (c .board) × (a + 2 * an + 2 * bn ≤ length (now t)) × (ct + 2 * cn ≤ length (now t)) ⌝ }
+    requires { ⌜ Stacked (now board) (c .board) × (a + 2 * an + 2 * bn ≤ length (now t)) × (ct + 2 * cn ≤ length (now t)) × Bookable (now board) c ⌝ }
     ensures { λ r. ⌜ ((E : Env) (F : Ty) → PerformsOnBoard (now (board .entry)) c (λ ls. applyBy E F (termAt ls line) (nodesAt (now (t .entry)) ct cn) (isArrow (nodesAt (now (t .entry)) a an) (nodesAt (now (t .entry)) (a + 2 * an) bn))) (now (board .exit)) r) ⌝ }
 {
     let b = a + 2 * an;
@@ -267,7 +267,7 @@ pub fn apply_forall(
     ct: usize,
     cn: usize,
 ) -> Run
-    requires { ⌜ Stacked (now board) (c .board) × (at + 2 * n ≤ length (now t)) × (n ≤ 4096) × (ct + 2 * cn ≤ length (now t)) × ((ct + 2 * cn ≤ at) ⊎ (at + 2 * n ≤ ct)) ⌝ }
+    requires { ⌜ Stacked (now board) (c .board) × (at + 2 * n ≤ length (now t)) × (n ≤ 4096) × (ct + 2 * cn ≤ length (now t)) × ((ct + 2 * cn ≤ at) ⊎ (at + 2 * n ≤ ct)) × Bookable (now board) c ⌝ }
     ensures { λ r. ⌜ (now (t .exit) ≡ sets (now (t .entry)) at (words (substitute name (node 17 (c .fresh)) (nodesAt (now (t .entry)) at n)))) × ((E : Env) (F : Ty) → PerformsOnBoard (now (board .entry)) c (λ ls. applyBy E F (termAt ls line) (nodesAt (now (t .entry)) ct cn) (isForall name (nodesAt (now (t .entry)) at n))) (now (board .exit)) r) ⌝ }
 {
     let a = c.fresh;

@@ -29,7 +29,7 @@ use Rattle.judgment.specs.Rules.{Env, constructor, inferBy}
 use Rattle.board.specs.Board.{fromLine, termAt}
 use Rattle.board.proofs.Terms.{lineOf, bodyAt, term-head, part-at}
 use Rattle.operations.specs.declared.Run.{Run}
-use Rattle.operations.specs.State.{WellFormed, Does}
+use Rattle.operations.specs.State.{Bookable, WellFormed, Does}
 use Rattle.operations.proofs.Then.{does-as}
 use Rattle.inference.specs.Inference.{typeOn, LinesAsk}
 use Rattle.inference.proofs.Heads.{part-within, first-lines, head-ok, head-narrow, lines-asks}
@@ -171,18 +171,18 @@ module _ {K : ℕ} {b : List ℕ} {c : Run} {s : List ℕ} {p : ℕ} {t : List �
   pub constructor-rule : K ≡ 26 → {x : ℕ} → x ≡ head .value → {v : Found} → v ≡ findEntry 1 x ls → constructor E x T (typeAt ls v) ≡ inferBy E T (termView (termAt ls p))
   constructor-rule e qx q = ap (constructor E _ T) (ap (typeAt ls) q ∙ sym (env-lookup ls _)) ∙ ap (inferBy E T) (constructor-view e qx)
 
-  pub open-asks : {l : List ℕ} → 8192 ≤ length l → (x : ℕ) {line count : ℕ} → At line count ≡ findEntry 1 x ls → OpenAsk b c ls line count l × (0 + 2 * tn ≤ length t)
+  pub open-asks : {l : List ℕ} → 8192 ≤ length l → (x : ℕ) {line count : ℕ} → At line count ≡ findEntry 1 x ls → OpenAsk b c ls line count l × (0 + 2 * tn ≤ length t) × Bookable b c
   open-asks h x q =
       let f = a .few in
       let e = entry-at ls x _ _ (record { formed = a .sheet; few = omega arith }) q in
       let w = e .2 in
-      (record { board = a .ready .board; numbers = a .ready .numbers; room = omega arith; few = e .1; lines = e .2; narrow = e .3 }, let z = a .within in omega arith)
+      (record { board = a .ready .board; numbers = a .ready .numbers; room = omega arith; few = e .1; lines = e .2; narrow = e .3 }, let z = a .within in omega arith, a .formed)
 
 -- ---- the asks of the terms
 module _ {b : List ℕ} {c : Run} {s : List ℕ} {p : ℕ} {t : List ℕ} {tn : ℕ} {l : List ℕ} (a : InferAsk b c s p t tn l) where
   -- its first line is h
   pub term-asks : {h : Triple} {K : ℕ} → h ≡ lineOf (rows s) p → h .kind ≡ K → TermAsk K b c s p t tn
-  term-asks q e = record { ready = a .ready; sheet = a .sheet; ended = a .ended; few = a .few; stands = a .stands; term = a .term; within = a .within; kind = ap (λ (t : Triple). t .kind) (sym q) ∙ e }
+  term-asks q e = record { formed = a .formed; ready = a .ready; sheet = a .sheet; ended = a .ended; few = a .few; stands = a .stands; term = a .term; within = a .within; kind = ap (λ (t : Triple). t .kind) (sym q) ∙ e }
 
   pub kinds : (21 ≤ kindAt s p) × (kindAt s p ≤ 30)
   kinds = term-kind (lineOf (rows s) p) (head-ok s p (a .stands) (a .term) .0)
@@ -202,6 +202,7 @@ module _ {b : List ℕ} {c : Run} {s : List ℕ} {p : ℕ} {t : List ℕ} {tn : 
       let h = a .stands in
       let i = part-within (rows s) (p + 1) 1 (omega arith) .1 in (
         record {
+          formed = a .formed;
           ready = a .ready;
           sheet = record { formed = a .sheet; few = omega arith };
           frames = omega arith;

@@ -12,12 +12,13 @@ use Rattle.judgment.specs.Terms.{termView}
 use Rattle.judgment.specs.Rules.{inferBy}
 use Rattle.board.specs.Board.{termAt}
 use Rattle.operations.specs.declared.Run.{Run}
-use Rattle.operations.specs.State.{WellFormed, Does}
+use Rattle.operations.specs.State.{Bookable, WellFormed, Does}
 use Rattle.patterns.specs.Turns.{Ready}
 use Rattle.applying.specs.Applying.{envOn}
 
 -- A whole term from this line of the sheet on, the taken type at the front of t, room for a type.
 pub record InferAsk (b : List ℕ) (c : Run) (s : List ℕ) (line : ℕ) (t : List ℕ) (tn : ℕ) (l : List ℕ) : Type 0 where
+  pub formed : Bookable b c
   pub ready : Ready b c
   pub sheet : Formed (rows s)
   pub ended : Ended s
@@ -39,6 +40,7 @@ kindAt s at = getD (rows s) at noTriple .kind
 
 -- the same of a term of kind k, without the scratch
 pub record TermAsk (k : ℕ) (b : List ℕ) (c : Run) (s : List ℕ) (at : ℕ) (t : List ℕ) (tn : ℕ) : Type 0 where
+  pub formed : Bookable b c
   pub ready : Ready b c
   pub sheet : Formed (rows s)
   pub ended : Ended s

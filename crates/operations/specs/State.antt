@@ -61,6 +61,10 @@ pub record WellFormed (b k : List ℕ) (c : Run) : Type 0 where
   pub numbers : c .fresh ≤ 1000
   pub unmade : (j : ℕ) → c .fresh ≤ j → j < 1000 → startOf k j < 2000  -- a number that is not made has no solution
 
+-- some book goes with the run
+abbrev pub Bookable : List ℕ → Run → Type 0
+Bookable b c = (k : List ℕ) × WellFormed b k c
+
 -- ---- the operations on words: a refused run stays as it is
 abbrev pub going : Halt → Bool
 going Going = true

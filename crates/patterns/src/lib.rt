@@ -8,6 +8,7 @@ ghost use Rattle.sheet.specs.Plan.{noTriple, nodesOf, findEntry};
 ghost use Rattle.sheet.specs.Rows.{rows, Ended};
 ghost use Rattle.constructors.specs.Opening.{openedOut};
 ghost use Rattle.references.specs.References.{typeOf, instanceOut};
+ghost use Rattle.operations.specs.State.{Bookable};
 ghost use Rattle.patterns.specs.Turns.{Ready};
 ghost use Rattle.patterns.specs.Readings.{Arity, PartsAsk, Parting, Adds, NameAsk, Naming, LineAsk, Lining, CheckAsk, Checking};
 ghost use Rattle.patterns.specs.Rooms.{rooms, arityRun, partsAnswer, frameWords, frameDepth, constructorRooms, lineRooms, patternRooms, Leaves};
@@ -205,7 +206,7 @@ pub fn check_pattern(
     l: &mut [u32],
     r: &mut [u32],
 ) -> Checked
-    requires { ⌜ CheckAsk (now board) c (rows (now s)) first lines u (now w) (now v) (now l) (now r) × Ended (now s) ⌝ }
+    requires { ⌜ CheckAsk (now board) c (rows (now s)) first lines u (now w) (now v) (now l) (now r) × Ended (now s) × Bookable (now board) c ⌝ }
     ensures { λ o. ⌜ Checking (now (board .entry)) c (rows (now (s .entry))) first lines u (now (board .exit)) (now (v .exit)) o × Leaves (patternRooms (rows (now (s .entry))) first lines u c (now (w .entry)) (now (v .entry)) (now (l .entry)) (now (r .entry))) (now (w .exit)) (now (v .exit)) (now (l .exit)) (now (r .exit)) o ⌝ }
 {
     let base = wide(u);

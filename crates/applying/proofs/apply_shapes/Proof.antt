@@ -55,7 +55,7 @@ apply-arrow-requires c κs =
     let b2 = B .2 in
     let b4 = B .4 in
     let l : c .before .before .first-part .result ≤ c .before .before .before .before .before .before .before .before .before .before .args .f - 1 = part-within (c .before .before .before .before .before .before .before .before .before .before .pre) (c .before .before .first-part .result) (c .before .before .first-part .ensures) in
-    (c .before .before .before .before .before .before .before .before .before .before .pre .formed .board, omega arith, omega arith)
+    (c .before .before .before .before .before .before .before .before .before .before .pre .formed .board, omega arith, omega arith, (_, c .before .before .before .before .before .before .before .before .before .before .pre .formed))
 
 returns : tie.Need-returns
 returns c =
@@ -86,7 +86,7 @@ apply-forall-requires c κs =
     let b0 = B .0 in
     let b2 = B .2 in
     let b4 = B .4 in
-    (c .before .before .before .before .before .before .before .before .before .before .pre .formed .board, omega arith, omega arith, omega arith, inr (omega arith))
+    (c .before .before .before .before .before .before .before .before .before .before .pre .formed .board, omega arith, omega arith, omega arith, inr (omega arith), (_, c .before .before .before .before .before .before .before .before .before .before .pre .formed))
 
 returns-2 : tie.Need-returns-2
 returns-2 c =

@@ -47,6 +47,7 @@ check-pattern-requires c κs =
         right = p .lent .right;
       },
       c .before .before .before .before .before .before .before .before .before .before .before .before .before .pre .1,
+      p .formed,
     )
 
 push-vars-requires : tie.Need-push-vars-requires

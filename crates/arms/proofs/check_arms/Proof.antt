@@ -41,6 +41,7 @@ check-arm-requires c κs =
     let x = q .left in
     let y = q .right in (
       record {
+        formed = (p .formed .0, h .0 .kept (p .formed .0) (p .formed .1));
         ready = h .0 .ready;
         lent = record { sheet = q .sheet; low = q .low; frames = omega arith; rows = omega arith; left = omega arith; right = omega arith; type = q .type };
         within = h .1;

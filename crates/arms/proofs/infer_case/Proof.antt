@@ -2,7 +2,7 @@ use native.Mathlib.Omega.{arith}
 use denote.Ref.{now}
 use Rattle.nodes.specs.Nodes.{nodesAt}
 use Rattle.sheet.specs.Rows.{rows}
-use Rattle.operations.proofs.Then.{fresh-then, push-then}
+use Rattle.operations.proofs.Then.{kept, kept-board, fresh-then, push-then}
 use Rattle.arms.proofs.Cases.{fresh-ready, tvar-ready, chk-ready}
 use mathlib.Core.Path.{_∙_}
 use Rattle.arms.proofs.Rooms.{room-case}
@@ -23,6 +23,7 @@ check-arms-requires c κs =
     let p = c .before .before .before .before .before .before .before .before .before .before .before .before .before .before .before .before .before .before .before .before .before .before .pre .0 in
     let R1 = fresh-ready (c .before .before .before .before .before .before .before .before .before .before .before .before .before .before .before .before .before .before .before .before .before .before .args .c) (p .ready) (c .before .before .before .before .before .before .before .before .before .before .before .before .before .before .fresh-evar .ensures .0) in (
       record {
+        formed = (p .formed .0, kept-board (c .before .before .before .before .before .before .before .push-chk .ensures .2) (kept-board (c .before .before .before .before .before .before .before .before .before .before .before .before .push-tvar .ensures .2) (kept (c .before .before .before .before .before .before .before .before .before .before .before .before .before .before .fresh-evar .ensures .1) (p .formed .1))));
         ready = chk-ready (c .before .before .before .before .before .before .before .before .before .before .before .before .before .before .before .before .before .before .before .before .before .before .args .e) _ (tvar-ready R1 (c .before .before .before .before .before .before .before .before .before .before .before .before .push-tvar .ensures)) (c .before .before .before .before .before .before .before .push-chk .ensures);
         lent = record { sheet = p .sheet; low = p .ready .numbers; frames = p .frames; rows = p .rows; left = p .left; right = p .right; type = let h = p .type in omega arith };
         within = p .within;

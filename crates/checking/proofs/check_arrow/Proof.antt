@@ -77,7 +77,7 @@ check-lambda-requires c κs =
     let l : LinesAsk (now (a .s)) (c .before .before .before .before .before .before .before .before .wide .result + 1) (c .before .before .before .part-line .result - (c .before .before .before .before .before .before .before .before .wide .result + 1)) = rw (q, W) (lines-asks (now (a .s)) (a .line) (p .stands) (p .term) (sym (ap (λ (t : Triple). t .kind) e) ∙ c .before .before .before .before .before .if1 .taken)) in
     let lw = l .within in
     let room = p .room in
-    (p .board, omega arith, omega arith, l)
+    (p .board, omega arith, omega arith, l, p .formed)
 
 returns : tie.Need-returns
 returns c =
@@ -93,7 +93,7 @@ returns c =
     (λ (w : ℕ) (E : Env) (k rep : List ℕ) (f : WellFormed (now (c .before .before .before .before .before .before .before .before .before .before .before .before .before .before .before .before .before .before .args .board)) k (c .before .before .before .before .before .before .before .before .before .before .before .before .before .before .before .before .before .before .args .c)). does-as (λ _. ap₂ (λ (x : Ty × Ty) (y : Option Lambda). checkArrow E (termAt ls (a .line)) T (x .0) (x .1) y) (ap₂ (λ (x y : Ty). (x, y)) e1 e2) e3) (c .before .before .before .before .check-lambda .ensures .1 w E (termAt ls (a .line)) T k rep f), c .before .before .before .before .check-lambda .ensures .0 ∙ ap (lambdaOut (now (a .out))) e3)
 
 synthesize-requires : tie.Need-synthesize-requires
-synthesize-requires c κs = (c .before .before .before .before .before .before .before .before .before .pre .0 .board, c .before .before .before .before .before .before .before .before .before .pre .0 .within)
+synthesize-requires c κs = (c .before .before .before .before .before .before .before .before .before .pre .0 .board, c .before .before .before .before .before .before .before .before .before .pre .0 .within, c .before .before .before .before .before .before .before .before .before .pre .0 .formed)
 
 returns-2 : tie.Need-returns-2
 returns-2 c =

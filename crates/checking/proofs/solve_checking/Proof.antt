@@ -46,7 +46,7 @@ check-forall-requires c κs =
     let s = shaped-some (now (c .before .before .before .before .before .before .before .before .before .before .before .args .t)) 0 (c .before .before .before .before .before .before .before .before .before .before .before .args .tn) (λ z. (let y = sym (c .before .before .before .before .before .shape .ensures) ∙ c .before .before .before .if2 .taken in omega arith)) in
     let x = c .before .before .before .before .before .before .before .before .before .before .before .pre .within in
     let y = c .before .before .before .before .before .before .before .before .before .before .before .pre .short in
-    (c .before .before .before .before .before .before .before .before .before .before .before .pre .board, omega arith, omega arith)
+    (c .before .before .before .before .before .before .before .before .before .before .before .pre .board, omega arith, omega arith, c .before .before .before .before .before .before .before .before .before .before .before .pre .formed)
 
 returns-2 : tie.Need-returns-2
 returns-2 c =
@@ -58,7 +58,7 @@ returns-2 c =
     (λ (w : ℕ) (E : Env) (k rep : List ℕ) (f : WellFormed (now (c .before .before .before .before .before .before .before .before .before .before .before .before .before .before .before .before .args .board)) k (c .before .before .before .before .before .before .before .before .before .before .before .before .before .before .before .before .args .c)). does-as (λ _. ap (checkBy E (termAt ls (a .line)) T) (sym e)) (c .before .before .before .before .check-forall .ensures .1 E T w ls k rep f), c .before .before .before .before .check-forall .ensures .0 ∙ ap (checkedType P (a .c .fresh)) (sym e), ap (checkedOut (now (a .out)) (lambdaOf (termAt ls (a .line)))) (sym e))
 
 synthesize-requires : tie.Need-synthesize-requires
-synthesize-requires c κs = (c .before .before .before .before .before .before .before .before .before .before .pre .board, c .before .before .before .before .before .before .before .before .before .before .pre .within)
+synthesize-requires c κs = (c .before .before .before .before .before .before .before .before .before .before .pre .board, c .before .before .before .before .before .before .before .before .before .before .pre .within, c .before .before .before .before .before .before .before .before .before .before .pre .formed)
 
 returns-3 : tie.Need-returns-3
 returns-3 c =

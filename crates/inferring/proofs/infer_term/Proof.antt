@@ -15,7 +15,7 @@ variable-term-requires : tie.Need-variable-term-requires
 variable-term-requires c κs = (term-asks (c .before .before .before .before .before .before .before .before .before .before .before .pre .0) (c .before .before .before .triple-at .ensures) (c .before .before .if1 .taken), c .before .before .before .before .before .before .before .before .before .before .before .pre .0 .left)
 
 infer-lit-int-requires : tie.Need-infer-lit-int-requires
-infer-lit-int-requires c κs = (c .before .before .before .before .before .before .before .before .before .before .before .pre .0 .ready .board, c .before .before .before .before .before .before .before .before .before .before .before .pre .0 .within)
+infer-lit-int-requires c κs = (c .before .before .before .before .before .before .before .before .before .before .before .pre .0 .ready .board, c .before .before .before .before .before .before .before .before .before .before .before .pre .0 .within, c .before .before .before .before .before .before .before .before .before .before .before .pre .0 .formed)
 
 returns-2 : tie.Need-returns-2
 returns-2 c =

@@ -26,7 +26,7 @@ infer-lambda-requires c κs =
     let l = type-lines p refl (c .before .before .wide .ensures ∙ c .before .before .before .part-at .ensures) in
     let n = l .1 in
     let r = c .before .before .before .before .before .before .before .before .before .pre .1 in
-    (p .ready .board, p .within, omega arith, l .2)
+    (p .ready .board, p .within, omega arith, l .2, p .formed)
 
 returns : tie.Need-returns
 returns c =

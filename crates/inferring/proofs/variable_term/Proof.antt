@@ -17,7 +17,7 @@ infer-variable-requires c κs =
     let p = c .before .before .before .before .before .before .before .pre .0 in
     let f = p .few in
     let l = c .before .before .before .before .before .before .before .pre .1 in
-    record { board = p .ready .board; sheet = p .sheet; ended = p .ended; lines = omega arith; room = l; type = p .within }
+    record { formed = p .formed; board = p .ready .board; sheet = p .sheet; ended = p .ended; lines = omega arith; room = l; type = p .within }
 
 returns : tie.Need-returns
 returns c =
