@@ -246,7 +246,7 @@ module _ (w : List ℕ) (b : Book) (k : ℕ) (t : Ty) (h : Booked w b) (small : 
         let z = h .unsolved j l (omega arith) in
         (a ∙ z .0, c ∙ z .1));
     rest = λ j l u. kept w b k t small within j (inr (omega arith)) (inr (omega arith)) ∙ h .rest j (omega arith) u;
-    fine = rw given-sols (fine-snoc [] (sols w) k t (h .fine) new free);
+    fine = rw given-sols (fine-snoc (sols w) k t (h .fine) new free);
   }
 
 -- the stores of `solve`; m is k as an index

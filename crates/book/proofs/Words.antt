@@ -15,6 +15,7 @@ use Rattle.nodes.proofs.Laws.{getD-sets-in, nodesAt-append, words-append, lengt
 use Rattle.judgment.specs.Solutions.{Solution, _≔_, Solutions, solutionNodes}
 use Rattle.judgment.specs.Result.{padded, placeFrom, pairsFrom, nodeWords, bookWords}
 use Rattle.judgment.proofs.Words.{length-book}
+use Rattle.judgment.proofs.SolutionLaws.{no-fine}
 use Rattle.book.specs.declared.Book.{Book}
 use Rattle.book.specs.Book.{startOf, countOf, sols, Head, Holds, Booked}
 use Rattle.book.proofs.Holdings.{by-eq, nodes-count, sols-are}
@@ -201,5 +202,5 @@ module _ (w : List ℕ) (room : 10192 ≤ length w) where
     holds = rw new-sols nothing;
     unsolved = λ j l u. (zero-at (2 * j) (omega arith), zero-at (2 * j + 1) (omega arith));
     rest = λ j l u. zero-at j u;
-    fine = rw new-sols tt;
+    fine = rw new-sols no-fine;
   }

@@ -27,7 +27,7 @@ use Rattle.operations.specs.declared.Run.{Run}
 use Rattle.operations.specs.State.{reported, outcomeBy, outcomeOf, stateOf, going}
 use Rattle.operations.proofs.Latch.{going-is}
 use Rattle.applying.specs.Applying.{envOn}
-use Rattle.checker.specs.Running.{startOf, stepO, after, Told, told, endBy, endOf, Reached}
+use Rattle.checker.specs.Running.{stepO, Told, told, endBy, endOf, Standing, Stepping}
 
 -- ---- on the definition
 module _ (L : Limits) (E : Env) (C : ℕ) where
@@ -75,22 +75,20 @@ module _ (L : Limits) (E : Env) (C : ℕ) where
       ap (λ (c : ℕ). told m (runFrom L E c s)) z ∙ ap (λ (k : ℕ). record { end = ceiling; taken = k; last = s }) (add-zero m)
 
 -- ---- the loop
-pub record Loop (s : List ℕ) (C : ℕ) (b k rep : List ℕ) (c : Run) : Type 0 where
-  pub reached : Reached s b k rep c
-  pub left : leftOf limits (envOn s) C (c .taken) (outcomeOf (rows s) b k rep c) ≡ told 0 (runFrom limits (envOn s) C (startOf (rows s)))
+-- T is what the run from the words at its start comes to
+pub record Loop (s : List ℕ) (C : ℕ) (T : Told) (b k rep : List ℕ) (c : Run) : Type 0 where
+  pub standing : Standing s b k c
+  pub left : leftOf limits (envOn s) C (c .taken) (outcomeOf (rows s) b k rep c) ≡ T
 
-pub loop-start : {s : List ℕ} (C : ℕ) {b k rep : List ℕ} {c : Run} → Reached s b k rep c → c .taken ≡ 0 → Loop s C b k rep c
-unfolding after
-loop-start {s} C {b} {k} {rep} {c} r z =
-    let E = envOn s in
-    let S = startOf (rows s) in
-    let y : C - 0 ≡ C = omega arith in
-    record {
-      reached = r;
-      left =
-          ap₂ (leftOf limits E C) z (r .outcome ∙ ap (after limits E S) z)
-          ∙ ap (λ (n : ℕ). told 0 (runFrom limits E n S)) y;
-    }
+-- the run from the words at the start
+abbrev pub wholeRun : List ℕ → ℕ → List ℕ → List ℕ → Run → Told
+wholeRun s C b k c = told (c .taken) (runFrom limits (envOn s) (C - c .taken) (stateOf (rows s) b k c))
+
+pub loop-start : {s : List ℕ} (C : ℕ) {b k rep : List ℕ} {c : Run} → Standing s b k c → going (c .halt) ≡ true → Loop s C (wholeRun s C b k c) b k rep c
+loop-start {s} C {b} {k} {rep} {c} r g = record {
+  standing = r;
+  left = ap (λ (h : Halt). leftOf limits (envOn s) C (c .taken) (outcomeBy h rep (stateOf (rows s) b k c))) (going-is (c .halt) g);
+}
 
 -- what the test tells
 pub more-facts : (c : Run) (C : ℕ) → (going (c .halt) && (ltb 0 (c .board .entries) && ltb (c .taken) C)) ≡ true → (going (c .halt) ≡ true) × (0 < c .board .entries) × (c .taken < C)
@@ -99,21 +97,17 @@ more-facts c C e =
     let y = and-eq-true-iff (ltb 0 (c .board .entries)) (ltb (c .taken) C) .0 (x .1) in
     (x .0, ltb-true 0 (c .board .entries) (y .0), ltb-true (c .taken) C (y .1))
 
-pub loop-turn : {s : List ℕ} {C : ℕ} {b k rep : List ℕ} {c : Run} {b' k' rep' : List ℕ} {q : Run} → (going (c .halt) ≡ true) × (0 < c .board .entries) × (c .taken < C)
-    → Loop s C b k rep c → Reached s b' k' rep' q × (q .taken ≡ c .taken + 1) → Loop s C b' k' rep' q
-unfolding after
-loop-turn {s} {C} {b} {k} {rep} {c} {b'} {k'} {rep'} {q} f h r =
+pub loop-turn : {s : List ℕ} {C : ℕ} {T : Told} {b k rep : List ℕ} {c : Run} {b' k' rep' : List ℕ} {q : Run} → (going (c .halt) ≡ true) × (0 < c .board .entries) × (c .taken < C)
+    → Loop s C T b k rep c → Stepping s b k rep c b' k' rep' q → Loop s C T b' k' rep' q
+loop-turn {s} {C} {T} {b} {k} {rep} {c} {b'} {k'} {rep'} {q} f h r =
     let E = envOn s in
     let ls = rows s in
-    let S = startOf ls in
     let g = going-is (c .halt) (f .0) in
-    let o : outcomeOf ls b' k' rep' q ≡ stepO limits E (outcomeOf ls b k rep c) =
-    r .0 .outcome ∙ ap (after limits E S) (r .1 ∙ add-one (c .taken)) ∙ ap (stepO limits E) (sym (h .reached .outcome)) in
     let t : leftOf limits E C (c .taken + 1) (stepO limits E (outcomeBy (c .halt) rep (stateOf ls b k c))) ≡ leftOf limits E C (c .taken) (outcomeBy (c .halt) rep (stateOf ls b k c)) =
     rw g (turn-entries limits E C ls b (c .board .entries) (f .1) (c .taken) (f .2) (sols k) (c .fresh)) in
     record {
-      reached = r .0;
-      left = ap₂ (leftOf limits E C) (r .1) o ∙ t ∙ h .left;
+      standing = r .standing;
+      left = ap₂ (leftOf limits E C) (r .taken) (r .outcome) ∙ t ∙ h .left;
     }
 
 -- no more is taken
@@ -127,7 +121,7 @@ ended L E C ls b rep Going i m σ n e = end-entries L E C ls b rep i m σ n (λ 
     go false y p q l z = absurd (let u = ltb-false 0 i p in omega arith)
 ended L E C ls b rep (Refused r) i m σ n e = refl
 
-pub loop-end : {s : List ℕ} {C : ℕ} {b k rep : List ℕ} {c : Run} → Loop s C b k rep c → (going (c .halt) && (ltb 0 (c .board .entries) && ltb (c .taken) C)) ≡ false
-    → told 0 (runFrom limits (envOn s) C (startOf (rows s))) ≡ record { end = endOf rep c; taken = c .taken; last = stateOf (rows s) b k c }
-loop-end {s} {C} {b} {k} {rep} {c} h e =
+pub loop-end : {s : List ℕ} {C : ℕ} {T : Told} {b k rep : List ℕ} {c : Run} → Loop s C T b k rep c → (going (c .halt) && (ltb 0 (c .board .entries) && ltb (c .taken) C)) ≡ false
+    → T ≡ record { end = endOf rep c; taken = c .taken; last = stateOf (rows s) b k c }
+loop-end {s} {C} {T} {b} {k} {rep} {c} h e =
     sym (h .left) ∙ ended limits (envOn s) C (rows s) b rep (c .halt) (c .board .entries) (c .taken) (sols k) (c .fresh) e

@@ -24,7 +24,7 @@ use denote.Triple.Clauses.{lasts}
 use Rattle.checker.specs.declared.Counters.{Counters}
 use Rattle.checker.specs.declared.Kept.{Kept}
 use Rattle.checker.specs.declared.Stepped.{Stepped}
-use Rattle.checker.specs.Running.{joined, StepAsk, Reached}
+use Rattle.checker.specs.Running.{joined, StepAsk, Stepping}
 use Rattle.checker.proofs.Counters as C
 use Rattle.checker.proofs.Counters.Laws as C′
 use Rattle.checker.proofs.Kept as K
@@ -60,8 +60,8 @@ Lists = List ℕ × (List ℕ × (List ℕ × (Unit {0} × (List ℕ × (List �
 abbrev pub Ask : Counters → Kept → Slices → Type 0
 Ask n k x = StepAsk (x .1 .1 .1 .0 .now) (x .0 .now) (x .1 .0 .now) (x .1 .1 .0 .now) (joined n k) (x .1 .1 .1 .1 .0 .now) (x .1 .1 .1 .1 .1 .0 .now) (x .1 .1 .1 .1 .1 .1 .0 .now) (x .1 .1 .1 .1 .1 .1 .1 .0 .now) (x .1 .1 .1 .1 .1 .1 .1 .1 .0 .now)
 
-abbrev pub Says : Counters → Slices → Counters → Kept → Lists → Type 0
-Says n x c k ws = Reached (x .1 .1 .1 .0 .now) (ws .0) (ws .1 .0) (ws .1 .1 .0) (joined c k) × (c .taken ≡ n .taken + 1)
+abbrev pub Says : Counters → Kept → Slices → Counters → Kept → Lists → Type 0
+Says n k x c d ws = Stepping (x .1 .1 .1 .0 .now) (x .0 .now) (x .1 .0 .now) (x .1 .1 .0 .now) (joined n k) (ws .0) (ws .1 .0) (ws .1 .1 .0) (joined c d)
 
 abbrev pub Left : Lft → Counters → Kept → Slices → Lists → Fml
 Left κ n k x ws = lasts apart.ended (κ, tt) (n, (k, x)) (tt, (tt, ws))

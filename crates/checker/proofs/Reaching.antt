@@ -4,11 +4,13 @@ use mathlib.Core.Bool.{Bool, true, false, cond, and-eq-true-iff}
 use mathlib.Core.List.{List, [], _∷_}
 use Prim.Native.Nat.{ℕ, zero, suc, _+_, _*_, _≤_, _<_}
 use lib.ListN.{length}
-use Rattle.nodes.specs.Nodes.{Ty, nodesAt}
+use Rattle.nodes.specs.Nodes.{Node, Ty, nodesAt}
 use Rattle.nodes.specs.Lists.{All}
 use Rattle.nodes.proofs.ListLaws.{all-map}
 use Rattle.spelling.specs.declared.Triple.{Triple}
-use Rattle.sheet.specs.Plan.{planOf}
+use Rattle.sheet.specs.Plan.{lineNode, Binding, _∶_, planOf}
+use Rattle.judgment.specs.Terms.{Term}
+use Rattle.judgment.proofs.TypeLaws.{Lines}
 use Rattle.sheet.specs.Rows.{rows}
 use Rattle.judgment.specs.Solutions.{Solution, Solutions, value}
 use Rattle.judgment.specs.Board.{Entry, tvar, var, sub, inf, chk, infApp, Limits, State, state, Outcome, finished, refused, perform}
@@ -16,7 +18,7 @@ use Rattle.judgment.specs.Board.{Board as Entries}
 use Rattle.judgment.specs.Rules.{Env, rule}
 use Rattle.judgment.specs.Result.{limits, envOf}
 use Rattle.judgment.proofs.Invariant.{OK, EntryOK, SolutionOK, Inv, Kept, perform-kept}
-use Rattle.judgment.proofs.RuleLaws.{EnvOK, Explains, rule-good}
+use Rattle.judgment.proofs.RuleLaws.{BindingOK, EnvOK, Explains, rule-good}
 use Rattle.judgment.proofs.WholeTypes.{IsTy}
 use Rattle.judgment.proofs.WholeRun.{EntryWhole, EnvWhole, OutcomeWhole, perform-whole, rule-whole}
 use Rattle.judgment.proofs.Promised.{plan-env, plan-inv}
@@ -25,10 +27,10 @@ use Rattle.book.specs.Book.{sols}
 use Rattle.operations.specs.declared.Halt.{Halt}
 use Rattle.operations.specs.declared.Halt.the-variants.{Going, Refused}
 use Rattle.operations.specs.declared.Run.{Run}
-use Rattle.operations.specs.State.{outcomeBy, outcomeOf, stateOf}
+use Rattle.operations.specs.State.{outcomeBy, outcomeOf, stateOf, WellFormed}
 use Rattle.subtyping.specs.Subtyping.{Made, Sound}
 use Rattle.applying.specs.Applying.{envOn}
-use Rattle.checker.specs.Running.{startOf, stepO, after, EntrySound, Reached}
+use Rattle.checker.specs.Running.{stepO, EntrySound, Standing}
 use Rattle.checker.proofs.Reading.{read-good, read-whole}
 
 module _ (Plain : Type 0) where
@@ -46,7 +48,7 @@ module _ (Plain : Type 0) where
   both Q (finished (state Γ σ n)) k w = record { inv = k .0; entries = w .0; solutions = w .1 }
   both Q (refused r ts (state Γ σ n)) k w = record { inv = k .0; entries = w .0; solutions = w .1 }
 
-  step-ok : (L : Limits) (E : Env) → EnvOK Plain E → EnvWhole E → (o : Outcome) → OutcomeOK o → OutcomeOK (stepO L E o)
+  pub step-ok : (L : Limits) (E : Env) → EnvOK Plain E → EnvWhole E → (o : Outcome) → OutcomeOK o → OutcomeOK (stepO L E o)
   step-ok L E h g (finished (state [] σ n)) q = q
   step-ok L E h g (finished (state (e ∷ Γ) σ n)) q =
       let i : Inv Plain Γ σ n = record { entries = q .inv .entries .1; fine = q .inv .fine; solutions = q .inv .solutions } in
@@ -55,15 +57,14 @@ module _ (Plain : Type 0) where
       (perform-whole L (rule E e) Γ σ n (q .entries .1) (q .solutions) (rule-whole E g e (q .entries .0)))
   step-ok L E h g (refused r ts s) q = q
 
-  after-ok : (L : Limits) (E : Env) → EnvOK Plain E → EnvWhole E → (s : State) → OutcomeOK (finished s) → (m : ℕ) → OutcomeOK (after L E s m)
-  unfolding after
-  after-ok L E h g s q zero = q
-  after-ok L E h g s q (suc m) = step-ok L E h g (after L E s m) (after-ok L E h g s q m)
-
   -- refused or not
-  of-outcome : (h : Halt) (rep : List ℕ) (Γ : Entries) (σ : Solutions) (n : ℕ) → OutcomeOK (outcomeBy h rep (state Γ σ n)) → StateOK Γ σ n
+  pub of-outcome : (h : Halt) (rep : List ℕ) (Γ : Entries) (σ : Solutions) (n : ℕ) → OutcomeOK (outcomeBy h rep (state Γ σ n)) → StateOK Γ σ n
   of-outcome Going rep Γ σ n q = q
   of-outcome (Refused e) rep Γ σ n q = q
+
+  pub to-outcome : (h : Halt) (rep : List ℕ) (Γ : Entries) (σ : Solutions) (n : ℕ) → StateOK Γ σ n → OutcomeOK (outcomeBy h rep (state Γ σ n))
+  to-outcome Going rep Γ σ n q = q
+  to-outcome (Refused e) rep Γ σ n q = q
 
   -- what a rule asks of its entry, and of the solutions
   made-of : (n : ℕ) (t : Ty) → All (OK Plain n) t → All (Made n) t
@@ -84,15 +85,46 @@ module _ (Plain : Type 0) where
   solutions-sound n [] h w = tt
   solutions-sound n (x ∷ σ) h w = (sound-of n (value x) (h .0 .1) (w .0), solutions-sound n σ (h .1) (w .1))
 
--- a plan without quantifiers
-abbrev pub PlainPlan : List ℕ → Type 0
-PlainPlan s = planOf (rows s) .plain ≡ true
+-- ---- what is known of a plain or any other plan, of any plan
+module _ (P : Type 0) where
+  bare : (n : ℕ) (x : Node) → OK P n x → OK ⊥ n x
+  bare n x h = (h .0, λ e. absurd e)
 
-pub reached-ok : {s b k rep : List ℕ} {c : Run} → Reached s b k rep c → StateOK (PlainPlan s) (entriesOf (rows s) b (c .board .entries)) (sols k) (c .fresh)
-reached-ok {s} {b} {k} {rep} {c} q =
+  bare-type : (n : ℕ) (t : Ty) → All (OK P n) t → All (OK ⊥ n) t
+  bare-type n t h = all-map (bare n) t h
+
+  bare-lines : (n : ℕ) (e : Term) → Lines (OK P n) e → Lines (OK ⊥ n) e
+  bare-lines n e h = all-map (λ l. bare n (lineNode l)) (e .lines) h
+
+  bare-entry : (n : ℕ) (e : Entry) → EntryOK P n e → EntryOK ⊥ n e
+  bare-entry n (tvar x) h = tt
+  bare-entry n (var x t) h = bare-type n t h
+  bare-entry n (sub s t) h = (bare-type n s (h .0), bare-type n t (h .1))
+  bare-entry n (inf e t) h = (bare-lines n e (h .0), bare-type n t (h .1))
+  bare-entry n (chk e t) h = (bare-lines n e (h .0), bare-type n t (h .1))
+  bare-entry n (infApp f e t) h = (bare-type n f (h .0), bare-lines n e (h .1), bare-type n t (h .2))
+
+  pub bare-inv : {Γ : Entries} {σ : Solutions} {n : ℕ} → Inv P Γ σ n → Inv ⊥ Γ σ n
+  bare-inv {Γ} {σ} {n} i = record {
+    entries = all-map (bare-entry n) Γ (i .entries);
+    fine = i .fine;
+    solutions = all-map (λ x h. (h .0, bare-type n (value x) (h .1), h .2)) σ (i .solutions);
+  }
+
+  bare-binding : (b : Binding) → BindingOK P 0 b → BindingOK ⊥ 0 b
+  bare-binding (_∶_ x t) h = bare-type 0 t h
+
+  pub bare-env : {E : Env} → EnvOK P E → EnvOK ⊥ E
+  bare-env {E} h = record { constructors = all-map bare-binding (E .constructors) (h .constructors); context = all-map bare-binding (E .context) (h .context) }
+
+pub standing-ok : {s b k : List ℕ} {c : Run} → Standing s b k c → StateOK ⊥ (entriesOf (rows s) b (c .board .entries)) (sols k) (c .fresh)
+standing-ok q = record { inv = q .inv; entries = q .entries; solutions = q .solutions }
+
+-- what a step leaves is standing
+pub stands : {s b k : List ℕ} (rep : List ℕ) {c : Run} {b' k' : List ℕ} (rep' : List ℕ) {q : Run} → Standing s b k c → WellFormed b' k' q → outcomeOf (rows s) b' k' rep' q ≡ stepO limits (envOn s) (outcomeOf (rows s) b k rep c) → Standing s b' k' q
+stands {s} {b} {k} rep {c} {b'} {k'} rep' {q} h f e =
     let p = planOf (rows s) in
-    let g = read-good (q .plan) in
-    let w = read-whole (q .plan) in
-    of-outcome (PlainPlan s) (c .halt) rep (entriesOf (rows s) b (c .board .entries)) (sols k) (c .fresh)
-    (subst⁻¹ (OutcomeOK (PlainPlan s)) (q .outcome)
-    (after-ok (PlainPlan s) limits (envOn s) (plan-env p g) (w .0) (startOf (rows s)) (record { inv = plan-inv p g; entries = (w .1, tt); solutions = tt }) (c .taken)))
+    let w = read-whole (h .plan) in
+    let o = of-outcome ⊥ (q .halt) rep' (entriesOf (rows s) b' (q .board .entries)) (sols k') (q .fresh)
+    (subst⁻¹ (OutcomeOK ⊥) e (step-ok ⊥ limits (envOn s) (bare-env (p .plain ≡ true) (plan-env p (read-good (h .plan)))) (w .0) (outcomeOf (rows s) b k rep c) (to-outcome ⊥ (c .halt) rep _ _ _ (standing-ok h)))) in
+    record { plan = h .plan; formed = f; inv = o .inv; entries = o .entries; solutions = o .solutions }

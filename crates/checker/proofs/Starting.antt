@@ -20,7 +20,10 @@ use Rattle.sheet.specs.Rows.{rows}
 use Rattle.sheet.specs.Form.{Forms, IsPart}
 use Rattle.sheet.proofs.Forming.{split}
 use Rattle.sheet.proofs.TypeLines.{type-narrow}
-use Rattle.judgment.specs.Board.{chk, State, state, Outcome, finished}
+use mathlib.Core.Bool.{Bool, true, false, true≢false}
+use Rattle.judgment.specs.Board.{chk, State, state, Outcome, finished, refused}
+use Rattle.judgment.specs.Run.{runFrom}
+use Rattle.judgment.proofs.Promised.{plan-inv}
 use Rattle.judgment.specs.Result.{bookWords, limits}
 use Rattle.applying.specs.Applying.{envOn}
 use Rattle.board.specs.declared.Board.{Board}
@@ -32,12 +35,14 @@ use Rattle.book.specs.Book.{sols}
 use Rattle.book.proofs.Words.{new-sols, new-booked, zero-at}
 use Rattle.inference.proofs.Heads.{part-within}
 use Rattle.inference.proofs.Written.{length-typeOn, copied}
-use Rattle.operations.specs.declared.Halt.the-variants.{Going}
+use Rattle.operations.specs.declared.Halt.{Halt}
+use Rattle.operations.specs.declared.Halt.the-variants.{Going, Refused}
 use Rattle.operations.specs.declared.Run.{Run}
-use Rattle.operations.specs.State.{outcomeOf, WellFormed}
-use Rattle.checker.specs.Running.{startOf, after, Read, StartAsk, Reached}
+use Rattle.operations.specs.State.{outcomeBy, outcomeOf, stateOf, WellFormed, going}
+use Rattle.checker.specs.Running.{startOf, told, Read, StartAsk, Standing}
 use Rattle.checker.proofs.Judging.{part-stands}
-use Rattle.checker.proofs.Reading.{read-few, read-formed}
+use Rattle.checker.proofs.Reading.{read-few, read-formed, read-good, read-whole}
+use Rattle.checker.proofs.Reaching.{OutcomeOK, of-outcome, bare-inv}
 
 -- a part that is all there is
 no-lines : (ts : List Triple) → Forms ts [] → ts ≡ []
@@ -171,11 +176,35 @@ module _ {s b k t : List ℕ} (a : StartAsk s b k t) {p : Places} (ep : p ≡ pl
         let pt : p .term ≡ placesOf (rows s) .term = ap (λ (x : Places). x .term) ep in
         (rw (u .0, u .1, ek, eb, ed, pt) f, refl, λ rep. rw (u .0, u .1, ek, ed, pt) (o rep))
 
--- the run has taken nothing yet
-pub reached-start : {s b k : List ℕ} {c : Run} → Read s → WellFormed b k c × (c .taken ≡ 0) × ((rep : List ℕ) → outcomeOf (rows s) b k rep c ≡ finished (startOf (rows s))) → (rep : List ℕ) → Reached s b k rep c
-unfolding after
-reached-start {s} h q rep = record {
-  plan = h;
-  formed = q .0;
-  outcome = q .2 rep ∙ ap (after limits (envOn s) (startOf (rows s))) (sym (q .1));
-}
+-- what stands in the words is where the run of the sheet starts
+abbrev stateIn : Outcome → State
+stateIn (finished s) = s
+stateIn (refused e ts s) = s
+
+abbrev goesOn : Outcome → Bool
+goesOn (finished s) = true
+goesOn (refused e ts s) = false
+
+pub start-is : (s b k : List ℕ) (c : Run) → WellFormed b k c × (c .taken ≡ 0) × ((rep : List ℕ) → outcomeOf (rows s) b k rep c ≡ finished (startOf (rows s))) → (going (c .halt) ≡ true) × (stateOf (rows s) b k c ≡ startOf (rows s))
+start-is s b k c q = go (c .halt) (q .2 [])
+  where
+    go : (h : Halt) → outcomeBy h [] (stateOf (rows s) b k c) ≡ finished (startOf (rows s)) → (going h ≡ true) × (stateOf (rows s) b k c ≡ startOf (rows s))
+    go Going e = (refl, ap stateIn e)
+    go (Refused x) e = absurd (true≢false (sym (ap goesOn e)))
+
+pub start-stands : (s b k : List ℕ) (c : Run) → Read s → WellFormed b k c × (c .taken ≡ 0) × ((rep : List ℕ) → outcomeOf (rows s) b k rep c ≡ finished (startOf (rows s))) → Standing s b k c × (going (c .halt) ≡ true)
+start-stands s b k c h q =
+    let p = planOf (rows s) in
+    let w = read-whole h in
+    let e = start-is s b k c q in
+    let o = of-outcome ⊥ (c .halt) [] (entriesOf (rows s) b (c .board .entries)) (sols k) (c .fresh)
+    (subst⁻¹ (OutcomeOK ⊥) (q .2 []) (record { inv = bare-inv (p .plain ≡ true) (plan-inv p (read-good h)); entries = (w .1, tt); solutions = tt })) in
+    (record { plan = h; formed = q .0; inv = o .inv; entries = o .entries; solutions = o .solutions }, e .0)
+
+-- its run is the sheet's
+pub start-told : (s b k : List ℕ) (c : Run) (C : ℕ) → WellFormed b k c × (c .taken ≡ 0) × ((rep : List ℕ) → outcomeOf (rows s) b k rep c ≡ finished (startOf (rows s)))
+    → told 0 (runFrom limits (envOn s) C (startOf (rows s))) ≡ told (c .taken) (runFrom limits (envOn s) (C - c .taken) (stateOf (rows s) b k c))
+start-told s b k c C q =
+    let e = start-is s b k c q in
+    let z : C ≡ C - 0 = omega arith in
+    sym (ap₂ (λ (m : ℕ) (x : State). told m (runFrom limits (envOn s) (C - m) x)) (q .1) (e .1) ∙ ap (λ (m : ℕ). told 0 (runFrom limits (envOn s) m (startOf (rows s)))) (sym z))

@@ -28,8 +28,8 @@ use Rattle.operations.specs.declared.Run.{Run}
 use Rattle.operations.specs.State.{Came, outcomeBy, outcomeOf, stateOf, WellFormed, Does, going}
 use Rattle.operations.proofs.Latch.{going-is}
 use Rattle.applying.specs.Applying.{envOn}
-use Rattle.checker.specs.Running.{startOf, stepO, after, topEntry, JudgeAsk, Reached, StepAsk}
-use Rattle.checker.proofs.Reaching.{PlainPlan, entry-sound, solutions-sound, reached-ok}
+use Rattle.checker.specs.Running.{stepO, topEntry, JudgeAsk, Stepping, StepAsk}
+use Rattle.checker.proofs.Reaching.{entry-sound, solutions-sound, standing-ok, stands}
 
 -- the run with the newest entry taken
 abbrev pub taking : Run → Top → Run
@@ -47,7 +47,7 @@ module _ {s b k rep : List ℕ} {c : Run} {t l r w v : List ℕ} (a : StepAsk s 
   below = entriesOf ls b (o .rest .entries)
 
   abbrev st : Stacked b (c .board)
-  st = a .reached .formed .board
+  st = a .standing .formed .board
 
   entries-are : entriesOf ls b (c .board .entries) ≡ topEntry ls b o ∷ below
   entries-are = rw e (top-entries st (a .more) ls)
@@ -55,30 +55,29 @@ module _ {s b k rep : List ℕ} {c : Run} {t l r w v : List ℕ} (a : StepAsk s 
   formed-next : WellFormed b k (taking c o)
   formed-next = record {
     board = rw e (top-stacked st (a .more));
-    book = a .reached .formed .book;
-    numbers = a .reached .formed .numbers;
-    unmade = a .reached .formed .unmade;
+    book = a .standing .formed .book;
+    numbers = a .standing .formed .numbers;
+    unmade = a .standing .formed .unmade;
   }
 
   pub step-asks : JudgeAsk s b k rep (taking c o) o t l r w v
   step-asks =
-      let q = reached-ok (a .reached) in
+      let q = standing-ok (a .standing) in
       record {
-        plan = a .reached .plan;
+        plan = a .standing .plan;
         formed = formed-next;
         within = rw e (top-within st (a .more));
         few = rw e (top-few st (a .more));
         report = a .report;
         lent = a .lent;
         entry =
-            let x = subst (All (EntryOK (PlainPlan s) (c .fresh))) entries-are (q .inv .entries) in
+            let x = subst (All (EntryOK ⊥ (c .fresh))) entries-are (q .inv .entries) in
             let y = subst (All EntryWhole) entries-are (q .entries) in
-            entry-sound (PlainPlan s) (c .fresh) (topEntry ls b o) (x .0) (y .0);
-        solutions = solutions-sound (PlainPlan s) (c .fresh) (sols k) (q .inv .solutions) (q .solutions);
+            entry-sound ⊥ (c .fresh) (topEntry ls b o) (x .0) (y .0);
+        solutions = solutions-sound ⊥ (c .fresh) (sols k) (q .inv .solutions) (q .solutions);
       }
 
-  pub step-reached : {b' k' rep' : List ℕ} {q : Run} → Does 1024 ls b k rep (taking c o) (rule (envOn s) (topEntry ls b o)) b' k' rep' q → Reached s b' k' rep' q × (q .taken ≡ c .taken + 1)
-  unfolding after
+  pub step-reached : {b' k' rep' : List ℕ} {q : Run} → Does 1024 ls b k rep (taking c o) (rule (envOn s) (topEntry ls b o)) b' k' rep' q → Stepping s b k rep c b' k' rep' q
   step-reached {b'} {k'} {rep'} {q} d =
       let E = envOn s in
       let g = going-is (c .halt) (a .goes) in
@@ -86,11 +85,5 @@ module _ {s b k rep : List ℕ} {c : Run} {t l r w v : List ℕ} (a : StepAsk s 
       let σ = sols k in
       let one : performO limits (rule E p) (outcomeBy (c .halt) rep (state below σ (c .fresh))) ≡ stepO limits E (outcomeBy (c .halt) rep (stateOf ls b k c))
       = rw (g, entries-are) (performs limits (rule E p) below σ (c .fresh)) in
-      let m : suc (c .taken) ≡ q .taken = sym (add-one (c .taken)) ∙ sym (d .taken) in (
-        record {
-          plan = a .reached .plan;
-          formed = d .kept;
-          outcome = ap (λ (x : Came). x .outcome) (d .outcome) ∙ one ∙ ap (stepO limits E) (a .reached .outcome) ∙ ap (after limits E (startOf ls)) m;
-        },
-        d .taken,
-      )
+      let e : outcomeOf ls b' k' rep' q ≡ stepO limits E (outcomeOf ls b k rep c) = ap (λ (x : Came). x .outcome) (d .outcome) ∙ one in
+      record { standing = stands rep rep' (a .standing) (d .kept) e; outcome = e; taken = d .taken }

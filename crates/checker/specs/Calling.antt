@@ -8,10 +8,9 @@ use Rattle.grammar.specs.declared.Check.the-variants.{Plan}
 use Rattle.grammar.specs.Check.{check}
 use Rattle.sheet.specs.Plan.{triples, planOf}
 use Rattle.judgment.specs.declared.Answer.{Answer}
-use Rattle.judgment.specs.Board.{chk}
 use Rattle.judgment.specs.Result.{Result, Buffers, limits, runOf, judge, call, boardWords, bookWords, reportWords}
 use Rattle.judgment.specs.Promise.{Promise}
-use Rattle.checker.specs.Running.{Read, Lent}
+use Rattle.checker.specs.Running.{startOf, Read, Lent}
 
 -- what the run of a plan that was read asks: the buffers at their own lengths
 pub record PlanAsk (d b k rep t l r w v : List ℕ) : Type 0 where
@@ -60,4 +59,4 @@ pub record Fronted (o : Result) (b k rep b' k' rep' : List ℕ) (a : Answer) : T
 pub record Answered (s : List ℕ) (c : ℕ) (before : Buffers) (a : Answer) (after : Buffers) : Type 0 where
   pub answer : a ≡ call s c before .answer
   pub buffers : after ≡ call s c before .after
-  pub promise : check s ≡ Plan → Promise (chk (planOf (triples s) .term) (planOf (triples s) .expected)) (planOf (triples s) .plain) (runOf limits c (planOf (triples s)))
+  pub promise : check s ≡ Plan → Promise (startOf (triples s)) (planOf (triples s) .plain) (runOf limits c (planOf (triples s)))

@@ -22,7 +22,10 @@ use Rattle.judgment.specs.Run.{End, accepted, ceiling, refusedBy}
 use Rattle.judgment.specs.Run.{Run as Steps, run as steps}
 use Rattle.judgment.specs.Result.{endNumber, endDetails, limits, envOf}
 use Rattle.board.specs.declared.Top.{Top}
-use Rattle.board.specs.Board.{entryOf}
+use Rattle.judgment.proofs.Invariant.{Inv}
+use Rattle.judgment.proofs.WholeTypes.{IsTy}
+use Rattle.judgment.proofs.WholeRun.{EntryWhole}
+use Rattle.board.specs.Board.{entryOf, entriesOf}
 use Rattle.book.specs.Book.{sols}
 use Rattle.operations.specs.declared.Halt.{Halt}
 use Rattle.operations.specs.declared.Halt.the-variants.{Going, Refused}
@@ -44,10 +47,6 @@ abbrev pub stepO : Limits → Env → Outcome → Outcome
 stepO L E (finished (state [] σ n)) = finished (state [] σ n)
 stepO L E (finished (state (e ∷ Γ) σ n)) = perform L (rule E e) Γ σ n
 stepO L E (refused r ts s) = refused r ts s
-
-unfoldable pub after : Limits → Env → State → ℕ → Outcome
-after L E s zero = finished s
-after L E s (suc m) = stepO L E (after L E s m)
 
 -- how a run ended, how many entries were taken, and its last state
 pub record Told : Type 0 where
@@ -145,14 +144,22 @@ pub record JudgeAsk (s b k rep : List ℕ) (c : Run) (o : Top) (t l r w v : List
   pub entry : EntrySound (c .fresh) (topEntry (rows s) b o)
   pub solutions : All (λ x. Sound (c .fresh) (value x)) (sols k)
 
--- what stands in the words is what the definition's run of the sheet has come to
-pub record Reached (s b k rep : List ℕ) (c : Run) : Type 0 where
+-- what stands in the words is a state as every state of a run is: whole types, unknowns below the counter, solutions that lead nowhere back
+pub record Standing (s b k : List ℕ) (c : Run) : Type 0 where
   pub plan : Read s
   pub formed : WellFormed b k c
-  pub outcome : outcomeOf (rows s) b k rep c ≡ after limits (envOn s) (startOf (rows s)) (c .taken)
+  pub inv : Inv ⊥ (entriesOf (rows s) b (c .board .entries)) (sols k) (c .fresh)
+  pub entries : All EntryWhole (entriesOf (rows s) b (c .board .entries))
+  pub solutions : All (λ x. IsTy (value x)) (sols k)
+
+-- one step of the definition, from the words before to those after
+pub record Stepping (s b k rep : List ℕ) (c : Run) (b' k' rep' : List ℕ) (q : Run) : Type 0 where
+  pub standing : Standing s b' k' q
+  pub outcome : outcomeOf (rows s) b' k' rep' q ≡ stepO limits (envOn s) (outcomeOf (rows s) b k rep c)
+  pub taken : q .taken ≡ c .taken + 1
 
 pub record StepAsk (s b k rep : List ℕ) (c : Run) (t l r w v : List ℕ) : Type 0 where
-  pub reached : Reached s b k rep c
+  pub standing : Standing s b k c
   pub goes : going (c .halt) ≡ true
   pub more : 0 < c .board .entries
   pub counts : c .taken < 4294967295

@@ -2,7 +2,7 @@
 ghost use mathlib.Core.Path.{_≡_};
 ghost use mathlib.Core.Bool.{true, cond, _&&_};
 ghost use mathlib.Core.List.{List};
-ghost use Prim.Native.Nat.{ℕ, _+_, _/_, _<_, _≤_};
+ghost use Prim.Native.Nat.{ℕ, _+_, _-_, _/_, _<_, _≤_};
 ghost use lib.Dec.{ltb};
 ghost use lib.ListN.{length};
 ghost use Rattle.grammar.specs.declared.Check.the-variants.{Plan};
@@ -15,7 +15,7 @@ ghost use Rattle.judgment.specs.Result.{endNumber, endDetails, limits, judge, r
 ghost use Rattle.operations.specs.State.{outcomeOf, stateOf, reported, WellFormed, Does, going};
 ghost use Rattle.applying.specs.Applying.{envOn};
 ghost use Rattle.judgment.specs.Board.{finished};
-ghost use Rattle.checker.specs.Running.{startOf, told, endBy, endOf, reportEnd, answerBy, topEntry, StartAsk, JudgeAsk, Reached, StepAsk, Lent, joined, countersOf, keptOf};
+ghost use Rattle.checker.specs.Running.{startOf, told, endBy, endOf, reportEnd, answerBy, topEntry, StartAsk, JudgeAsk, Standing, Stepping, StepAsk, Lent, joined, countersOf, keptOf};
 ghost use Rattle.checker.specs.Calling.{PlanAsk, RunAsk, RowsAsk, Ran, FrontAsk, Fronted, Answered};
 use applying::solve_inf_app;
 use board::Board;
@@ -157,7 +157,7 @@ fn step_apart<'a>(
     v: &'a mut [usize],
 ) -> Stepped
     requires { ⌜ StepAsk (now s) (now board) (now book) (now report) (joined c kept) (now t) (now l) (now r) (now w) (now v) ⌝ }
-    ensures { λ q. ⌜ Reached (now (s .entry)) (now (board .exit)) (now (book .exit)) (now (report .exit)) (joined (q .counters) (q .kept)) × (q .counters .taken ≡ c .taken + 1) ⌝ }
+    ensures { λ q. ⌜ Stepping (now (s .entry)) (now (board .entry)) (now (book .entry)) (now (report .entry)) (joined c kept) (now (board .exit)) (now (book .exit)) (now (report .exit)) (joined (q .counters) (q .kept)) ⌝ }
 {
     let b = Board {
         entries: c.entries,
@@ -196,7 +196,7 @@ fn step_lent<'c, 'a>(
     v: &'a mut [usize],
 ) -> Kept
     requires { ⌜ StepAsk (now s) (now board) (now book) (now report) (joined (now c) kept) (now t) (now l) (now r) (now w) (now v) ⌝ }
-    ensures { λ q. ⌜ Reached (now (s .entry)) (now (board .exit)) (now (book .exit)) (now (report .exit)) (joined (now (c .exit)) q) × (now (c .exit) .taken ≡ now (c .entry) .taken + 1) ⌝ }
+    ensures { λ q. ⌜ Stepping (now (s .entry)) (now (board .entry)) (now (book .entry)) (now (report .entry)) (joined (now (c .entry)) kept) (now (board .exit)) (now (book .exit)) (now (report .exit)) (joined (now (c .exit)) q) ⌝ }
 {
     let q = step_apart(*c, kept, board, book, report, s, t, l, r, w, v);
     *c = q.counters;
@@ -218,7 +218,7 @@ fn lend_step<'a>(
     v: &'a mut [usize],
 ) -> Stepped
     requires { ⌜ StepAsk (now s) (now board) (now book) (now report) (joined c kept) (now t) (now l) (now r) (now w) (now v) ⌝ }
-    ensures { λ q. ⌜ Reached (now (s .entry)) (now (board .exit)) (now (book .exit)) (now (report .exit)) (joined (q .counters) (q .kept)) × (q .counters .taken ≡ c .taken + 1) ⌝ }
+    ensures { λ q. ⌜ Stepping (now (s .entry)) (now (board .entry)) (now (book .entry)) (now (report .entry)) (joined c kept) (now (board .exit)) (now (book .exit)) (now (report .exit)) (joined (q .counters) (q .kept)) ⌝ }
 {
     let mut mine = c;
     let k = step_lent(&mut mine, kept, board, book, report, s, t, l, r, w, v);
@@ -242,7 +242,7 @@ fn solve_step(
     v: &mut [usize],
 ) -> Run
     requires { ⌜ StepAsk (now s) (now board) (now book) (now report) c (now t) (now l) (now r) (now w) (now v) ⌝ }
-    ensures { λ q. ⌜ Reached (now (s .entry)) (now (board .exit)) (now (book .exit)) (now (report .exit)) q × (q .taken ≡ c .taken + 1) ⌝ }
+    ensures { λ q. ⌜ Stepping (now (s .entry)) (now (board .entry)) (now (book .entry)) (now (report .entry)) c (now (board .exit)) (now (book .exit)) (now (report .exit)) q ⌝ }
 {
     let counters = counters_of(c);
     let kept = kept_of(c);
@@ -280,8 +280,8 @@ fn solve(
     w: &mut [usize],
     v: &mut [usize],
 ) -> Run
-    requires { ⌜ Reached (now s) (now board) (now book) (now report) c × (c .taken ≡ 0) × (4096 ≤ length (now report)) × Lent (now s) (now t) (now l) (now r) (now w) (now v) ⌝ }
-    ensures { λ q. ⌜ WellFormed (now (board .exit)) (now (book .exit)) q × (told 0 (runFrom limits (envOn (now (s .entry))) ceiling (startOf (rows (now (s .entry))))) ≡ record { end = endOf (now (report .exit)) q; taken = q .taken; last = stateOf (rows (now (s .entry))) (now (board .exit)) (now (book .exit)) q }) ⌝ }
+    requires { ⌜ Standing (now s) (now board) (now book) c × (going (c .halt) ≡ true) × (4096 ≤ length (now report)) × Lent (now s) (now t) (now l) (now r) (now w) (now v) ⌝ }
+    ensures { λ q. ⌜ WellFormed (now (board .exit)) (now (book .exit)) q × (told (c .taken) (runFrom limits (envOn (now (s .entry))) (ceiling - c .taken) (stateOf (rows (now (s .entry))) (now (board .entry)) (now (book .entry)) c)) ≡ record { end = endOf (now (report .exit)) q; taken = q .taken; last = stateOf (rows (now (s .entry))) (now (board .exit)) (now (book .exit)) q }) ⌝ }
 {
     let mut run = c;
     while takes_more(run, ceiling) {

@@ -16,7 +16,7 @@ use Rattle.judgment.specs.Types.{canUnify}
 use Rattle.judgment.specs.Solutions.{Solution, _≔_, Solutions, find, writeOut, solutionNodes}
 use Rattle.judgment.specs.Board.{Entry, Board, Limits, Rule, done, refuse, fresh, push, solve, zonk, look, Operation, made, pushed, gave, met, State, state, Outcome, finished, refused, roomFor, solving, perform, operations}
 use Rattle.judgment.specs.Rules.{Env, rule}
-use Rattle.judgment.specs.Run.{Step, step, End, refusedBy, Run, run, steps, final, addStep, onward, runFrom}
+use Rattle.judgment.specs.Run.{Step, step, End, refusedBy, Run, run, steps, final, addStep, onto, onward, runFrom}
 use Rattle.judgment.specs.Promise.{taken, events, pushes, given, NotMet, board, solutions}
 use Rattle.judgment.proofs.SolutionLaws.{find-none}
 use Rattle.judgment.proofs.Invariant.{Inv, Good, Kept, inv-fresh, inv-push, inv-solve, perform-kept}
@@ -108,12 +108,45 @@ pushes-append (gave k s ∷ xs) ys = pushes-append xs ys
 pushes-append (met k ∷ xs) ys = pushes-append xs ys
 
 -- ---- a run, from the board Γ and the solutions σ
-module _ (L : Limits) (E : Env) where
-  abbrev pub Adds : Board → Solutions → Run → Type 0
-  Adds Γ σ (run ss d (state Γ′ σ′ n′)) =
-      (σ′ ≡ σ ++ given (events ss))
-      × ((p : Entry → Bool) → count p (taken ss) + count p Γ′ ≡ count p Γ + count p (pushes (events ss)))
+abbrev pub Adds : Board → Solutions → Run → Type 0
+Adds Γ σ (run ss d (state Γ′ σ′ n′)) =
+    (σ′ ≡ σ ++ given (events ss))
+    × ((p : Entry → Bool) → count p (taken ss) + count p Γ′ ≡ count p Γ + count p (pushes (events ss)))
 
+-- of a run's steps before another
+abbrev pub AddsAt : State → Run → Type 0
+AddsAt (state Γ σ n) R = Adds Γ σ R
+
+events-append : (ss ts : List Step) → events (ss ++ ts) ≡ events ss ++ events ts
+events-append [] ts = refl
+events-append (step s e os o ∷ ss) ts = ap (λ (l : List Operation). os ++ l) (events-append ss ts) ∙ sym (append-assoc os (events ss) (events ts))
+
+taken-append : (ss ts : List Step) → taken (ss ++ ts) ≡ taken ss ++ taken ts
+taken-append [] ts = refl
+taken-append (step s e os o ∷ ss) ts = ap (λ (l : List Entry). e ∷ l) (taken-append ss ts)
+
+onto-run : (ss ts : List Step) (d : End) (t : State) → onto ss (run ts d t) ≡ run (ss ++ ts) d t
+onto-run [] ts d t = refl
+onto-run (s ∷ ss) ts d t = ap (addStep s) (onto-run ss ts d t)
+
+pub onto-adds : (Γ : Board) (σ : Solutions) (S R : Run) → Adds Γ σ S → AddsAt (final S) R → Adds Γ σ (onto (steps S) R)
+onto-adds Γ σ (run ss d (state Γ₁ σ₁ n₁)) (run ts e (state Γ′ σ′ n′)) a b = subst⁻¹ (Adds Γ σ) (onto-run ss ts e (state Γ′ σ′ n′)) (
+  b .0 ∙ ap (λ (x : Solutions). x ++ given (events ts)) (a .0) ∙ append-assoc σ (given (events ss)) (given (events ts))
+      ∙ ap (λ (x : Solutions). σ ++ x) (sym (ap given (events-append ss ts) ∙ given-append (events ss) (events ts))),
+  λ p.
+      let x = a .1 p in
+      let y = b .1 p in
+      let u = ap (count p) (taken-append ss ts) ∙ count-append p (taken ss) (taken ts) in
+      let v = ap (λ (l : List Operation). count p (pushes l)) (events-append ss ts) ∙ ap (count p) (pushes-append (events ss) (events ts)) ∙ count-append p (pushes (events ss)) (pushes (events ts)) in
+      omega arith,
+)
+
+pub onto-unmet : (S R : Run) → All NotMet (events (steps S)) → All NotMet (events (steps R)) → All NotMet (events (steps (onto (steps S) R)))
+onto-unmet (run ss d s) (run ts e t) a b =
+    subst⁻¹ (λ (Q : Run). All NotMet (events (steps Q))) (onto-run ss ts e t)
+    (subst⁻¹ (All NotMet) (events-append ss ts) (all-append NotMet (events ss) (events ts) a b))
+
+module _ (L : Limits) (E : Env) where
   one-step : (Γ : Board) (σ : Solutions) (n : ℕ) (e : Entry) (os : List Operation) (Γ₁ : Board) (σ₁ : Solutions) (n₁ : ℕ) → Left Γ σ os (finished (state Γ₁ σ₁ n₁))
       → (R : Run) → Adds Γ₁ σ₁ R → Adds (e ∷ Γ) σ (addStep (step (state (e ∷ Γ) σ n) e os (finished (state Γ₁ σ₁ n₁))) R)
   unfolding count

@@ -5,14 +5,15 @@ use mathlib.Core.Logic.{_≢_, _⊎_, inl, inr}
 use mathlib.Core.Bool.{Bool, true, false, cond, true≢false}
 use mathlib.Core.List.{List, [], _∷_, _++_, append-assoc}
 use lib.Dec.{eqb}
+use lib.ListN.{length}
 use Rattle.nodes.specs.Nodes.{Node, node, Ty}
 use Rattle.nodes.specs.Lists.{All, In}
 use Rattle.nodes.proofs.ListLaws.{all-map, all-of, all-in}
 use Rattle.judgment.specs.Types.{unknown, isNode}
-use Rattle.judgment.specs.Solutions.{Solution, _≔_, Solutions, key, value, replaceNode, replace, writeOut, Avoids, Free, keysAfter, keys, FineAfter, Fine}
+use Rattle.judgment.specs.Solutions.{Solution, _≔_, Solutions, key, value, link, links, writeOut, Avoids, Free, keysAfter, keys, Fine}
 use Rattle.judgment.specs.Promise.{Distinct, solvedUnknowns, Replaced, none, one, Unsolved, InFull}
 use Rattle.judgment.proofs.TypeLaws.{eqb-same, isNode-true}
-use Rattle.judgment.proofs.SolutionLaws.{keys-keep, fine-in, written-append, written-free, written-is-free, solved}
+use Rattle.judgment.proofs.SolutionLaws.{keys-keep, find-some, by-solved, link-solved, link-unsolved, times, written-times, written-append, written-free, written-is-free, solved}
 
 module _ {σ : Solutions} where
   chain : {t u v : Ty} → Replaced σ t u → Replaced σ u v → Replaced σ t v
@@ -27,21 +28,21 @@ module _ {σ : Solutions} where
   afters [] r = r
   afters (n ∷ p) r = after n (afters p r)
 
-  -- one unknown everywhere
-  replaces : (k : ℕ) (s : Ty) → In (_≔_ k s) σ → (t : Ty) → Replaced σ t (replace k s t)
-  unfolding replace
-  replaces k s m [] = none
-  replaces k s m (n ∷ ns) = go (isNode 17 k n) refl (replaces k s m ns)
-    where
-      go : (b : Bool) → isNode 17 k n ≡ b → Replaced σ ns (replace k s ns) → Replaced σ (n ∷ ns) (cond b s (n ∷ []) ++ replace k s ns)
-      go true e r = subst⁻¹ (λ x. Replaced σ (x ∷ ns) (s ++ replace k s ns)) (isNode-true 17 k n e) (one [] ns k s m (afters s r))
-      go false e r = after n r
+  -- one link everywhere
+  linked : (τ : Solutions) → ((x : Solution) → In x τ → In x σ) → (t : Ty) → Replaced σ t (links τ t)
+  unfolding links
+  linked τ f [] = none
+  linked τ f (n ∷ ns) =
+      by-solved τ n
+      (λ v s e q. subst⁻¹ (λ (l : Ty). Replaced σ (n ∷ ns) (l ++ links τ ns)) (ap (link τ) e ∙ link-solved τ v s q)
+      (subst⁻¹ (λ x. Replaced σ (x ∷ ns) (s ++ links τ ns)) e (one [] ns v s (f (_≔_ v s) (find-some τ v s q)) (afters s (linked τ f ns)))))
+      (λ e. subst⁻¹ (λ (l : Ty). Replaced σ (n ∷ ns) (l ++ links τ ns)) (link-unsolved τ n e) (after n (linked τ f ns)))
 
   -- one after the other
-  writes : (τ : Solutions) → ((x : Solution) → In x τ → In x σ) → (t : Ty) → Replaced σ t (writeOut τ t)
-  unfolding writeOut
-  writes [] f t = none
-  writes (_≔_ k s ∷ τ) f t = chain (replaces k s (f (_≔_ k s) (inl refl)) t) (writes τ (λ x m. f x (inr m)) (replace k s t))
+  writes : (τ : Solutions) → ((x : Solution) → In x τ → In x σ) → (n : ℕ) (t : Ty) → Replaced σ t (times τ n t)
+  unfolding times
+  writes τ f zero t = none
+  writes τ f (suc n) t = chain (linked τ f t) (writes τ f n (links τ t))
 
 -- ---- unsolved, by nodes and by keys
 avoided : (ks : List ℕ) (σ : Solutions) (k : ℕ) (s : Ty) (n : Node) → In (_≔_ k s) σ → Free (keysAfter ks σ) n → Avoids k n
@@ -75,28 +76,12 @@ module _ (σ : Solutions) (f : Fine σ) where
 
   pub in-full : (t : Ty) → InFull σ t (writeOut σ t)
   in-full t = record {
-    replaced = writes σ (λ x m. m) t;
-    unsolved = all-map (free-unsolved σ) (writeOut σ t) (written-is-free σ t f);
+    replaced = subst⁻¹ (Replaced σ t) (written-times σ t) (writes σ (λ x m. m) (length σ) t);
+    unsolved = all-map (free-unsolved σ) (writeOut σ t) (written-is-free σ f t);
   }
 
   pub full-is : (t u : Ty) → InFull σ t u → u ≡ writeOut σ t
   full-is t u h = sym (replaced-same (h .replaced) ∙ written-free σ u (all-map (λ n g. unsolved-free [] σ n tt g) u (h .unsolved)))
 
--- ---- the solved unknowns, in order of solving
-key-in : (σ : Solutions) (j : ℕ) → In j (solvedUnknowns σ) → (x : Solution) × In x σ × (key x ≡ j)
-key-in [] j m = absurd m
-key-in (_≔_ k s ∷ σ) j (inl e) = (_≔_ k s, inl refl, sym e)
-key-in (_≔_ k s ∷ σ) j (inr m) = let r = key-in σ j m in (r .0, inr (r .1), r .2)
-
-distinct-after : (ks : List ℕ) (σ : Solutions) → FineAfter ks σ → Distinct (solvedUnknowns σ)
-distinct-after ks [] f = tt
-distinct-after ks (_≔_ k s ∷ σ) f = (
-  all-of (λ j. k ≢ j) (solvedUnknowns σ) (λ j m e.
-      (let x = key-in σ j m in
-      let h = fine-in (k ∷ ks) σ (x .0) (f .2) (x .1) .0 .0 in
-      true≢false (sym (eqb-same k) ∙ subst (λ i. eqb k i ≡ false) (x .2 ∙ sym e) h))),
-  distinct-after (k ∷ ks) σ (f .2),
-)
-
 pub distinct-solved : (σ : Solutions) → Fine σ → Distinct (solvedUnknowns σ)
-distinct-solved σ f = distinct-after [] σ f
+distinct-solved σ f = f .once

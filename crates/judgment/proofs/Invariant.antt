@@ -20,7 +20,7 @@ use Rattle.sheet.specs.Plan.{lineNode}
 use Rattle.judgment.specs.Terms.{Term}
 use Rattle.judgment.specs.declared.TypeError.{TypeError}
 use Rattle.judgment.specs.declared.TypeError.the-variants.{UnboundVariable, UnboundDataConstructor, NotAFunction, ArityMismatch, SubtypingError, TypeUnificationError, InstantiationError, IntrinsicArityMismatch, UnknownIntrinsic, BoardFull, TypeTooLong, NoFreshNumber, SolutionsFull}
-use Rattle.judgment.specs.Solutions.{Solution, _≔_, Solutions, key, value, find, writeOut, solutionNodes, Avoids, Free, keysAfter, keys, FineAfter, Fine}
+use Rattle.judgment.specs.Solutions.{Solution, _≔_, Solutions, key, value, find, writeOut, solutionNodes, Avoids, Free, keysAfter, keys, Fine}
 use Rattle.judgment.proofs.SolutionLaws.{fine-snoc, find-none}
 use Rattle.judgment.specs.Board.{Entry, tvar, var, sub, inf, chk, infApp, Board, Limits, Rule, done, refuse, fresh, push, solve, zonk, look, State, state, Outcome, finished, refused, perform, roomFor, solving}
 
@@ -122,7 +122,7 @@ module _ (Plain : Type 0) where
   pub inv-solve : {Γ : Board} {σ : Solutions} {n : ℕ} (k : ℕ) (s : Ty) → SolveOK σ n k s → Inv Γ σ n → Inv Γ (σ ++ (_≔_ k s ∷ [])) n
   inv-solve {σ = σ} {n = n} k s h i = record {
     entries = i .entries;
-    fine = fine-snoc [] σ k s (i .fine) (h .unsolved) (h .free);
+    fine = fine-snoc σ k s (i .fine) (h .unsolved) (h .free);
     solutions = all-append (SolutionOK n) σ (_≔_ k s ∷ []) (i .solutions) ((h .made, h .ok, h .mono), tt);
   }
 

@@ -18,3 +18,4 @@ pub mod Narrow
 pub mod Alike
 pub mod Reordered
 pub mod AnyOrder
+pub mod Carried

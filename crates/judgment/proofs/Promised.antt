@@ -11,7 +11,7 @@ use lib.Dec.{eqb}
 use Rattle.nodes.specs.Nodes.{Node, node, Ty, kind}
 use Rattle.nodes.specs.Lists.{All, count}
 use Rattle.nodes.specs.Parts.{takeParts}
-use Rattle.nodes.proofs.ListLaws.{cond-ind, all-map, all-take, all-of-take, all-of-drop}
+use Rattle.nodes.proofs.ListLaws.{cond-ind, all-map, all-take, all-of-take, all-of-drop, count-append}
 use Rattle.spelling.specs.declared.Triple.{Triple}
 use Rattle.kinds.specs.Kinds.{partsOf}
 use Rattle.grammar.specs.declared.Check.the-variants.{Plan}
@@ -27,7 +27,7 @@ use Rattle.judgment.specs.Run.{Step, End, accepted, ceiling, refusedBy, 
 use Rattle.judgment.specs.Result.{Result, endNumber, envOf, runOf, resultOf, judge, limits}
 use Rattle.judgment.specs.Promise.{taken, events, pushes, given, Follows, Quantifierless, Same, InFull, Promise}
 use Rattle.judgment.proofs.TypeLaws.{Lines, all-nodes}
-use Rattle.judgment.proofs.SolutionLaws.{ends, never-back, all-written}
+use Rattle.judgment.proofs.SolutionLaws.{no-fine, ends, never-back, all-written}
 use Rattle.judgment.proofs.Invariant.{Mono, OK, Inv}
 use Rattle.judgment.proofs.RuleLaws.{Equal, BindingOK, EnvOK}
 use Rattle.judgment.proofs.Events.{Adds, run-adds, run-unmet}
@@ -43,10 +43,10 @@ same-types σ f (inf e t) h = tt
 same-types σ f (chk e t) h = tt
 same-types σ f (infApp g e t) h = tt
 
-module _ (plain : Bool) (L : Limits) (E : Env) (hE : EnvOK (plain ≡ true) E) (first : Entry) where
-  claim : (R : Run) → FactsOf (plain ≡ true) L E hE (first ∷ []) [] R → Adds L E (first ∷ []) [] R → All Rattle.judgment.specs.Promise.NotMet (events (steps R)) → Promise first plain R
+module _ (plain : Bool) where
+  pub claim : (Γ₀ : Board) (σ₀ : Solutions) (n₀ : ℕ) (R : Run) → FactsOf (plain ≡ true) Γ₀ σ₀ R → Adds Γ₀ σ₀ R → All Rattle.judgment.specs.Promise.NotMet (events (steps R)) → Promise (state Γ₀ σ₀ n₀) plain R
   unfolding count
-  claim (run ss d (state Γ σ n)) F A u =
+  claim Γ₀ σ₀ n₀ (run ss d (state Γ σ n)) F A u =
       let f = F .inv .fine in
       record {
         never-met = u;
@@ -58,15 +58,16 @@ module _ (plain : Bool) (L : Limits) (E : Env) (hE : EnvOK (plain ≡ true) E) (
         one-way = λ t v w p q. full-is σ f t v p ∙ sym (full-is σ f t w q);
         monotypes = all-map (λ x h v p. subst⁻¹ Quantifierless (full-is σ f (value x) v p) (all-written Mono σ (value x) (all-map (λ y g. g .2) σ (F .inv .solutions)) (h .2))) σ (F .inv .solutions);
         empty = λ a. subst (λ d. Empties d Γ) a (F .empties);
-        all-taken = λ a p. (let e = ap (count p) (subst (λ d. Empties d Γ) a (F .empties)) in let c = A .1 p in omega arith);
+        all-taken = λ a p. (let e = ap (count p) (subst (λ d. Empties d Γ) a (F .empties)) in let c = A .1 p in let z = count-append p Γ₀ (pushes (events ss)) in omega arith);
         same = λ a p. all-map (same-types σ f) (taken ss) (F .equal p (subst⁻¹ Accepted a tt) .1);
         never-16 = λ ts a. subst (λ d. Empties d Γ) a (F .empties);
       }
 
-  pub start-promise : (c : ℕ) → Inv (plain ≡ true) (first ∷ []) [] 0 → Promise first plain (runFrom L E c (state (first ∷ []) [] 0))
-  start-promise c i =
-      claim (runFrom L E c (state (first ∷ []) [] 0)) (run-facts (plain ≡ true) L E hE c (first ∷ []) [] 0 i) (run-adds L E c (first ∷ []) [] 0)
-      (run-unmet L E (plain ≡ true) hE c (first ∷ []) [] 0 i)
+-- of any state that has the invariant
+pub start-promise : (plain : Bool) (L : Limits) (E : Env) → EnvOK (plain ≡ true) E → (c : ℕ) (Γ : Board) (σ : Solutions) (n : ℕ) → Inv (plain ≡ true) Γ σ n → Promise (state Γ σ n) plain (runFrom L E c (state Γ σ n))
+start-promise plain L E hE c Γ σ n i =
+    claim plain Γ σ n (runFrom L E c (state Γ σ n)) (run-facts (plain ≡ true) L E hE c Γ σ n i) (run-adds L E c Γ σ n)
+    (run-unmet L E (plain ≡ true) hE c Γ σ n i)
 
 -- ---- a plan: what holds of every node of its types and of every line of its term
 abbrev pub bindingType : Binding → Ty
@@ -104,13 +105,13 @@ module _ (p : PlanOf) (g : GoodPlan p) where
   pub plan-inv : Inv (p .plain ≡ true) (chk (p .term) (p .expected) ∷ []) [] 0
   plan-inv = record {
     entries = ((ok-of (p .plain ≡ true) lineNode (p .term .lines) (g .no-unknowns .term) (λ e. g .if-plain e .term), ok-of (p .plain ≡ true) (λ n. n) (p .expected) (g .no-unknowns .expected) (λ e. g .if-plain e .expected)), tt);
-    fine = tt;
+    fine = no-fine;
     solutions = tt;
   }
 
-pub plan-promise : (L : Limits) (c : ℕ) (p : PlanOf) → GoodPlan p → Promise (chk (p .term) (p .expected)) (p .plain) (runOf L c p)
+pub plan-promise : (L : Limits) (c : ℕ) (p : PlanOf) → GoodPlan p → Promise (state (chk (p .term) (p .expected) ∷ []) [] 0) (p .plain) (runOf L c p)
 unfolding runOf checkType
-plan-promise L c p g = start-promise (p .plain) L (envOf p) (plan-env p g) (chk (p .term) (p .expected)) c (plan-inv p g)
+plan-promise L c p g = start-promise (p .plain) L (envOf p) (plan-env p g) c (chk (p .term) (p .expected) ∷ []) [] 0 (plan-inv p g)
 
 -- ---- a sheet
 module _ (P : Node → Type 0) (ls : List Triple) (h : All (λ l. P (lineNode l)) ls) where
@@ -142,7 +143,7 @@ sheet-plan s e = record {
 
 -- THE PROMISE: for every sheet that passes refusals 3 to 5, under any limits and every ceiling
 pub promise : (L : Limits) (s : List ℕ) (c : ℕ) → check s ≡ Plan
-    → (let p = planOf (triples s) in Promise (chk (p .term) (p .expected)) (p .plain) (runOf L c p))
+    → (let p = planOf (triples s) in Promise (state (chk (p .term) (p .expected) ∷ []) [] 0) (p .plain) (runOf L c p))
 promise L s c e = plan-promise L c (planOf (triples s)) (sheet-plan s e)
 
 -- ---- the ceiling

@@ -18,7 +18,7 @@ use Rattle.judgment.proofs.TypeLaws.{both, eqb-true, eqb-false, eqb-sam
 use Rattle.spelling.specs.declared.Triple.{Triple}
 use Rattle.sheet.specs.Plan.{lineNode}
 use Rattle.judgment.specs.Terms.{Term, part, afterParts, Lambda, lambdaOf, TermView, isVar, isLitInt, isLambda, isApply, isTypeLambda, isConstructor, isCase, isBinOp, isIf, isIntrinsic, isNone, termView, PatternView, isWildcard, isPatternVar, isPatternConstructor, patternView}
-use Rattle.judgment.specs.Solutions.{Solution, _≔_, Solutions, key, value, find, writeOut, Avoids, Free, keysAfter, keys, FineAfter, Fine}
+use Rattle.judgment.specs.Solutions.{Solution, _≔_, Solutions, key, value, find, writeOut, Avoids, Free, keysAfter, keys, Fine}
 use Rattle.judgment.proofs.SolutionLaws.{all-written, written-append, written-node, written-is-free, solved-now}
 use Rattle.judgment.specs.Board.{Entry, tvar, var, sub, inf, chk, infApp, Board, varNamed, orElse, findVar, before, Rule, done, refuse, fresh, push, solve, zonk, look}
 use Rattle.sheet.specs.Plan.{Binding, _∶_, Bindings, lookup}
@@ -98,7 +98,7 @@ module _ (Plain : Type 0) where
 
   -- l and r are, under all later solutions, one type, if the comparisons on the board are
   abbrev pub Joins : Ty → Ty → Board → Solutions → ℕ → Type 0
-  Joins l r Γ σ n = Plain → (τ : Solutions) → All (Equal (σ ++ τ)) Γ → writeOut (σ ++ τ) l ≡ writeOut (σ ++ τ) r
+  Joins l r Γ σ n = Plain → (τ : Solutions) → Fine (σ ++ τ) → All (Equal (σ ++ τ)) Γ → writeOut (σ ++ τ) l ≡ writeOut (σ ++ τ) r
 
   -- the unknown k may be given a solution made of t
   record Ready (σ : Solutions) (n k : ℕ) (t : Ty) : Type 0 where
@@ -135,7 +135,7 @@ module _ (Plain : Type 0) where
         → Good Plain (solveMonotype k t) Γ σ n Q
     monotype-good t Γ n r c =
         cond-ind (λ p. Good Plain p Γ σ n Q) (isMonotype t)
-        (λ e. (solve-ready r (monotype-true t e), c Γ (σ ++ (_≔_ k t ∷ [])) n (λ _ τ _. solved-now σ τ k t (r .unsolved) (r .free))))
+        (λ e. (solve-ready r (monotype-true t e), c Γ (σ ++ (_≔_ k t ∷ [])) n (λ _ τ f _. solved-now σ τ k t f)))
         (λ _. tt)
 
     -- the solutions after one by two new unknowns
@@ -150,12 +150,11 @@ module _ (Plain : Type 0) where
     pair-solve : (j n : ℕ) (t : Ty) → Ready σ n k t → j ≢ 17 → j ≢ 14 → j ≢ 25 → SolveOK Plain σ (suc (suc n)) k (node j 0 ∷ (unknown n ++ unknown (suc n)))
     pair-solve j n t r h₁ h₂ h₃ = solve-pair j h₁ h₂ h₃ r
 
-    pair-joins : (j n : ℕ) (t : Ty) → Ready σ n k t → j ≢ 17 → j ≢ 14 → j ≢ 25 → (τ : Solutions) (t₁ t₂ : Ty) → t ≡ node j 0 ∷ (t₁ ++ t₂)
+    pair-joins : (j n : ℕ) (t : Ty) → Ready σ n k t → j ≢ 17 → j ≢ 14 → j ≢ 25 → (τ : Solutions) → Fine (after j n ++ τ) → (t₁ t₂ : Ty) → t ≡ node j 0 ∷ (t₁ ++ t₂)
         → writeOut (after j n ++ τ) (unknown n) ≡ writeOut (after j n ++ τ) t₁ → writeOut (after j n ++ τ) (unknown (suc n)) ≡ writeOut (after j n ++ τ) t₂
         → writeOut (after j n ++ τ) (unknown k) ≡ writeOut (after j n ++ τ) t
-    pair-joins j n t r h₁ h₂ h₃ τ t₁ t₂ e p q =
-        let o = solve-pair j h₁ h₂ h₃ r in
-        solved-now σ τ k (node j 0 ∷ (unknown n ++ unknown (suc n))) (o .unsolved) (o .free)
+    pair-joins j n t r h₁ h₂ h₃ τ f t₁ t₂ e p q =
+        solved-now σ τ k (node j 0 ∷ (unknown n ++ unknown (suc n))) f
         ∙ written-join (after j n ++ τ) j (unknown n) (unknown (suc n)) t₁ t₂ h₁ p q
         ∙ ap (writeOut (after j n ++ τ)) (sym e)
 
@@ -191,7 +190,7 @@ module _ (Plain : Type 0) where
             mono = (omega arith, tt);
           },
           c Γ (σ ++ (_≔_ b (unknown k) ∷ [])) n
-              (λ _ τ _. sym (solved-now σ τ b (unknown k) (u .1) ((avoids-back k b (u .0), r .unsolved), tt)) ∙ ap (writeOut ((σ ++ (_≔_ b (unknown k) ∷ [])) ++ τ)) (sym e)),
+              (λ _ τ f _. sym (solved-now σ τ b (unknown k) f) ∙ ap (writeOut ((σ ++ (_≔_ b (unknown k) ∷ [])) ++ τ)) (sym e)),
         ))
         (λ _. monotype-good t Γ n r c)
       where
@@ -208,8 +207,8 @@ module _ (Plain : Type 0) where
                 entry-off d (suc (suc n)) (unknown n) t₁ (unknown-ok (suc (suc n)) n (omega arith), tt) (h .0),
                 (
                   entry-on d (suc (suc n)) (unknown (suc n)) t₂ (unknown-ok (suc (suc n)) (suc n) (omega arith), tt) (h .1),
-                  c _ _ _ (λ _ τ g.
-                      pair-joins 13 n t r (omega arith) (omega arith) (omega arith) τ t₁ t₂ e
+                  c _ _ _ (λ _ τ f g.
+                      pair-joins 13 n t r (omega arith) (omega arith) (omega arith) τ f t₁ t₂ e
                       (equal-off (after 13 n ++ τ) d (unknown n) t₁ (g .1 .0)) (equal-on (after 13 n ++ τ) d (unknown (suc n)) t₂ (g .0))),
                 ),
               ),
@@ -227,8 +226,8 @@ module _ (Plain : Type 0) where
                 entry-on d (suc (suc n)) (unknown n) t₁ (unknown-ok (suc (suc n)) n (omega arith), tt) (h .0),
                 (
                   entry-on d (suc (suc n)) (unknown (suc n)) t₂ (unknown-ok (suc (suc n)) (suc n) (omega arith), tt) (h .1),
-                  c _ _ _ (λ _ τ g.
-                      pair-joins 15 n t r (omega arith) (omega arith) (omega arith) τ t₁ t₂ e
+                  c _ _ _ (λ _ τ f g.
+                      pair-joins 15 n t r (omega arith) (omega arith) (omega arith) τ f t₁ t₂ e
                       (equal-on (after 15 n ++ τ) d (unknown n) t₁ (g .1 .0)) (equal-on (after 15 n ++ τ) d (unknown (suc n)) t₂ (g .0))),
                 ),
               ),
@@ -311,18 +310,18 @@ module _ (Plain : Type 0) where
     unknownRight-good k e =
         cond-ind Goal (occurs k l) (λ _. tt)
         (λ o. instantiateFrom-good σ k (Joins l r) (suc (length l)) right l Γ n (ready k r l e (S .ok-r) (S .free-r) (S .ok-l) (S .free-l) o)
-        (λ Γ′ σ′ n′ j p τ h. sym (j p τ h) ∙ ap (writeOut (σ′ ++ τ)) (sym e)))
+        (λ Γ′ σ′ n′ j p τ f h. sym (j p τ f h) ∙ ap (writeOut (σ′ ++ τ)) (sym e)))
 
     unknownLeft-good : (k : ℕ) (otherwise : Rule) → l ≡ unknown k → Goal otherwise → Goal (unknownLeft l r k otherwise)
     unknownLeft-good k otherwise e g =
         cond-ind Goal (occurs k r) (λ _. g)
         (λ o. instantiateFrom-good σ k (Joins l r) (suc (length r)) left r Γ n (ready k l r e (S .ok-l) (S .free-l) (S .ok-r) (S .free-r) o)
-        (λ Γ′ σ′ n′ j p τ h. ap (writeOut (σ′ ++ τ)) e ∙ j p τ h))
+        (λ Γ′ σ′ n′ j p τ f h. ap (writeOut (σ′ ++ τ)) e ∙ j p τ f h))
 
     subtypeBy-good : (v w : View) → Shows v l → Shows w r → Goal (subtypeBy l r v w)
     subtypeBy-good (isArrow a₁ a₂) (isArrow b₁ b₂) e f =
         let g = pair-good 13 a₁ a₂ b₁ b₂ e f in
-        ((g .1 .0, g .0 .0), ((g .0 .1, g .1 .1), λ _ τ h. pair-equal 13 a₁ a₂ b₁ b₂ (omega arith) e f (σ ++ τ) (sym (h .1 .0)) (h .0)))
+        ((g .1 .0, g .0 .0), ((g .0 .1, g .1 .1), λ _ τ _ h. pair-equal 13 a₁ a₂ b₁ b₂ (omega arith) e f (σ ++ τ) (sym (h .1 .0)) (h .0)))
     subtypeBy-good (isArrow a₁ a₂) (isApp b₁ b₂) e f = tt
     subtypeBy-good (isArrow a₁ a₂) (isForall x b) e f = forallRight-good x b f
     subtypeBy-good (isArrow a₁ a₂) (isUnknown k) e f = unknownRight-good k f
@@ -330,7 +329,7 @@ module _ (Plain : Type 0) where
     subtypeBy-good (isApp a₁ a₂) (isArrow b₁ b₂) e f = tt
     subtypeBy-good (isApp a₁ a₂) (isApp b₁ b₂) e f =
         let g = pair-good 15 a₁ a₂ b₁ b₂ e f in
-        ((g .0 .0, g .1 .0), ((g .0 .1, g .1 .1), λ _ τ h. pair-equal 15 a₁ a₂ b₁ b₂ (omega arith) e f (σ ++ τ) (h .1 .0) (h .0)))
+        ((g .0 .0, g .1 .0), ((g .0 .1, g .1 .1), λ _ τ _ h. pair-equal 15 a₁ a₂ b₁ b₂ (omega arith) e f (σ ++ τ) (h .1 .0) (h .0)))
     subtypeBy-good (isApp a₁ a₂) (isForall x b) e f = forallRight-good x b f
     subtypeBy-good (isApp a₁ a₂) (isUnknown k) e f = unknownRight-good k f
     subtypeBy-good (isApp a₁ a₂) isOther e f = tt
@@ -359,7 +358,7 @@ module _ (Plain : Type 0) where
   unfolding subtype
   subtype-good Γ σ n s t i hs ht =
       cond-ind (λ p. Good Plain p Γ σ n (Joins l r)) (eqTy l r)
-      (λ e _ τ _. ap (writeOut (σ ++ τ)) (eqTy-true l r e))
+      (λ e _ τ _ _. ap (writeOut (σ ++ τ)) (eqTy-true l r e))
       (λ _. subtypeBy-good σ n l r sides Γ (view l) (view r) (view-shows l) (view-shows r))
     where
       l : Ty
@@ -373,8 +372,8 @@ module _ (Plain : Type 0) where
         below = keys-below Plain [] σ n tt (i .solutions);
         ok-l = written-ok Γ σ n s i hs;
         ok-r = written-ok Γ σ n t i ht;
-        free-l = written-is-free σ s (i .fine);
-        free-r = written-is-free σ t (i .fine);
+        free-l = written-is-free σ (i .fine) s;
+        free-r = written-is-free σ (i .fine) t;
       }
 
   -------------------------------------------------------------- constructors and patterns
@@ -671,4 +670,4 @@ module _ (Plain : Type 0) where
     rule-good (chk e t) h = checkBy-good e t (view t) (view-shows t) (h .0) (h .1)
     rule-good (infApp f e c) h =
         applyBy-good (writeOut σ f) e (writeOut σ c) (view (writeOut σ f)) (view-shows (writeOut σ f))
-        (written-ok Γ σ n f i (h .0)) (written-is-free σ f (i .fine)) (h .1) (written-ok Γ σ n c i (h .2))
+        (written-ok Γ σ n f i (h .0)) (written-is-free σ (i .fine) f) (h .1) (written-ok Γ σ n c i (h .2))

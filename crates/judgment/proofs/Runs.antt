@@ -17,12 +17,12 @@ use Rattle.judgment.proofs.TypeLaws.{Lines}
 use Rattle.judgment.specs.declared.TypeError.{TypeError}
 use Rattle.judgment.specs.declared.TypeError.the-variants.{TypeUnificationError}
 use Rattle.judgment.specs.Solutions.{Solution, _≔_, Solutions, key, value, writeOut, keys, Fine}
-use Rattle.judgment.proofs.SolutionLaws.{distinct, ends, never-back, all-written, written-again}
+use Rattle.judgment.proofs.SolutionLaws.{ends, never-back, all-written, written-again}
 use Rattle.judgment.specs.Promise.{taken}
 use Rattle.judgment.specs.Board.{Entry, tvar, var, sub, inf, chk, infApp, Board, Limits, Operation, State, state, Outcome, finished, refused, perform, operations}
 use Rattle.sheet.specs.Plan.{Binding, _∶_, Bindings}
 use Rattle.judgment.specs.Rules.{Env, rule}
-use Rattle.judgment.specs.Run.{Step, step, End, accepted, ceiling, refusedBy, Run, run, steps, end, final, addStep, onward, runFrom, checkType}
+use Rattle.judgment.specs.Run.{Step, step, End, accepted, ceiling, refusedBy, Run, run, steps, end, final, addStep, onto, onward, runFrom, checkType}
 use Rattle.judgment.proofs.Invariant.{Mono, NotClash, OK, EntryOK, SolutionOK, Inv, Kept, perform-kept, Grown, perform-grows}
 use Rattle.judgment.proofs.RuleLaws.{Equal, Joins, BindingOK, EnvOK, Explains, rule-good}
 
@@ -36,7 +36,7 @@ Accepted accepted = Unit {0}
 Accepted ceiling = ⊥
 Accepted (refusedBy r ts) = ⊥
 
-module _ (Plain : Type 0) (L : Limits) (E : Env) (hE : EnvOK Plain E) where
+module _ (Plain : Type 0) where
   -- of a run from the board Γ and the solutions σ
   pub record Facts (Γ : Board) (σ : Solutions) (ss : List Step) (e : End) (Γ′ : Board) (σ′ : Solutions) (n′ : ℕ) : Type 0 where
     pub inv : Inv Plain Γ′ σ′ n′
@@ -47,8 +47,11 @@ module _ (Plain : Type 0) (L : Limits) (E : Env) (hE : EnvOK Plain E) where
   abbrev pub FactsOf : Board → Solutions → Run → Type 0
   FactsOf Γ σ (run ss e (state Γ′ σ′ n′)) = Facts Γ σ ss e Γ′ σ′ n′
 
+  abbrev pub FactsAt : State → Run → Type 0
+  FactsAt (state Γ σ n) R = FactsOf Γ σ R
+
   -- a comparison taken, under the final solutions ω
-  explained : (e : Entry) (σ σ₁ ω : Solutions) (Γ₁ : Board) (n₁ : ℕ) (ρ τ : Solutions) → Fine σ → σ₁ ≡ σ ++ ρ → ω ≡ σ₁ ++ τ
+  explained : (e : Entry) (σ σ₁ ω : Solutions) (Γ₁ : Board) (n₁ : ℕ) (ρ τ : Solutions) → Fine ω → σ₁ ≡ σ ++ ρ → ω ≡ σ₁ ++ τ
       → Explains Plain σ e Γ₁ σ₁ n₁ → Plain → All (Equal ω) Γ₁ → Equal ω e
   explained (tvar x) σ σ₁ ω Γ₁ n₁ ρ τ f p q h pl g = tt
   explained (var x t) σ σ₁ ω Γ₁ n₁ ρ τ f p q h pl g = tt
@@ -56,13 +59,13 @@ module _ (Plain : Type 0) (L : Limits) (E : Env) (hE : EnvOK Plain E) where
   explained (chk e t) σ σ₁ ω Γ₁ n₁ ρ τ f p q h pl g = tt
   explained (infApp a e t) σ σ₁ ω Γ₁ n₁ ρ τ f p q h pl g = tt
   explained (sub s t) σ σ₁ ω Γ₁ n₁ ρ τ f p q h pl g =
-      sym (again s) ∙ subst⁻¹ (λ ω. writeOut ω (writeOut σ s) ≡ writeOut ω (writeOut σ t)) q (h pl τ (subst (λ ω. All (Equal ω) Γ₁) q g)) ∙ again t
+      sym (again s) ∙ subst⁻¹ (λ ω. writeOut ω (writeOut σ s) ≡ writeOut ω (writeOut σ t)) q (h pl τ (subst Fine q f) (subst (λ ω. All (Equal ω) Γ₁) q g)) ∙ again t
     where
       whole : ω ≡ σ ++ (ρ ++ τ)
       whole = q ∙ ap {B = Solutions} (λ l. l ++ τ) p ∙ append-assoc σ ρ τ
 
       again : (t : Ty) → writeOut ω (writeOut σ t) ≡ writeOut ω t
-      again t = subst⁻¹ (λ ω. writeOut ω (writeOut σ t) ≡ writeOut ω t) whole (written-again σ (ρ ++ τ) t f)
+      again t = subst⁻¹ (λ ω. writeOut ω (writeOut σ t) ≡ writeOut ω t) whole (written-again σ (ρ ++ τ) (subst Fine whole f) t)
 
   module _ (Γ : Board) (σ : Solutions) (n : ℕ) (e : Entry) (os : List Operation) (fine : Fine σ) where
     addStep-facts : (Γ₁ : Board) (σ₁ : Solutions) (n₁ : ℕ) (Δ : Board) (ρ : Solutions) → Γ₁ ≡ Δ ++ Γ → σ₁ ≡ σ ++ ρ → Explains Plain σ e Γ₁ σ₁ n₁
@@ -73,29 +76,61 @@ module _ (Plain : Type 0) (L : Limits) (E : Env) (hE : EnvOK Plain E) where
       empties = F .empties;
       equal = λ pl a.
           let g = F .equal pl a in
-          let x : Equal σ′ e = explained e σ σ₁ σ′ Γ₁ n₁ ρ (F .grown .0) fine q (F .grown .1) h pl (g .0) in
+          let x : Equal σ′ e = explained e σ σ₁ σ′ Γ₁ n₁ ρ (F .grown .0) (F .inv .fine) q (F .grown .1) h pl (g .0) in
           ((x, all-split (Equal σ′) Δ Γ (subst (All (Equal σ′)) p (g .0)) .1), (x, g .1));
     }
 
-    onward-facts : (o : Outcome) (again : State → Run) → Kept Plain (Explains Plain σ e) o → Grown Γ σ o
+    onward-facts : (L : Limits) (E : Env) (o : Outcome) (again : State → Run) → Kept Plain (Explains Plain σ e) o → Grown Γ σ o
         → ((Γ₁ : Board) (σ₁ : Solutions) (n₁ : ℕ) → Inv Plain Γ₁ σ₁ n₁ → FactsOf Γ₁ σ₁ (again (state Γ₁ σ₁ n₁)))
         → FactsOf (e ∷ Γ) σ (onward L E (state (e ∷ Γ) σ n) e os o again)
-    onward-facts (finished (state Γ₁ σ₁ n₁)) again k g f =
+    onward-facts L E (finished (state Γ₁ σ₁ n₁)) again k g f =
         addStep-facts Γ₁ σ₁ n₁ (g .0 .0) (g .1 .0) (g .0 .1) (g .1 .1) (k .1) (again (state Γ₁ σ₁ n₁)) (f Γ₁ σ₁ n₁ (k .0))
-    onward-facts (refused r ts (state Γ₁ σ₁ n₁)) again k g f =
+    onward-facts L E (refused r ts (state Γ₁ σ₁ n₁)) again k g f =
         record { inv = k .0; grown = g .1; empties = k .1; equal = λ pl a. absurd a }
 
-  pub run-facts : (c : ℕ) (Γ : Board) (σ : Solutions) (n : ℕ) → Inv Plain Γ σ n → FactsOf Γ σ (runFrom L E c (state Γ σ n))
+  -- the steps of a run that came to its ceiling, before a run from where it stopped
+  onto-facts : (Γ : Board) (σ : Solutions) (n : ℕ) (e : Entry) (L : Limits) (E : Env) → Fine σ → (o : Outcome) (again : State → Run) → Kept Plain (Explains Plain σ e) o → Grown Γ σ o
+      → ((Γ₁ : Board) (σ₁ : Solutions) (n₁ : ℕ) → Inv Plain Γ₁ σ₁ n₁ → end (again (state Γ₁ σ₁ n₁)) ≡ ceiling → (R : Run) → FactsAt (final (again (state Γ₁ σ₁ n₁))) R → FactsOf Γ₁ σ₁ (onto (steps (again (state Γ₁ σ₁ n₁))) R))
+      → (os : List Operation) → end (onward L E (state (e ∷ Γ) σ n) e os o again) ≡ ceiling → (R : Run) → FactsAt (final (onward L E (state (e ∷ Γ) σ n) e os o again)) R
+      → FactsOf (e ∷ Γ) σ (onto (steps (onward L E (state (e ∷ Γ) σ n) e os o again)) R)
+  onto-facts Γ σ n e L E fine (finished (state Γ₁ σ₁ n₁)) again k g f os q R F = go (again (state Γ₁ σ₁ n₁)) (f Γ₁ σ₁ n₁ (k .0)) q R F
+    where
+      go : (S : Run) → (end S ≡ ceiling → (R : Run) → FactsAt (final S) R → FactsOf Γ₁ σ₁ (onto (steps S) R)) → end (addStep (step (state (e ∷ Γ) σ n) e os (finished (state Γ₁ σ₁ n₁))) S) ≡ ceiling → (R : Run)
+          → FactsAt (final (addStep (step (state (e ∷ Γ) σ n) e os (finished (state Γ₁ σ₁ n₁))) S)) R
+          → FactsOf (e ∷ Γ) σ (onto (steps (addStep (step (state (e ∷ Γ) σ n) e os (finished (state Γ₁ σ₁ n₁))) S)) R)
+      go (run ss d t) f q R F = addStep-facts Γ σ n e os fine Γ₁ σ₁ n₁ (g .0 .0) (g .1 .0) (g .0 .1) (g .1 .1) (k .1) (onto ss R) (f q R F)
+  onto-facts Γ σ n e L E fine (refused r ts s) again k g f os q R F = absurd (subst (λ (d : End). NotRefused d) (sym q) tt)
+    where
+      NotRefused : End → Type 0
+      NotRefused accepted = Unit {0}
+      NotRefused ceiling = Unit {0}
+      NotRefused (refusedBy r ts) = ⊥
+
+module _ (Plain : Type 0) (L : Limits) (E : Env) (hE : EnvOK Plain E) where
+  pub run-facts : (c : ℕ) (Γ : Board) (σ : Solutions) (n : ℕ) → Inv Plain Γ σ n → FactsOf Plain Γ σ (runFrom L E c (state Γ σ n))
   unfolding runFrom
   run-facts zero [] σ n i = record { inv = i; grown = ([], sym (append-nil σ)); empties = refl; equal = λ pl a. (tt, tt) }
   run-facts zero (e ∷ Γ) σ n i = record { inv = i; grown = ([], sym (append-nil σ)); empties = tt; equal = λ pl a. absurd a }
   run-facts (suc c) [] σ n i = record { inv = i; grown = ([], sym (append-nil σ)); empties = refl; equal = λ pl a. (tt, tt) }
   run-facts (suc c) (e ∷ Γ) σ n i =
       let j : Inv Plain Γ σ n = record { entries = i .entries .1; fine = i .fine; solutions = i .solutions } in
-      onward-facts Γ σ n e (operations L (rule E e) Γ σ n) (i .fine) (perform L (rule E e) Γ σ n) (λ s. runFrom L E c s)
+      onward-facts Plain Γ σ n e (operations L (rule E e) Γ σ n) (i .fine) L E (perform L (rule E e) Γ σ n) (λ s. runFrom L E c s)
       (perform-kept Plain L (Explains Plain σ e) (rule E e) Γ σ n j (rule-good Plain E hE Γ σ n j e (i .entries .0)))
       (perform-grows L (rule E e) Γ σ n)
       (λ Γ₁ σ₁ n₁ i₁. run-facts c Γ₁ σ₁ n₁ i₁)
+
+  pub before-facts : (c : ℕ) (Γ : Board) (σ : Solutions) (n : ℕ) → Inv Plain Γ σ n → end (runFrom L E c (state Γ σ n)) ≡ ceiling → (R : Run) → FactsAt Plain (final (runFrom L E c (state Γ σ n))) R
+      → FactsOf Plain Γ σ (onto (steps (runFrom L E c (state Γ σ n))) R)
+  unfolding runFrom
+  before-facts zero [] σ n i q R F = F
+  before-facts zero (e ∷ Γ) σ n i q R F = F
+  before-facts (suc c) [] σ n i q R F = F
+  before-facts (suc c) (e ∷ Γ) σ n i q R F =
+      let j : Inv Plain Γ σ n = record { entries = i .entries .1; fine = i .fine; solutions = i .solutions } in
+      onto-facts Plain Γ σ n e L E (i .fine) (perform L (rule E e) Γ σ n) (λ s. runFrom L E c s)
+      (perform-kept Plain L (Explains Plain σ e) (rule E e) Γ σ n j (rule-good Plain E hE Γ σ n j e (i .entries .0)))
+      (perform-grows L (rule E e) Γ σ n)
+      (λ Γ₁ σ₁ n₁ i₁. before-facts c Γ₁ σ₁ n₁ i₁) (operations L (rule E e) Γ σ n) q R F
 
 ---------------------------------------------------------------- the ceiling
 -- raising the ceiling changes no result but 21

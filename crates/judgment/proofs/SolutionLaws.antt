@@ -1,104 +1,51 @@
 -- Laws of writing out, and solutions that lead nowhere back.
 -- Assumes nothing.
-use Prim.Native.Nat.{ℕ, zero, suc, _+_}
+use Prim.Native.Nat.{ℕ, zero, suc, _+_, _≤_, _<_}
+use native.Mathlib.Nat.{not-suc-le-zero}
+use native.Mathlib.Omega.{arith}
 use mathlib.Core.Path.{_≡_, refl, sym, _∙_, ap, ap₂, subst, subst⁻¹}
 use mathlib.Core.Logic.{_≢_, _⊎_, inl, inr}
 use mathlib.Core.Bool.{Bool, true, false, cond, not, _&&_, _||_, false≢true, true≢false}
-use mathlib.Core.Option.{Option, none, some}
+use mathlib.Core.Option.{Option, none, some, Option·none-ne-some}
 use mathlib.Core.List.{List, [], _∷_, _++_, append-nil, append-assoc}
 use mathlib.Core.WellFounded.{Acc, Acc·intro}
 use lib.Dec.{T, eqb}
+use lib.ListN.{length, length-append}
 use Rattle.nodes.specs.Lists.{All, In}
 use Rattle.nodes.proofs.ListLaws.{cond-ind, all-map, all-append, all-in, all-of}
 use Rattle.nodes.specs.Nodes.{Node, node, Ty, kind, number}
 use Rattle.judgment.specs.Types.{unknown, isNode, occurs, isMonotype}
 use Rattle.judgment.proofs.TypeLaws.{eqb-true, eqb-same, eqb-false, isNode-true}
-use Rattle.judgment.specs.Promise.{Follows, Leads, one, more, Distinct}
-use Rattle.judgment.specs.Solutions.{Solution, _≔_, Solutions, key, value, find, replaceNode, replace, writeOut, Avoids, Free, keysAfter, keys, FineAfter, Fine}
+use Rattle.judgment.specs.Promise.{Follows, Leads, one, more}
+use Rattle.judgment.specs.Solutions.{Solution, _≔_, Solutions, key, value, find, orUnknown, link, links, known, isSolved, anySolved, writeOutBy, writeOut, Avoids, Free, keysAfter, keys, Distinct, solvedUnknowns, Under, Fine}
 
----------------------------------------------------------------- writing out is a homomorphism
-replace-append : (k : ℕ) (r s t : Ty) → replace k r (s ++ t) ≡ replace k r s ++ replace k r t
-unfolding replace
-replace-append k r [] t = refl
-replace-append k r (n ∷ s) t =
-    ap {B = Ty} (λ l. replaceNode k r n ++ l) (replace-append k r s t) ∙ sym (append-assoc (replaceNode k r n) (replace k r s) (replace k r t))
+---------------------------------------------------------------- finding
+in-solved : (σ : Solutions) (x : Solution) → In x σ → In (key x) (solvedUnknowns σ)
+in-solved [] x m = absurd m
+in-solved (_≔_ j r ∷ σ) x (inl e) = inl (ap key e)
+in-solved (_≔_ j r ∷ σ) x (inr m) = inr (in-solved σ x m)
 
-pub written-append : (σ : Solutions) (s t : Ty) → writeOut σ (s ++ t) ≡ writeOut σ s ++ writeOut σ t
-unfolding writeOut
-written-append [] s t = refl
-written-append (_≔_ k r ∷ σ) s t = ap (writeOut σ) (replace-append k r s t) ∙ written-append σ (replace k r s) (replace k r t)
+pub find-some : (σ : Solutions) (k : ℕ) (s : Ty) → find k σ ≡ some s → In (_≔_ k s) σ
+unfolding find
+find-some [] k s e = absurd (Option·none-ne-some s e)
+find-some (_≔_ j r ∷ σ) k s e = go (eqb j k) refl e (find-some σ k s)
+  where
+    go : (b : Bool) → eqb j k ≡ b → cond b (some r) (find k σ) ≡ some s → (find k σ ≡ some s → In (_≔_ k s) σ) → In (_≔_ k s) (_≔_ j r ∷ σ)
+    go true p q f = inl (cc (eqb-true j k p, q))
+    go false p q f = inr (f q)
 
-pub written-later : (σ τ : Solutions) (t : Ty) → writeOut (σ ++ τ) t ≡ writeOut τ (writeOut σ t)
-unfolding writeOut
-written-later [] τ t = refl
-written-later (_≔_ k r ∷ σ) τ t = written-later σ τ (replace k r t)
-
--- a node that is no unknown stays
-pub written-node : (σ : Solutions) (j v : ℕ) → j ≢ 17 → writeOut σ (node j v ∷ []) ≡ node j v ∷ []
-unfolding writeOut replace
-written-node [] j v h = refl
-written-node (_≔_ k r ∷ σ) j v h =
-    ap {B = Ty} (λ b. writeOut σ (cond (b && eqb k v) r (node j v ∷ []) ++ [])) (eqb-false 17 j (λ e. h (sym e))) ∙ written-node σ j v h
-
-replace-free : (k : ℕ) (r t : Ty) → All (Avoids k) t → replace k r t ≡ t
-unfolding replace
-replace-free k r [] h = refl
-replace-free k r (n ∷ t) h =
-    ap₂ {C = Ty} (λ b l. cond b r (n ∷ []) ++ l) (h .0) (replace-free k r t (h .1))
+pub find-in : (σ : Solutions) → Distinct (solvedUnknowns σ) → (x : Solution) → In x σ → find (key x) σ ≡ some (value x)
+unfolding find
+find-in [] d x m = absurd m
+find-in (_≔_ j r ∷ σ) d x (inl e) =
+    subst⁻¹ (λ (y : Solution). cond (eqb j (key y)) (some r) (find (key y) σ) ≡ some (value y)) e (ap (λ (b : Bool). cond b (some r) (find j σ)) (eqb-same j))
+find-in (_≔_ j r ∷ σ) d x (inr m) =
+    ap (λ (b : Bool). cond b (some r) (find (key x) σ)) (eqb-false j (key x) (all-in (λ i. j ≢ i) (solvedUnknowns σ) (key x) (in-solved σ x m) (d .0))) ∙ find-in σ (d .1) x m
 
 -- what no unknown of ks stands in, is Free of them
 pub keys-keep : (ks : List ℕ) (σ : Solutions) (n : Node) → Free (keysAfter ks σ) n → Free ks n
 keys-keep ks [] n h = h
 keys-keep ks (_≔_ k s ∷ σ) n h = keys-keep (k ∷ ks) σ n h .1
-
-written-freeAfter : (ks : List ℕ) (σ : Solutions) (t : Ty) → All (Free (keysAfter ks σ)) t → writeOut σ t ≡ t
-unfolding writeOut
-written-freeAfter ks [] t h = refl
-written-freeAfter ks (_≔_ k s ∷ σ) t h =
-    ap (writeOut σ) (replace-free k s t (all-map (λ n f. keys-keep (k ∷ ks) σ n f .0) t h)) ∙ written-freeAfter (k ∷ ks) σ t h
-
-pub written-free : (σ : Solutions) (t : Ty) → All (Free (keys σ)) t → writeOut σ t ≡ t
-written-free σ t h = written-freeAfter [] σ t h
-
----------------------------------------------------------------- what holds of every node is kept
-module _ (P : Node → Type 0) where
-  pub all-replace : (k : ℕ) (s t : Ty) → All P s → All P t → All P (replace k s t)
-  unfolding replace
-  all-replace k s [] hs h = tt
-  all-replace k s (n ∷ t) hs h =
-      all-append P (replaceNode k s n) (replace k s t) (cond-ind (All P) (isNode 17 k n) (λ _. hs) (λ _. (h .0, tt))) (all-replace k s t hs (h .1))
-
-  pub all-written : (σ : Solutions) (t : Ty) → All (λ x. All P (value x)) σ → All P t → All P (writeOut σ t)
-  unfolding writeOut
-  all-written [] t hσ h = h
-  all-written (_≔_ k s ∷ σ) t hσ h = all-written σ (replace k s t) (hσ .1) (all-replace k s t (hσ .0) h)
-
--- a written-out type has none of the solved unknowns
-replace-frees : (k : ℕ) (ks : List ℕ) (s t : Ty) → All (Free (k ∷ ks)) s → All (Free ks) t → All (Free (k ∷ ks)) (replace k s t)
-unfolding replace
-replace-frees k ks s [] hs h = tt
-replace-frees k ks s (n ∷ t) hs h =
-    all-append (Free (k ∷ ks)) (replaceNode k s n) (replace k s t)
-    (cond-ind (All (Free (k ∷ ks))) (isNode 17 k n) (λ _. hs) (λ e. ((e, h .0), tt)))
-    (replace-frees k ks s t hs (h .1))
-
-written-is-freeAfter : (ks : List ℕ) (σ : Solutions) (t : Ty) → FineAfter ks σ → All (Free ks) t → All (Free (keysAfter ks σ)) (writeOut σ t)
-unfolding writeOut
-written-is-freeAfter ks [] t f h = h
-written-is-freeAfter ks (_≔_ k s ∷ σ) t f h =
-    written-is-freeAfter (k ∷ ks) σ (replace k s t) (f .2) (replace-frees k ks s t (f .1) h)
-
-pub written-is-free : (σ : Solutions) (t : Ty) → Fine σ → All (Free (keys σ)) (writeOut σ t)
-written-is-free σ t f = written-is-freeAfter [] σ t f (all-of (Free []) t (λ x m. tt))
-
----------------------------------------------------------------- one more solution
-pub keys-snoc : (ks : List ℕ) (σ : Solutions) (k : ℕ) (s : Ty) → keysAfter ks (σ ++ (_≔_ k s ∷ [])) ≡ k ∷ keysAfter ks σ
-keys-snoc ks [] k s = refl
-keys-snoc ks (_≔_ j r ∷ σ) k s = keys-snoc (j ∷ ks) σ k s
-
-pub fine-snoc : (ks : List ℕ) (σ : Solutions) (k : ℕ) (s : Ty) → FineAfter ks σ → Free (keysAfter ks σ) (node 17 k) → All (Free (k ∷ keysAfter ks σ)) s → FineAfter ks (σ ++ (_≔_ k s ∷ []))
-fine-snoc ks [] k s f u h = (u, h, tt)
-fine-snoc ks (_≔_ j r ∷ σ) k s f u h = (f .0, f .1, fine-snoc (j ∷ ks) σ k s (f .2) u h)
 
 find-free : (ks : List ℕ) (σ : Solutions) (k : ℕ) → Free (keysAfter ks σ) (node 17 k) → find k σ ≡ none
 unfolding find
@@ -109,70 +56,200 @@ find-free ks (_≔_ j s ∷ σ) k h =
 pub find-none : (σ : Solutions) (k : ℕ) → Free (keys σ) (node 17 k) → find k σ ≡ none
 find-none σ k h = find-free [] σ k h
 
--- the solution just given: under all later solutions its unknown is the same type
-replace-self : (k : ℕ) (s : Ty) → replace k s (unknown k) ≡ s
-unfolding replace
-replace-self k s = ap {B = Ty} (λ b. cond b s (unknown k) ++ []) (eqb-same k) ∙ append-nil s
-
-pub solved-now : (σ τ : Solutions) (k : ℕ) (s : Ty) → Free (keys σ) (node 17 k) → All (Free (k ∷ keys σ)) s → writeOut ((σ ++ (_≔_ k s ∷ [])) ++ τ) (unknown k) ≡ writeOut ((σ ++ (_≔_ k s ∷ [])) ++ τ) s
-unfolding writeOut
-solved-now σ τ k s u h =
-    both-sides (unknown k) (ap (replace k s) (written-free σ (unknown k) (u, tt)) ∙ replace-self k s)
-    ∙ sym (both-sides s (ap (replace k s) (written-free σ s (all-map (λ n f. f .1) s h)) ∙ replace-free k s s (all-map (λ n f. f .0) s h)))
+pub find-none-free : (ks : List ℕ) (σ : Solutions) (k : ℕ) → Free ks (node 17 k) → find k σ ≡ none → Free (keysAfter ks σ) (node 17 k)
+unfolding find
+find-none-free ks [] k h e = h
+find-none-free ks (_≔_ j r ∷ σ) k h e = go (eqb j k) refl e (λ p. find-none-free (j ∷ ks) σ k p)
   where
-    both-sides : (t : Ty) → replace k s (writeOut σ t) ≡ s → writeOut ((σ ++ (_≔_ k s ∷ [])) ++ τ) t ≡ writeOut τ s
-    both-sides t e =
-        written-later (σ ++ (_≔_ k s ∷ [])) τ t ∙ ap (writeOut τ) (written-later σ (_≔_ k s ∷ []) t ∙ e)
+    go : (b : Bool) → eqb j k ≡ b → cond b (some r) (find k σ) ≡ none → (Free (j ∷ ks) (node 17 k) → find k σ ≡ none → Free (keysAfter (j ∷ ks) σ) (node 17 k)) → Free (keysAfter (j ∷ ks) σ) (node 17 k)
+    go true p q f = absurd (Option·none-ne-some r (sym q))
+    go false p q f = f (p, h) q
 
--- a written-out type is, under later solutions, the type
-pub written-again : (σ τ : Solutions) (t : Ty) → Fine σ → writeOut (σ ++ τ) (writeOut σ t) ≡ writeOut (σ ++ τ) t
-written-again σ τ t f =
-    written-later σ τ (writeOut σ t) ∙ ap (writeOut τ) (written-free σ (writeOut σ t) (written-is-free σ t f)) ∙ sym (written-later σ τ t)
+---------------------------------------------------------------- a node that is a solved unknown, and one that is not
+-- a node of another kind is no unknown
+other-free : (ks : List ℕ) (j v : ℕ) → j ≢ 17 → Free ks (node j v)
+other-free ks j v h = all-of (λ k. Avoids k (node j v)) ks (λ k m. ap (λ b. b && eqb k v) (eqb-false 17 j (λ e. h (sym e))))
 
----------------------------------------------------------------- solutions as a whole
-pub fine-in : (ks : List ℕ) (σ : Solutions) (x : Solution) → FineAfter ks σ → In x σ → Free ks (node 17 (key x)) × All (Free ks) (value x)
-fine-in ks [] x f m = absurd m
-fine-in ks (_≔_ k s ∷ σ) x f (inl e) =
-    subst⁻¹ (λ y. Free ks (node 17 (key y)) × All (Free ks) (value y)) e (f .0, all-map (λ n h. h .1) s (f .1))
-fine-in ks (_≔_ k s ∷ σ) x f (inr m) =
-    let h = fine-in (k ∷ ks) σ x (f .2) m in (h .0 .1, all-map (λ n g. g .1) (value x) (h .1))
+module _ (σ : Solutions) where
+  -- one of the two
+  pub by-solved : (n : Node) {P : Type 0} → ((v : ℕ) (s : Ty) → n ≡ node 17 v → find v σ ≡ some s → P) → (isSolved σ n ≡ false → P) → P
+  by-solved (node k v) {P} f g = go (eqb k 17) refl (find v σ) refl
+    where
+      go : (b : Bool) → eqb k 17 ≡ b → (o : Option Ty) → find v σ ≡ o → P
+      go true e (some s) q = f v s (ap (λ (j : ℕ). node j v) (eqb-true k 17 e)) q
+      go true e none q = g (ap (λ (b : Bool). cond b (known (find v σ)) false) e ∙ ap known q)
+      go false e o q = g (ap (λ (b : Bool). cond b (known (find v σ)) false) e)
 
-free-other : (k : ℕ) (ks : List ℕ) → Free ks (node 17 k) → All (λ j. k ≢ j) ks
-free-other k ks h = all-map (λ j e p. true≢false (sym (eqb-same j) ∙ subst (λ i. eqb j i ≡ false) p e)) ks h
+  pub link-solved : (v : ℕ) (s : Ty) → find v σ ≡ some s → link σ (node 17 v) ≡ s
+  link-solved v s e = ap (orUnknown v) e
 
-distinctAfter : (ks : List ℕ) (σ : Solutions) → Distinct ks → FineAfter ks σ → Distinct (keysAfter ks σ)
-distinctAfter ks [] d f = d
-distinctAfter ks (_≔_ k s ∷ σ) d f = distinctAfter (k ∷ ks) σ (free-other k ks (f .0), d) (f .2)
+  pub link-unsolved : (n : Node) → isSolved σ n ≡ false → link σ n ≡ n ∷ []
+  link-unsolved (node k v) e = go (eqb k 17) refl (find v σ) refl e
+    where
+      go : (b : Bool) → eqb k 17 ≡ b → (o : Option Ty) → find v σ ≡ o → cond b (known o) false ≡ false → cond b (orUnknown v o) (node k v ∷ []) ≡ node k v ∷ []
+      go true p none q e = ap {B = Ty} (λ j. node j v ∷ []) (sym (eqb-true k 17 p))
+      go true p (some s) q e = absurd (true≢false e)
+      go false p o q e = refl
 
-pub distinct : (σ : Solutions) → Fine σ → Distinct (keys σ)
-distinct σ f = distinctAfter [] σ tt f
+  free-unsolved : (n : Node) → Free (keys σ) n → isSolved σ n ≡ false
+  free-unsolved (node k v) h = go (eqb k 17) refl
+    where
+      go : (b : Bool) → eqb k 17 ≡ b → cond b (known (find v σ)) false ≡ false
+      go true e = ap known (find-none σ v (subst (λ (j : ℕ). Free (keys σ) (node j v)) (eqb-true k 17 e) h))
+      go false e = refl
 
--- going on until there is no solution to follow ends
-Rest : Solutions → List ℕ → Solutions → Type 0
-Rest σ ks τ = (x : Solution) → In x σ → Free ks (node 17 (key x)) → In x τ
+  unsolved-free : (n : Node) → isSolved σ n ≡ false → Free (keys σ) n
+  unsolved-free (node k v) h = go (eqb k 17) refl (find v σ) refl h
+    where
+      go : (b : Bool) → eqb k 17 ≡ b → (o : Option Ty) → find v σ ≡ o → cond b (known o) false ≡ false → Free (keys σ) (node k v)
+      go true e none q h = subst⁻¹ (λ (j : ℕ). Free (keys σ) (node j v)) (eqb-true k 17 e) (find-none-free [] σ v tt q)
+      go true e (some s) q h = absurd (true≢false h)
+      go false e o q h = other-free (keys σ) k v (λ p. true≢false (sym (ap (λ (j : ℕ). eqb j 17) p) ∙ e))
 
-rest-tail : (σ : Solutions) (ks : List ℕ) (i : ℕ) (r : Ty) (τ : Solutions) → Rest σ ks (_≔_ i r ∷ τ) → Rest σ (i ∷ ks) τ
-unfolding Rest
-rest-tail σ ks i r τ c x m g = elim (c x m (g .1)) [
-  | inl e ↦ absurd (true≢false (sym (eqb-same i) ∙ subst (λ y. eqb i (key y) ≡ false) e (g .0)))
-  | inr m′ ↦ m′
-]
+---------------------------------------------------------------- links, one after the other
+module _ (σ : Solutions) where
+  links-append : (s t : Ty) → links σ (s ++ t) ≡ links σ s ++ links σ t
+  unfolding links
+  links-append [] t = refl
+  links-append (n ∷ s) t = ap {B = Ty} (λ l. link σ n ++ l) (links-append s t) ∙ sym (append-assoc (link σ n) (links σ s) (links σ t))
 
-acc : (σ : Solutions) (ks : List ℕ) (τ : Solutions) → FineAfter ks τ → Rest σ ks τ → (k : ℕ) → Free ks (node 17 k) → Acc (Follows σ) k
-unfolding Rest
-acc σ ks [] f c k h = Acc·intro k (λ j p. absurd (c (_≔_ k (p .0)) (p .1) h))
-acc σ ks (_≔_ i r ∷ τ) f c k h = go (acc σ (i ∷ ks) τ (f .2) (rest-tail σ ks i r τ c)) (eqb i k) refl
-  where
-    go : ((j : ℕ) → Free (i ∷ ks) (node 17 j) → Acc (Follows σ) j) → (b : Bool) → eqb i k ≡ b → Acc (Follows σ) k
-    go below false e = below k (e, h)
-    go below true e = Acc·intro k (λ j p. elim (c (_≔_ k (p .0)) (p .1) h) [
-      | inl q ↦ below j (all-in (Free (i ∷ ks)) r (node 17 j) (subst (λ y. In (node 17 j) (value y)) q (p .2)) (f .1))
-      | inr m ↦ absurd (true≢false (sym e ∙ fine-in (i ∷ ks) τ (_≔_ k (p .0)) (f .2) m .0 .0))
-    ])
+  pub links-still : (t : Ty) → All (λ n. isSolved σ n ≡ false) t → links σ t ≡ t
+  unfolding links
+  links-still [] h = refl
+  links-still (n ∷ t) h = ap₂ {C = Ty} (λ x y. x ++ y) (link-unsolved σ n (h .0)) (links-still t (h .1))
 
-pub ends : (σ : Solutions) → Fine σ → (k : ℕ) → Acc (Follows σ) k
-unfolding Rest
-ends σ f k = acc σ [] σ f (λ x m _. m) k tt
+  none-solved : (t : Ty) → anySolved σ t ≡ false → All (λ n. isSolved σ n ≡ false) t
+  unfolding anySolved
+  none-solved [] e = tt
+  none-solved (n ∷ t) e = go (isSolved σ n) refl e (none-solved t)
+    where
+      go : (b : Bool) → isSolved σ n ≡ b → (b || anySolved σ t) ≡ false → (anySolved σ t ≡ false → All (λ n. isSolved σ n ≡ false) t) → All (λ n. isSolved σ n ≡ false) (n ∷ t)
+      go true p q f = absurd (true≢false q)
+      go false p q f = (p, f q)
+
+  -- without the test
+  unfoldable pub times : ℕ → Ty → Ty
+  times zero t = t
+  times (suc n) t = times n (links σ t)
+
+  times-still : (n : ℕ) (t : Ty) → All (λ n. isSolved σ n ≡ false) t → times n t ≡ t
+  unfolding times
+  times-still zero t h = refl
+  times-still (suc n) t h = ap (times n) (links-still t h) ∙ times-still n t h
+
+  by-times : (n : ℕ) (t : Ty) → writeOutBy n σ t ≡ times n t
+  unfolding writeOutBy times
+  by-times zero t = refl
+  by-times (suc n) t = go (anySolved σ t) refl (by-times n (links σ t))
+    where
+      go : (b : Bool) → anySolved σ t ≡ b → writeOutBy n σ (links σ t) ≡ times n (links σ t) → elim b [ true ↦ writeOutBy n σ (links σ t) | false ↦ t ] ≡ times n (links σ t)
+      go true e h = h
+      go false e h =
+          let u = none-solved t e in
+          sym (ap (times n) (links-still t u) ∙ times-still n t u)
+
+  times-append : (n : ℕ) (s t : Ty) → times n (s ++ t) ≡ times n s ++ times n t
+  unfolding times
+  times-append zero s t = refl
+  times-append (suc n) s t = ap (times n) (links-append s t) ∙ times-append n (links σ s) (links σ t)
+
+  times-last : (n : ℕ) (t : Ty) → times n (links σ t) ≡ links σ (times n t)
+  unfolding times
+  times-last zero t = refl
+  times-last (suc n) t = times-last n (links σ t)
+
+  pub written-times : (t : Ty) → writeOut σ t ≡ times (length σ) t
+  unfolding writeOut
+  written-times t = by-times (length σ) t
+
+pub written-append : (σ : Solutions) (s t : Ty) → writeOut σ (s ++ t) ≡ writeOut σ s ++ writeOut σ t
+written-append σ s t =
+    written-times σ (s ++ t) ∙ times-append σ (length σ) s t ∙ sym (ap₂ {C = Ty} (λ x y. x ++ y) (written-times σ s) (written-times σ t))
+
+pub written-free : (σ : Solutions) (t : Ty) → All (Free (keys σ)) t → writeOut σ t ≡ t
+written-free σ t h = written-times σ t ∙ times-still σ (length σ) t (all-map (free-unsolved σ) t h)
+
+-- a node that is no unknown stays
+pub written-node : (σ : Solutions) (j v : ℕ) → j ≢ 17 → writeOut σ (node j v ∷ []) ≡ node j v ∷ []
+written-node σ j v h = written-free σ (node j v ∷ []) (other-free (keys σ) j v h, tt)
+
+---------------------------------------------------------------- what holds of every node is kept
+module _ (P : Node → Type 0) (σ : Solutions) (hσ : All (λ x. All P (value x)) σ) where
+  all-links : (t : Ty) → All P t → All P (links σ t)
+  unfolding links
+  all-links [] h = tt
+  all-links (n ∷ t) h =
+      all-append P (link σ n) (links σ t)
+      (by-solved σ n
+      (λ v s e q. subst⁻¹ (All P) (ap (link σ) e ∙ link-solved σ v s q) (all-in (λ x. All P (value x)) σ (_≔_ v s) (find-some σ v s q) hσ))
+      (λ e. subst⁻¹ (All P) (link-unsolved σ n e) (h .0, tt)))
+      (all-links t (h .1))
+
+  all-times : (n : ℕ) (t : Ty) → All P t → All P (times σ n t)
+  unfolding times
+  all-times zero t h = h
+  all-times (suc n) t h = all-times n (links σ t) (all-links t h)
+
+pub all-written : (P : Node → Type 0) (σ : Solutions) (t : Ty) → All (λ x. All P (value x)) σ → All P t → All P (writeOut σ t)
+all-written P σ t hσ h = subst⁻¹ (All P) (written-times σ t) (all-times P σ hσ (length σ) t h)
+
+---------------------------------------------------------------- solutions that lead nowhere back
+module _ (σ : Solutions) (f : Fine σ) where
+  -- as many links as the rank leave no solved unknown
+  settle : (m : ℕ) (t : Ty) → All (Under (f .rank) σ m) t → All (λ n. isSolved σ n ≡ false) (times σ m t)
+  unfolding times links
+  settle zero t h = all-map (λ n u. by-solved σ n (λ v s e q. absurd (not-suc-le-zero (u v s e (find-some σ v s q)))) (λ e. e)) t h
+  settle (suc m) t h = settle m (links σ t) (down t h)
+    where
+      down : (t : Ty) → All (Under (f .rank) σ (suc m)) t → All (Under (f .rank) σ m) (links σ t)
+      down [] h = tt
+      down (n ∷ t) h =
+          all-append (Under (f .rank) σ m) (link σ n) (links σ t)
+          (by-solved σ n
+          (λ v s e q.
+          let i = find-some σ v s q in
+          let l = h .0 v s e i in
+          subst⁻¹ (All (Under (f .rank) σ m)) (ap (link σ) e ∙ link-solved σ v s q)
+          (all-map (λ x u j r p k. (let z = u j r p k in omega arith)) s (all-in (λ x. All (Under (f .rank) σ (f .rank (key x))) (value x)) σ (_≔_ v s) i (f .falls))))
+          (λ e. subst⁻¹ (All (Under (f .rank) σ m)) (link-unsolved σ n e)
+          ((λ j r p k. absurd (true≢false (sym (ap (isSolved σ) p ∙ ap known (find-in σ (f .once) (_≔_ j r) k)) ∙ e))), tt)))
+          (down t (h .1))
+
+  low-in : (x : Solution) → In x σ → f .rank (key x) < length σ
+  low-in x m = all-in (λ y. f .rank (key y) < length σ) σ x m (f .low)
+
+  -- a written-out type has none of the solved unknowns
+  pub written-is-free : (t : Ty) → All (Free (keys σ)) (writeOut σ t)
+  written-is-free t =
+      subst⁻¹ (All (Free (keys σ))) (written-times σ t)
+      (all-map (unsolved-free σ) (times σ (length σ) t) (settle (length σ) t (all-of (Under (f .rank) σ (length σ)) t (λ n m j s e i. low-in (_≔_ j s) i))))
+
+  -- a solved unknown is, written out, its solution written out
+  pub solved : (x : Solution) → In x σ → writeOut σ (unknown (key x)) ≡ writeOut σ (value x)
+  unfolding times links
+  solved (_≔_ k s) i = written-times σ (unknown k) ∙ go (length σ) refl ∙ sym (written-times σ s)
+    where
+      first : links σ (unknown k) ≡ s
+      first = append-nil (link σ (node 17 k)) ∙ link-solved σ k s (find-in σ (f .once) (_≔_ k s) i)
+
+      go : (n : ℕ) → length σ ≡ n → times σ n (unknown k) ≡ times σ n s
+      go zero e = absurd (let l = low-in (_≔_ k s) i in omega arith)
+      go (suc m) e =
+          let l = low-in (_≔_ k s) i in
+          let u = settle m s (all-map (λ x h j r p q. (let z = h j r p q in omega arith)) s (all-in (λ x. All (Under (f .rank) σ (f .rank (key x))) (value x)) σ (_≔_ k s) i (f .falls))) in
+          ap (times σ m) first ∙ sym (times-last σ m s ∙ links-still σ (times σ m s) u)
+
+  -- going on until there is no solution to follow ends
+  acc : (m k : ℕ) → ((s : Ty) → In (_≔_ k s) σ → f .rank k < m) → Acc (Follows σ) k
+  acc zero k h = Acc·intro k (λ j p. absurd (not-suc-le-zero (h (p .0) (p .1))))
+  acc (suc m) k h =
+      Acc·intro k (λ j p. acc m j (λ s i.
+      (let l = h (p .0) (p .1) in
+      let z = all-in (Under (f .rank) σ (f .rank k)) (p .0) (node 17 j) (p .2) (all-in (λ x. All (Under (f .rank) σ (f .rank (key x))) (value x)) σ (_≔_ k (p .0)) (p .1) (f .falls)) j s refl i in
+      omega arith)))
+
+  pub ends : (k : ℕ) → Acc (Follows σ) k
+  ends k = acc (length σ) k (λ s i. low-in (_≔_ k s) i)
 
 then : {σ : Solutions} {i j k : ℕ} → Leads σ j k → Follows σ i j → Leads σ i k
 then (one p) q = more (one q) p
@@ -191,21 +268,110 @@ never σ k (Acc·intro x h) l = back x l (λ j p. never σ j (h j p))
 pub never-back : (σ : Solutions) → Fine σ → (k : ℕ) → Leads σ k k → ⊥
 never-back σ f k l = never σ k (ends σ f k) l
 
--- a solved unknown is, written out, its solution written out; an unsolved one is itself
-solvedAfter : (ks : List ℕ) (σ : Solutions) (x : Solution) → FineAfter ks σ → In x σ → writeOut σ (unknown (key x)) ≡ writeOut σ (value x)
-unfolding writeOut replace
-solvedAfter ks [] x f m = absurd m
-solvedAfter ks (_≔_ k s ∷ σ) x f (inl e) =
-    subst⁻¹ (λ y. writeOut σ (replace k s (unknown (key y))) ≡ writeOut σ (replace k s (value y))) e
-    (ap (writeOut σ) (replace-self k s ∙ sym (replace-free k s s (all-map (λ n h. h .0) s (f .1)))))
-solvedAfter ks (_≔_ k s ∷ σ) x f (inr m) =
-    let h = fine-in (k ∷ ks) σ x (f .2) m in
-    ap (writeOut σ) (replace-free k s (unknown (key x)) (h .0 .0, tt))
-    ∙ solvedAfter (k ∷ ks) σ x (f .2) m
-    ∙ sym (ap (writeOut σ) (replace-free k s (value x) (all-map (λ n g. g .0) (value x) (h .1))))
-
-pub solved : (σ : Solutions) → Fine σ → (x : Solution) → In x σ → writeOut σ (unknown (key x)) ≡ writeOut σ (value x)
-solved σ f x m = solvedAfter [] σ x f m
-
 pub unsolved : (σ : Solutions) (k : ℕ) → Free (keys σ) (node 17 k) → writeOut σ (unknown k) ≡ unknown k
 unsolved σ k h = written-free σ (unknown k) (h, tt)
+
+---------------------------------------------------------------- one more solution
+pub keys-snoc : (ks : List ℕ) (σ : Solutions) (k : ℕ) (s : Ty) → keysAfter ks (σ ++ (_≔_ k s ∷ [])) ≡ k ∷ keysAfter ks σ
+keys-snoc ks [] k s = refl
+keys-snoc ks (_≔_ j r ∷ σ) k s = keys-snoc (j ∷ ks) σ k s
+
+pub no-fine : Fine []
+no-fine = record { rank = λ k. 0; once = tt; low = tt; falls = tt }
+
+in-snoc : (σ : Solutions) (x y : Solution) → In x (σ ++ (y ∷ [])) → In x σ ⊎ (x ≡ y)
+in-snoc [] x y (inl e) = inr e
+in-snoc [] x y (inr m) = absurd m
+in-snoc (z ∷ σ) x y (inl e) = inl (inl e)
+in-snoc (z ∷ σ) x y (inr m) = elim (in-snoc σ x y m) [ inl i ↦ inl (inr i) | inr e ↦ inr e ]
+
+-- a solved unknown is not free
+in-avoids : (σ : Solutions) → Distinct (solvedUnknowns σ) → (x : Solution) → In x σ → Free (keys σ) (node 17 (key x)) → ⊥
+in-avoids σ d x m h = Option·none-ne-some (value x) (sym (find-none σ (key x) h) ∙ find-in σ d x m)
+
+free-one : (k : ℕ) (ks : List ℕ) → Free (k ∷ ks) (node 17 k) → ⊥
+free-one k ks h = true≢false (sym (eqb-same k) ∙ h .0)
+
+distinct-snoc : (ks : List ℕ) (σ : Solutions) (k : ℕ) (s : Ty) → Distinct (solvedUnknowns σ) → Free (keysAfter ks σ) (node 17 k) → Distinct (solvedUnknowns (σ ++ (_≔_ k s ∷ [])))
+distinct-snoc ks [] k s d h = (tt, tt)
+distinct-snoc ks (_≔_ j r ∷ σ) k s d h =
+    (others σ (d .0), distinct-snoc (j ∷ ks) σ k s (d .1) h)
+  where
+    others : (τ : Solutions) → All (λ i. j ≢ i) (solvedUnknowns τ) → All (λ i. j ≢ i) (solvedUnknowns (τ ++ (_≔_ k s ∷ [])))
+    others [] a = ((λ e. true≢false (sym (eqb-same j) ∙ subst (λ (i : ℕ). eqb j i ≡ false) (sym e) (keys-keep (j ∷ ks) σ (node 17 k) h .0))), tt)
+    others (_≔_ i u ∷ τ) a = (a .0, others τ (a .1))
+
+pub fine-snoc : (σ : Solutions) (k : ℕ) (s : Ty) → Fine σ → Free (keys σ) (node 17 k) → All (Free (k ∷ keys σ)) s → Fine (σ ++ (_≔_ k s ∷ []))
+fine-snoc σ k s f u h = record {
+  rank = rank;
+  once = distinct-snoc [] σ k s (f .once) u;
+  low = all-append (λ x. rank (key x) < length ω) σ (_≔_ k s ∷ []) (all-of (λ x. rank (key x) < length ω) σ (λ x m. (let a = old x m in let l = low-in σ f x m in let z = long in omega arith))) ((let a = new in let z = long in omega arith), tt);
+  falls = all-append (λ x. All (Under rank ω (rank (key x))) (value x)) σ (_≔_ k s ∷ [])
+      (all-of (λ x. All (Under rank ω (rank (key x))) (value x)) σ (λ x m. all-of (Under rank ω (rank (key x))) (value x) (λ n i j r e q. older x m n i j r e (in-snoc σ (_≔_ j r) (_≔_ k s) q))))
+      (all-map (λ n g j r e q. absurd (newer n g j r e (in-snoc σ (_≔_ j r) (_≔_ k s) q))) s h, tt);
+}
+  where
+    ω : Solutions
+    ω = σ ++ (_≔_ k s ∷ [])
+
+    rank : ℕ → ℕ
+    rank j = cond (eqb j k) 0 (suc (f .rank j))
+
+    long : length ω ≡ length σ + 1
+    long = length-append σ (_≔_ k s ∷ [])
+
+    new : rank k ≡ 0
+    new = ap (λ (b : Bool). cond b 0 (suc (f .rank k))) (eqb-same k)
+
+    old : (x : Solution) → In x σ → rank (key x) ≡ suc (f .rank (key x))
+    old x m = ap (λ (b : Bool). cond b 0 (suc (f .rank (key x)))) (eqb-false (key x) k (λ e. in-avoids σ (f .once) x m (subst⁻¹ (λ (j : ℕ). Free (keys σ) (node 17 j)) e u)))
+
+    older : (x : Solution) → In x σ → (n : Node) → In n (value x) → (j : ℕ) (r : Ty) → n ≡ node 17 j → In (_≔_ j r) σ ⊎ (_≔_ j r ≡ _≔_ k s) → rank j < rank (key x)
+    older x m n i j r e (inl q) =
+        let a = old x m in
+        let b = old (_≔_ j r) q in
+        let l = all-in (Under (f .rank) σ (f .rank (key x))) (value x) n i (all-in (λ y. All (Under (f .rank) σ (f .rank (key y))) (value y)) σ x m (f .falls)) j r e q in
+        omega arith
+    older x m n i j r e (inr q) =
+        let a = old x m in
+        let b : rank j ≡ 0 = ap (λ (y : Solution). rank (key y)) q ∙ new in
+        omega arith
+
+    newer : (n : Node) → Free (k ∷ keys σ) n → (j : ℕ) (r : Ty) → n ≡ node 17 j → In (_≔_ j r) σ ⊎ (_≔_ j r ≡ _≔_ k s) → ⊥
+    newer n g j r e (inl q) = in-avoids σ (f .once) (_≔_ j r) q (subst (Free (k ∷ keys σ)) e g .1)
+    newer n g j r e (inr q) = free-one k (keys σ) (subst (λ (i : ℕ). Free (k ∷ keys σ) (node 17 i)) (ap key q) (subst (Free (k ∷ keys σ)) e g))
+
+-- the solution just given: under all later solutions its unknown is the same type
+in-append : (σ τ : Solutions) (x : Solution) → In x σ → In x (σ ++ τ)
+in-append [] τ x m = absurd m
+in-append (y ∷ σ) τ x (inl e) = inl e
+in-append (y ∷ σ) τ x (inr m) = inr (in-append σ τ x m)
+
+in-last : (σ : Solutions) (x : Solution) → In x (σ ++ (x ∷ []))
+in-last [] x = inl refl
+in-last (y ∷ σ) x = inr (in-last σ x)
+
+pub solved-now : (σ τ : Solutions) (k : ℕ) (s : Ty) → Fine ((σ ++ (_≔_ k s ∷ [])) ++ τ) → writeOut ((σ ++ (_≔_ k s ∷ [])) ++ τ) (unknown k) ≡ writeOut ((σ ++ (_≔_ k s ∷ [])) ++ τ) s
+solved-now σ τ k s f = solved ((σ ++ (_≔_ k s ∷ [])) ++ τ) f (_≔_ k s) (in-append (σ ++ (_≔_ k s ∷ [])) τ (_≔_ k s) (in-last σ (_≔_ k s)))
+
+-- a written-out type is, under later solutions, the type
+module _ (σ τ : Solutions) (f : Fine (σ ++ τ)) where
+  linked-again : (t : Ty) → writeOut (σ ++ τ) (links σ t) ≡ writeOut (σ ++ τ) t
+  unfolding links
+  linked-again [] = refl
+  linked-again (n ∷ t) =
+      written-append (σ ++ τ) (link σ n) (links σ t)
+      ∙ ap₂ {C = Ty} (λ x y. x ++ y)
+      (by-solved σ n
+      (λ v s e q. ap (writeOut (σ ++ τ)) (ap (link σ) e ∙ link-solved σ v s q) ∙ sym (solved (σ ++ τ) f (_≔_ v s) (in-append σ τ (_≔_ v s) (find-some σ v s q))) ∙ ap (λ (m : Node). writeOut (σ ++ τ) (m ∷ [])) (sym e))
+      (λ e. ap (writeOut (σ ++ τ)) (link-unsolved σ n e)))
+      (linked-again t)
+      ∙ sym (written-append (σ ++ τ) (n ∷ []) t)
+
+  times-again : (n : ℕ) (t : Ty) → writeOut (σ ++ τ) (times σ n t) ≡ writeOut (σ ++ τ) t
+  unfolding times
+  times-again zero t = refl
+  times-again (suc n) t = times-again n (links σ t) ∙ linked-again t
+
+  pub written-again : (t : Ty) → writeOut (σ ++ τ) (writeOut σ t) ≡ writeOut (σ ++ τ) t
+  written-again t = ap (writeOut (σ ++ τ)) (written-times σ t) ∙ times-again (length σ) t

@@ -8,10 +8,12 @@ use lib.Dec.{eqb}
 use Rattle.nodes.specs.Nodes.{Node, node, Ty, nodeParts}
 use Rattle.nodes.specs.Parts.{takeParts, dropParts, Whole}
 use Rattle.nodes.specs.Lists.{All}
-use Rattle.nodes.proofs.ListLaws.{cond-ind}
+use Rattle.nodes.proofs.ListLaws.{cond-ind, all-in}
 use Rattle.nodes.proofs.Wholes.{whole-append, whole-split}
 use Rattle.judgment.specs.Types.{unknown, con, arrow, app, forall, isNode, null, View, isArrow, isApp, isForall, isUnknown, isOther, view, substituteFrom, substitute, Renaming, renameNode, rename, afterFront}
-use Rattle.judgment.specs.Solutions.{Solution, _≔_, Solutions, value, replace, writeOut}
+use Rattle.judgment.specs.Solutions.{Solution, _≔_, Solutions, value, link, links, writeOut}
+use Rattle.judgment.proofs.SolutionLaws.{find-some, by-solved, link-solved, link-unsolved, times, written-times}
+use lib.ListN.{length}
 use Rattle.judgment.proofs.TypeLaws.{eqb-true, isNode-true}
 
 -- one whole type
@@ -98,20 +100,24 @@ afterFront-whole (node k v ∷ ns) h = go (eqb k 14) refl (λ g. afterFront-whol
     go false e again = h
 
 -- ---- writing out puts a whole type for a leaf
-replace-from : (k : ℕ) (s : Ty) → IsTy s → (t : Ty) (m : ℕ) → Whole nodeParts t m → Whole nodeParts (replace k s t) m
-unfolding replace
-replace-from k s p [] m h = h
-replace-from k s p (n ∷ ns) zero h = absurd h
-replace-from k s p (n ∷ ns) (suc m) h = go (isNode 17 k n) refl (λ i g. replace-from k s p ns i g)
-  where
-    go : (b : Bool) → isNode 17 k n ≡ b → ((i : ℕ) → Whole nodeParts ns i → Whole nodeParts (replace k s ns) i) → Whole nodeParts (cond b s (n ∷ []) ++ replace k s ns) (suc m)
-    go true e again =
-        let z : nodeParts n + m ≡ m = ap (λ (x : Node). nodeParts x + m) (isNode-true 17 k n e) ∙ (let y : 0 + m ≡ m = omega arith in y) in
-        let f : 1 + m ≡ suc m = omega arith in
-        subst (Whole nodeParts (s ++ replace k s ns)) f (whole-append nodeParts s (replace k s ns) 1 m p (again m (subst (Whole nodeParts ns) z h)))
-    go false e again = again (nodeParts n + m) h
+links-from : (σ : Solutions) → All (λ x. IsTy (value x)) σ → (t : Ty) (m : ℕ) → Whole nodeParts t m → Whole nodeParts (links σ t) m
+unfolding links
+links-from σ hσ [] m h = h
+links-from σ hσ (n ∷ ns) zero h = absurd h
+links-from σ hσ (n ∷ ns) (suc m) h =
+    by-solved σ n
+    (λ v s e q.
+    let z : nodeParts n + m ≡ m = ap (λ (x : Node). nodeParts x + m) e ∙ (let y : 0 + m ≡ m = omega arith in y) in
+    let f : 1 + m ≡ suc m = omega arith in
+    subst⁻¹ (λ (l : Ty). Whole nodeParts (l ++ links σ ns) (suc m)) (ap (link σ) e ∙ link-solved σ v s q)
+    (subst (Whole nodeParts (s ++ links σ ns)) f
+    (whole-append nodeParts s (links σ ns) 1 m (all-in (λ x. IsTy (value x)) σ (_≔_ v s) (find-some σ v s q) hσ) (links-from σ hσ ns m (subst (Whole nodeParts ns) z h)))))
+    (λ e. subst⁻¹ (λ (l : Ty). Whole nodeParts (l ++ links σ ns) (suc m)) (link-unsolved σ n e) (links-from σ hσ ns (nodeParts n + m) h))
+
+times-whole : (σ : Solutions) → All (λ x. IsTy (value x)) σ → (n : ℕ) (t : Ty) → IsTy t → IsTy (times σ n t)
+unfolding times
+times-whole σ hσ zero t h = h
+times-whole σ hσ (suc n) t h = times-whole σ hσ n (links σ t) (links-from σ hσ t 1 h)
 
 pub written-whole : (σ : Solutions) (t : Ty) → All (λ x. IsTy (value x)) σ → IsTy t → IsTy (writeOut σ t)
-unfolding writeOut
-written-whole [] t hσ h = h
-written-whole (_≔_ k s ∷ σ) t hσ h = written-whole σ (replace k s t) (hσ .1) (replace-from k s (hσ .0) t 1 h)
+written-whole σ t hσ h = subst⁻¹ IsTy (written-times σ t) (times-whole σ hσ (length σ) t h)

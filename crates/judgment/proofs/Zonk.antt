@@ -15,8 +15,8 @@ use Rattle.nodes.proofs.ListLaws.{all-of}
 use Rattle.nodes.specs.Nodes.{Node, node, Ty, nodeParts}
 use Rattle.judgment.specs.Types.{unknown, arrow, forall, isNode, View, isArrow, isApp, isForall, isUnknown, isOther, view, substituteFrom, substitute}
 use Rattle.judgment.proofs.TypeLaws.{eqb-true, eqb-same, eqb-false, Shows, view-shows}
-use Rattle.judgment.specs.Solutions.{Solution, _≔_, Solutions, key, value, find, replace, writeOut, Avoids, Free, keysAfter, keys, Fine}
-use Rattle.judgment.proofs.SolutionLaws.{written-append, written-node, solved, unsolved, ends}
+use Rattle.judgment.specs.Solutions.{Solution, _≔_, Solutions, key, value, find, writeOut, Avoids, Free, keysAfter, keys, Fine}
+use Rattle.judgment.proofs.SolutionLaws.{find-some, find-none-free, written-free, written-append, written-node, solved, unsolved, ends}
 use Rattle.judgment.specs.Promise.{Follows}
 use Rattle.judgment.specs.Board.{tvar, Rule, fresh, push}
 use Rattle.judgment.specs.Rules.{Side, left, right, openBody, instantiateBy, instantiateFrom, signatureBy, signatureFrom}
@@ -29,28 +29,8 @@ pub record Zonks (σ : Solutions) (g : Ty → Ty) : Type 0 where
   pub solved : (k : ℕ) (s : Ty) → In (_≔_ k s) σ → g (unknown k) ≡ g s
   pub unsolved : (k : ℕ) → find k σ ≡ none → g (unknown k) ≡ unknown k
 
-find-some : (σ : Solutions) (k : ℕ) (s : Ty) → find k σ ≡ some s → In (_≔_ k s) σ
-unfolding find
-find-some [] k s e = absurd (Option·none-ne-some s e)
-find-some (_≔_ j r ∷ σ) k s e = go (eqb j k) refl e (find-some σ k s)
-  where
-    go : (b : Bool) → eqb j k ≡ b → cond b (some r) (find k σ) ≡ some s → (find k σ ≡ some s → In (_≔_ k s) σ) → In (_≔_ k s) (_≔_ j r ∷ σ)
-    go true p q f = inl (cc (eqb-true j k p, q))
-    go false p q f = inr (f q)
-
-find-none-free : (ks : List ℕ) (σ : Solutions) (k : ℕ) → Free ks (node 17 k) → find k σ ≡ none → Free (keysAfter ks σ) (node 17 k)
-unfolding find
-find-none-free ks [] k h e = h
-find-none-free ks (_≔_ j r ∷ σ) k h e = go (eqb j k) refl e (λ p. find-none-free (j ∷ ks) σ k p)
-  where
-    go : (b : Bool) → eqb j k ≡ b → cond b (some r) (find k σ) ≡ none → (Free (j ∷ ks) (node 17 k) → find k σ ≡ none → Free (keysAfter (j ∷ ks) σ) (node 17 k)) → Free (keysAfter (j ∷ ks) σ) (node 17 k)
-    go true p q f = absurd (Option·none-ne-some r (sym q))
-    go false p q f = f (p, h) q
-
 written-nil : (σ : Solutions) → writeOut σ [] ≡ []
-unfolding writeOut replace
-written-nil [] = refl
-written-nil (_≔_ k s ∷ σ) = written-nil σ
+written-nil σ = written-free σ [] tt
 
 pub writeOut-zonks : (σ : Solutions) → Fine σ → Zonks σ (writeOut σ)
 writeOut-zonks σ f = record {

@@ -11,6 +11,7 @@ use Rattle.nodes.specs.Lists.{All, In, count}
 use Rattle.judgment.specs.declared.TypeError.the-variants.{TypeUnificationError}
 use Rattle.judgment.specs.Types.{unknown}
 use Rattle.judgment.specs.Solutions.{Solution, _≔_, Solutions, key, value}
+pub use Rattle.judgment.specs.Solutions.{Distinct, solvedUnknowns}
 use Rattle.judgment.specs.Board.{Entry, tvar, var, sub, inf, chk, infApp, Board, Operation, made, pushed, gave, met, State, state, Outcome}
 use Rattle.judgment.specs.Run.{Step, step, End, accepted, refusedBy, Run, steps, end, final}
 
@@ -60,15 +61,6 @@ pub data Leads (σ : Solutions) : ℕ → ℕ → Type 0 where
   one : {i k : ℕ} → Follows σ i k → Leads σ i k
   more : {i j k : ℕ} → Leads σ i j → Follows σ j k → Leads σ i k
 
--- no element stands twice
-abbrev pub Distinct : List ℕ → Type 0
-Distinct [] = Unit {0}
-Distinct (k ∷ ks) = All (λ j. k ≢ j) ks × Distinct ks
-
-abbrev pub solvedUnknowns : Solutions → List ℕ
-solvedUnknowns [] = []
-solvedUnknowns (_≔_ k s ∷ σ) = k ∷ solvedUnknowns σ
-
 -- ---- written out in full: each solved unknown replaced by its solution until only unsolved ones are left
 pub data Replaced (σ : Solutions) : Ty → Ty → Type 0 where
   none : {t : Ty} → Replaced σ t t
@@ -94,11 +86,11 @@ Same σ (infApp f e t) = Unit {0}
 abbrev pub Quantifierless : Ty → Type 0
 Quantifierless t = All (λ x. kind x ≢ 14) t
 
--- ---- the claim, of a run that starts with the entry `first` on the board
-pub record Promise (first : Entry) (plain : Bool) (R : Run) : Type 0 where
+-- ---- the claim, of a run that starts with the state `start`
+pub record Promise (start : State) (plain : Bool) (R : Run) : Type 0 where
   -- no unknown is solved twice: no solve meets a solved one, the final solutions are all that were given, and they are of different unknowns
   pub never-met : All NotMet (events (steps R))
-  pub all-given : solutions (final R) ≡ given (events (steps R))
+  pub all-given : solutions (final R) ≡ solutions start ++ given (events (steps R))
   pub once : Distinct (solvedUnknowns (solutions (final R)))
   -- following solutions always ends, and never leads back
   pub ends : (k : ℕ) → Acc (Follows (solutions (final R))) k
@@ -110,7 +102,7 @@ pub record Promise (first : Entry) (plain : Bool) (R : Run) : Type 0 where
   pub monotypes : All (λ x. (u : Ty) → InFull (solutions (final R)) (value x) u → Quantifierless u) (solutions (final R))
   -- accepted: the board is empty; every entry that stood on it at the start or was pushed has been taken, each once
   pub empty : end R ≡ accepted → board (final R) ≡ []
-  pub all-taken : end R ≡ accepted → (p : Entry → Bool) → count p (taken (steps R)) ≡ count p (first ∷ pushes (events (steps R)))
+  pub all-taken : end R ≡ accepted → (p : Entry → Bool) → count p (taken (steps R)) ≡ count p (board start ++ pushes (events (steps R)))
   -- accepted and plain: the two types of every comparison taken are one and the same
   pub same : end R ≡ accepted → plain ≡ true → All (Same (solutions (final R))) (taken (steps R))
   -- 16 is never the end

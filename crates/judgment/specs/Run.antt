@@ -33,6 +33,11 @@ final (run ss e s) = s
 abbrev pub addStep : Step → Run → Run
 addStep t (run ss e s) = run (t ∷ ss) e s
 
+-- steps that came before a run
+abbrev pub onto : List Step → Run → Run
+onto [] R = R
+onto (t ∷ ss) R = addStep t (onto ss R)
+
 module _ (L : Limits) (E : Env) where
   abbrev pub onward : State → Entry → List Operation → Outcome → (State → Run) → Run
   onward s e os (finished s′) again = addStep (step s e os (finished s′)) (again s′)

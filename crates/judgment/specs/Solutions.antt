@@ -1,15 +1,16 @@
 -- The solutions, in the order of solving, and writing out.
 -- Assumes nothing.
-use Prim.Native.Nat.{ℕ, zero, suc, _+_}
+use Prim.Native.Nat.{ℕ, zero, suc, _+_, _<_}
 use mathlib.Core.Bool.{Bool, true, false, cond, _||_}
 use mathlib.Core.Option.{Option, none, some}
 use mathlib.Core.List.{List, [], _∷_, _++_}
 use lib.Dec.{eqb}
 use lib.ListN.{length}
 use mathlib.Core.Path.{_≡_}
-use Rattle.nodes.specs.Lists.{All}
+use mathlib.Core.Logic.{_≢_}
+use Rattle.nodes.specs.Lists.{All, In}
 use Rattle.nodes.specs.Nodes.{Node, node, Ty}
-use Rattle.judgment.specs.Types.{isNode}
+use Rattle.judgment.specs.Types.{unknown, isNode}
 
 pub data Solution : Type 0 where
   _≔_ : ℕ → Ty → Solution
@@ -27,19 +28,37 @@ unfoldable pub find : ℕ → Solutions → Option Ty
 find k [] = none
 find k (_≔_ j s ∷ σ) = cond (eqb j k) (some s) (find k σ)
 
--- every unknown k in a type replaced by s
-abbrev pub replaceNode : ℕ → Ty → Node → Ty
-replaceNode k s n = cond (isNode 17 k n) s (n ∷ [])
+-- ---- writing out
+-- one link: a solved unknown is followed into its solution
+abbrev pub orUnknown : ℕ → Option Ty → Ty
+orUnknown v none = unknown v
+orUnknown v (some s) = s
 
-unfoldable pub replace : ℕ → Ty → Ty → Ty
-replace k s [] = []
-replace k s (n ∷ ns) = replaceNode k s n ++ replace k s ns
+abbrev pub link : Solutions → Node → Ty
+link σ (node k v) = cond (eqb k 17) (orUnknown v (find v σ)) (node k v ∷ [])
 
--- A solution holds only unknowns that were unsolved when it was given, so one pass in the order
--- of solving follows every solution.
+unfoldable pub links : Solutions → Ty → Ty
+links σ [] = []
+links σ (n ∷ ns) = link σ n ++ links σ ns
+
+abbrev pub known : Option Ty → Bool
+known none = false
+known (some s) = true
+
+abbrev pub isSolved : Solutions → Node → Bool
+isSolved σ (node k v) = cond (eqb k 17) (known (find v σ)) false
+
+unfoldable pub anySolved : Solutions → Ty → Bool
+anySolved σ [] = false
+anySolved σ (n ∷ ns) = isSolved σ n || anySolved σ ns
+
+-- until only unsolved ones are left; no chain has more links than there are solutions
+unfoldable pub writeOutBy : ℕ → Solutions → Ty → Ty
+writeOutBy zero σ t = t
+writeOutBy (suc n) σ t = elim (anySolved σ t) [ true ↦ writeOutBy n σ (links σ t) | false ↦ t ]
+
 unfoldable pub writeOut : Solutions → Ty → Ty
-writeOut [] t = t
-writeOut (_≔_ k s ∷ σ) t = writeOut σ (replace k s t)
+writeOut σ t = writeOutBy (length σ) σ t
 
 unfoldable pub solutionNodes : Solutions → ℕ
 solutionNodes [] = 0
@@ -61,10 +80,22 @@ keysAfter ks (_≔_ k s ∷ σ) = keysAfter (k ∷ ks) σ
 abbrev pub keys : Solutions → List ℕ
 keys σ = keysAfter [] σ
 
--- Each unknown is solved once, by a type without it and without any that was solved before.
-abbrev pub FineAfter : List ℕ → Solutions → Type 0
-FineAfter ks [] = Unit {0}
-FineAfter ks (_≔_ k s ∷ σ) = Free ks (node 17 k) × All (Free (k ∷ ks)) s × FineAfter (k ∷ ks) σ
+-- no element stands twice
+abbrev pub Distinct : List ℕ → Type 0
+Distinct [] = Unit {0}
+Distinct (k ∷ ks) = All (λ j. k ≢ j) ks × Distinct ks
 
-abbrev pub Fine : Solutions → Type 0
-Fine σ = FineAfter [] σ
+abbrev pub solvedUnknowns : Solutions → List ℕ
+solvedUnknowns [] = []
+solvedUnknowns (_≔_ k s ∷ σ) = k ∷ solvedUnknowns σ
+
+-- a node that is no solved unknown of rank m or above
+abbrev pub Under : (ℕ → ℕ) → Solutions → ℕ → Node → Type 0
+Under rank σ m n = (j : ℕ) (s : Ty) → n ≡ node 17 j → In (_≔_ j s) σ → rank j < m
+
+-- Each unknown is solved once, and following solutions goes down in rank. They may stand in any order.
+pub record Fine (σ : Solutions) : Type 0 where
+  pub rank : ℕ → ℕ
+  pub once : Distinct (solvedUnknowns σ)
+  pub low : All (λ x. rank (key x) < length σ) σ
+  pub falls : All (λ x. All (Under rank σ (rank (key x))) (value x)) σ

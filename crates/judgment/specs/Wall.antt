@@ -16,7 +16,7 @@ use Rattle.sheet.specs.Plan.{triples, planOf, declarations, bindingsIn, endFrom
 use Rattle.judgment.specs.declared.Answer.{Answer}
 use Rattle.judgment.specs.Types.{view, occurs, isMonotype, substitute, rename, frontNames, afterFront, canUnify}
 use Rattle.judgment.specs.Terms.{termView, lambdaOf}
-use Rattle.judgment.specs.Solutions.{Solution, _≔_, Solutions, find, replace, writeOut, solutionNodes}
+use Rattle.judgment.specs.Solutions.{Solution, _≔_, Solutions, find, links, anySolved, writeOutBy, writeOut, solutionNodes}
 use Rattle.judgment.specs.Board.{boardNodes, findVar, before, perform, operations}
 use Rattle.judgment.specs.Rules.{instantiateFrom, subtype, openNames, signatureFrom, insert, pushVars, checkPatterns, checkArms, inferApp}
 use Rattle.judgment.specs.Run.{runFrom, checkType}
@@ -71,7 +71,7 @@ answered =
     []
 
 pub on-the-wall : map (λ q. row (q .0) (q .1)) asked ≡ answered
-unfolding row judge resultOf runOf checkType runFrom perform operations boardNodes findVar before lookup instantiateFrom subtype openNames signatureFrom insert pushVars checkPatterns checkArms inferApp find replace writeOut solutionNodes view termView lambdaOf occurs isMonotype substitute rename frontNames afterFront canUnify planOf declarations bindingsIn endFrom entriesEnd placesOf partLine isPlain partsOf rowOf findRow table
+unfolding row judge resultOf runOf checkType runFrom perform operations boardNodes findVar before lookup instantiateFrom subtype openNames signatureFrom insert pushVars checkPatterns checkArms inferApp find links anySolved writeOutBy writeOut solutionNodes view termView lambdaOf occurs isMonotype substitute rename frontNames afterFront canUnify planOf declarations bindingsIn endFrom entriesEnd placesOf partLine isPlain partsOf rowOf findRow table
 on-the-wall = refl
 
 -- the book of the first plan: unknown 0's solution has one node, at word 2,000, and is Int

@@ -36,7 +36,7 @@ pub written-out : {b k : List ℕ} {c : Run} → WellFormed b k c → (n : ℕ) 
 written-out {b} {k} {c} f n l h s t a e few = record {
   some = subst⁻¹ (λ (x : Ty). 0 < length x) e (some-node (writeOut (sols k) s) (written-whole (sols k) s (all-map (λ x q. q .whole) (sols k) h) (a .whole)));
   few = few;
-  free = subst⁻¹ (All _) e (written-is-free (sols k) s (f .book .fine));
+  free = subst⁻¹ (All _) e (written-is-free (sols k) (f .book .fine) s);
   made = subst⁻¹ (All (Made (c .fresh))) e
       (all-written (Made (c .fresh)) (sols k) s (all-map (λ x q. all-map (λ y m. later y m) (value x) (q .made)) (sols k) h) (all-map (λ y m. later y m) s (a .made)));
 }

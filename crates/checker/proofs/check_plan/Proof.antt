@@ -3,7 +3,7 @@ use Prim.Native.Nat.{ℕ, _+_, _*_, _-_, _≤_, _<_}
 use native.Mathlib.Omega.{arith}
 use denote.Ref.{now}
 use lib.ListN.{length}
-use Rattle.checker.proofs.Starting.{reached-start}
+use Rattle.checker.proofs.Starting.{start-stands, start-told}
 use Rattle.checker.proofs.Finishing.{end-small, whole-board, ran}
 use borrow.Author.Needs.{needs}
 use Rattle.checker.proofs.check_plan.Statement.{statement}
@@ -22,7 +22,8 @@ solve-requires c κs =
     let x = p .report in
     let y = p .lent .type in
     let k = c .before .before .before .before .before .before .before .before .before .before .before .before .before .before .start .kept .1 .1 .1 .0 in
-    (reached-start (p .plan) (c .before .before .before .before .before .before .before .before .before .before .before .before .before .before .start .ensures) _, c .before .before .before .before .before .before .before .before .before .before .before .before .before .before .start .ensures .1, omega arith, record { type = omega arith; left = p .lent .left; room = p .lent .room })
+    let st = start-stands _ _ _ _ (p .plan) (c .before .before .before .before .before .before .before .before .before .before .before .before .before .before .start .ensures) in
+    (st .0, st .1, omega arith, record { type = omega arith; left = p .lent .left; room = p .lent .room })
 
 clear-board-requires : tie.Need-clear-board-requires
 clear-board-requires c κs =
@@ -64,7 +65,8 @@ returns c =
     let lb = c .before .before .before .before .before .before .before .before .before .before .before .before .before .before .before .before .before .before .before .before .before .before .before .before .before .before .before .solve .kept .0 ∙ c .before .before .before .before .before .before .before .before .before .before .before .before .before .before .before .before .before .before .before .before .before .before .before .before .before .before .before .before .before .before .before .before .before .before .before .before .before .before .before .before .before .before .start .kept .0 ∙ p .board in
     let lk = c .before .before .before .before .before .before .before .before .before .before .before .before .before .before .before .before .before .before .before .before .before .before .before .before .before .before .before .solve .kept .1 .0 ∙ c .before .before .before .before .before .before .before .before .before .before .before .before .before .before .before .before .before .before .before .before .before .before .before .before .before .before .before .before .before .before .before .before .before .before .before .before .before .before .before .before .before .before .start .kept .1 .0 ∙ p .book in
     let lr = c .before .before .before .before .before .before .before .before .before .before .before .before .before .before .before .before .before .before .before .before .before .before .before .before .before .before .before .solve .kept .1 .1 .0 ∙ p .report in
-    ran (now (a .s)) (a .ceiling) _ (c .before .before .before .before .before .before .before .before .before .before .before .before .before .before .before .before .before .before .before .before .before .before .before .before .before .before .before .solve .result) (c .before .before .before .before .before .before .before .before .before .before .before .before .before .before .before .before .before .before .before .before .before .before .before .before .before .before .before .solve .ensures) lk lr (whole-board _ _ lb (c .before .before .before .before .before .before .before .before .before .clear-board .ensures)) (c .before .before .before .before .before .before .report-end .ensures) (c .before .before .before .before .clear-words .ensures) (c .before .is-plain .ensures) (c .answer .ensures)
+    let so = c .before .before .before .before .before .before .before .before .before .before .before .before .before .before .before .before .before .before .before .before .before .before .before .before .before .before .before .solve .ensures in
+    ran (now (a .s)) (a .ceiling) _ (c .before .before .before .before .before .before .before .before .before .before .before .before .before .before .before .before .before .before .before .before .before .before .before .before .before .before .before .solve .result) (so .0, start-told (now (a .s)) _ _ _ (a .ceiling) (c .before .before .before .before .before .before .before .before .before .before .before .before .before .before .before .before .before .before .before .before .before .before .before .before .before .before .before .before .before .before .before .before .before .before .before .before .before .before .before .before .before .before .start .ensures) ∙ so .1) lk lr (whole-board _ _ lb (c .before .before .before .before .before .before .before .before .before .clear-board .ensures)) (c .before .before .before .before .before .before .report-end .ensures) (c .before .before .before .before .clear-words .ensures) (c .before .is-plain .ensures) (c .answer .ensures)
 
 pub check-plan-spec : {M : Type 1} → statement M
 check-plan-spec =

@@ -87,7 +87,7 @@ module _ {M : Type 1} (𝓤 : URA M) (H : Heap 𝓤) (A : Atoms 𝓤) (W : Given
   goes : (b α : ℕ) (δ : GName) → Ask h k x → ent 𝓤 (sep 𝓤 (A .lft (α ∷ []) fullShare) (sep 𝓤 (sep 𝓤 (A .lft κ q) (sem 𝓤 H A ftrue)) (sem 𝓤 H A (Owned b α δ)))) (Lent 𝓤 H A mem run .pre (to-lent b α δ))
   goes b α δ ask = qed W (‵ (flft (α ∷ []) fullShare) ∷ (‵ (flft κ q) ⊛ ‵ ftrue) ∷ ‵ (Owned b α δ) ∷ []) ∵ says ! ask $ join ! $ frame ! $ done !
 
-  exits : (r : Stepped) (ws : Lists) → Is ST.the-row r (val-s r ∷ []) → Says h x (r .counters) (r .kept) ws → ent 𝓤 (sep 𝓤 (sep 𝓤 (A .lft κ q) (sem 𝓤 H A ftrue)) (sem 𝓤 H A (Left κ h k x ws))) (Post (val-s r))
+  exits : (r : Stepped) (ws : Lists) → Is ST.the-row r (val-s r ∷ []) → Says h k x (r .counters) (r .kept) ws → ent 𝓤 (sep 𝓤 (sep 𝓤 (A .lft κ q) (sem 𝓤 H A ftrue)) (sem 𝓤 H A (Left κ h k x ws))) (Post (val-s r))
   exits r ws g e =
       qed W ((‵ (flft κ q) ⊛ ‵ ftrue) ∷ ‵ (Left κ h k x ws) ∷ []) ∵
       suffices ! _ (ends-at 𝓤 H A lends.ended (gaves (lends.signature .params) (lends.ended .kept)) (lends.clauses 𝓤 H A mem run) W (((κ, tt), (q, tt), tt, (h, (k, x)), vals), tt) (val-s r) r (tt, (tt, ws))
@@ -111,7 +111,7 @@ module _ {M : Type 1} (𝓤 : URA M) (H : Heap 𝓤) (A : Atoms 𝓤) (W : Given
         move ! (0 ∷ 66 ∷ []) $ fjoin ! $ move ! (2 ∷ 66 ∷ 0 ∷ []) $ use3 W (raw (Lent 𝓤 H A mem run .pre (to-lent (at l) α δ))) (goes (at l) α δ ask) $
         -- `step_lent`
         calls-at ! fm (Lent 𝓤 H A mem run) known (to-lent (at l) α δ) (arg ! 36 refl refl (arg ! 59 refl refl (arg ! 32 refl refl (arg ! 28 refl refl (arg ! 24 refl refl (arg ! 51 refl refl (arg ! 20 refl refl (arg ! 16 refl refl (arg ! 12 refl refl (arg ! 8 refl refl (arg ! 4 refl refl (no-more !)))))))))))) (λ w.
-        returned lent.ended (lent.clauses 𝓤 H A mem run) ! tt (to-lent (at l) α δ) w (λ r ws. Says h x (ws .0) r (ws .1 .1)) (λ r ws. refl) (λ r ws e. move ! (1 ∷ []) $ peeks ! KT.the-row (Is KT.the-row) (shows 𝓤 H A KT.the-row) r (w ∷ []) (λ is. drop ! $
+        returned lent.ended (lent.clauses 𝓤 H A mem run) ! tt (to-lent (at l) α δ) w (λ r ws. Says h k x (ws .0) r (ws .1 .1)) (λ r ws. refl) (λ r ws e. move ! (1 ∷ []) $ peeks ! KT.the-row (Is KT.the-row) (shows 𝓤 H A KT.the-row) r (w ∷ []) (λ is. drop ! $
         use1 W (‵ (flft (α ∷ []) fullShare) ⊛ ‵ (flft κ q) ⊛ ‵ ftrue) (id⊢ 𝓤 _) $ split ! $ move ! (2 ∷ []) $ fsplit ! $ move ! (2 ∷ 3 ∷ []) $
         -- [α's token; the token; the counters' last value; the last lists; the lender's part; _31; …; what frees _12; …; _0; …]
         land ! (from ! (stop !)) (init ! 41 refl (typed-k 𝓤 H A W r _ is)) $ rewrite ! 41 (λ (u : Val). ‵ (fat fullShare KT′.mir (l .1 .1 .1 .1 .1 .1 .1 .1 .1 .1 .1 .1 .1 .0) 0 u)) (ap only (LL.tells KT.the-type KT′.the-laws r _ is)) refl $

@@ -4,12 +4,12 @@ use Prim.Native.Nat.{ℕ, _+_, _*_, _-_, _≤_, _<_}
 use native.Mathlib.Omega.{arith}
 use denote.Ref.{now}
 use lib.ListN.{length}
-use Rattle.checker.proofs.Ending.{Loop, loop-start, more-facts, loop-turn, loop-end}
+use Rattle.checker.proofs.Ending.{Loop, wholeRun, loop-start, more-facts, loop-turn, loop-end}
 use Rattle.checker.proofs.solve.Statement.{statement}
 use Rattle.checker.proofs.solve.Tie as tie
 
 abbrev Inv-loop : tie.InvT-loop
-Inv-loop board₀ book₀ report₀ s ceiling t₀ l₀ r₀ w₀ v₀ run₀ board book report t l r w v run = Loop s ceiling board book report run × (length board ≡ length board₀) × (length book ≡ length book₀) × (length report ≡ length report₀) × (length t ≡ length t₀) × (length l ≡ length l₀) × (length r ≡ length r₀) × (length w ≡ length w₀) × (length v ≡ length v₀)
+Inv-loop board₀ book₀ report₀ s ceiling t₀ l₀ r₀ w₀ v₀ run₀ board book report t l r w v run = Loop s ceiling (wholeRun s ceiling board₀ book₀ run₀) board book report run × (length board ≡ length board₀) × (length book ≡ length book₀) × (length report ≡ length report₀) × (length t ≡ length t₀) × (length l ≡ length l₀) × (length r ≡ length r₀) × (length w ≡ length w₀) × (length v ≡ length v₀)
 
 abbrev μ-loop : tie.MeasureT-loop
 μ-loop board₀ book₀ report₀ s ceiling t₀ l₀ r₀ w₀ v₀ run₀ board book report t l r w v run = ceiling - run .taken
@@ -33,10 +33,10 @@ solve-step-requires c κs =
     let g2 = g .bound in
     let m = f .2 in
     record {
-      reached = h .0 .reached;
+      standing = h .0 .standing;
       goes = f .0;
       more = f .1;
-      counts = search needs;
+      counts = let u = c .before .before .before .before .before .before .before .before .before .before .before .before .before .before .before .before .before .before .before .before .fits .ceiling in omega arith;
       report = omega arith;
       lent = record { type = omega arith; left = omega arith; room = record { right = omega arith; frames = omega arith; bound = omega arith } };
     }
@@ -48,7 +48,7 @@ loop-less c =
     let p = c .before .before .before .before .before .before .before .before .before .before .before .before .before .before .before .before .before .before .before .before .before .before .before .before .before .before .before .before .before .before .before .before .before .before .before .before .before .pre in
     let f = more-facts (L .run) (c .before .before .before .before .before .before .before .before .before .before .before .before .before .before .before .before .before .before .before .before .before .before .before .before .before .before .before .before .before .before .before .before .before .before .before .before .before .args .ceiling) (sym (c .before .before .before .before .before .before .before .before .before .before .before .before .before .before .before .before .before .before .before .before .before .before .before .before .before .before .takes-more .ensures) ∙ c .before .before .before .before .before .before .before .before .before .before .before .before .before .before .before .before .before .before .before .before .before .before .before .before .before .if1 .taken) in
     let m = f .2 in
-    let e = c .before .before .before .before .before .before .before .before .before .before .before .before .before .before .before .before .solve-step .ensures .1 in
+    let e = c .before .before .before .before .before .before .before .before .before .before .before .before .before .before .before .before .solve-step .ensures .taken in
     omega arith
 
 loop-again : tie.Need-loop-again Inv-loop μ-loop
@@ -87,7 +87,7 @@ same-length-8 c = c .before .before .loop .inv .8
 returns : tie.Need-returns Inv-loop μ-loop
 returns c =
     let L = c .before .before .loop in
-    (L .inv .0 .reached .formed, loop-end (L .inv .0) (sym (c .before .takes-more .ensures) ∙ c .if1 .left))
+    (L .inv .0 .standing .formed, loop-end (L .inv .0) (sym (c .before .takes-more .ensures) ∙ c .if1 .left))
 
 pub solve-spec : {M : Type 1} → statement M
 solve-spec =

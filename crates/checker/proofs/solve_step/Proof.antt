@@ -1,7 +1,4 @@
-use mathlib.Core.Path.{ap, _∙_}
-use Prim.Native.Nat.{_+_}
 use borrow.Author.Needs.{needs}
-use Rattle.checker.specs.declared.Counters.{Counters}
 use Rattle.checker.proofs.solve_step.Statement.{statement}
 use Rattle.checker.proofs.solve_step.Tie as tie
 
@@ -11,7 +8,7 @@ lend-step-requires c κs = rw (c .before .before .before .before .before .before
 returns : tie.Need-returns
 returns c =
     let e = c .before .before .before .before .before .before .before .before .before .before .before .before .before .before .before .before .before .before .before .lend-step .ensures in
-    rw (c .run-of .ensures) (e .0, e .1 ∙ ap (λ (n : Counters). n .taken + 1) (c .before .before .before .before .before .before .before .before .before .before .before .before .before .before .before .before .before .before .before .before .before .before .before .before .before .before .before .before .before .counters-of .ensures))
+    rw (c .run-of .ensures) (rw (c .before .before .before .before .before .before .before .before .before .before .before .before .before .before .before .before .before .before .before .before .before .before .before .before .before .before .before .before .before .counters-of .ensures, c .before .before .before .before .before .before .before .before .before .before .before .before .before .before .before .before .before .before .before .before .before .before .before .before .before .before .before .before .kept-of .ensures) at e)
 
 pub solve-step-spec : {M : Type 1} → statement M
 solve-step-spec =

@@ -74,7 +74,7 @@ module _ {M : Type 1} (𝓤 : URA M) (H : Heap 𝓤) (A : Atoms 𝓤) (W : Given
   goes g ask =
       qed W ((‵ (flft κ′ q′) ⊛ ‵ ftrue) ∷ ‵ (owns (KT.the-row ∷ rows (named 0) κ′) (k, x) (vals .1)) ∷ []) ∵ says ! ask $ frame ! $ owned ! CT.the-row (Is CT.the-row) (owned-c 𝓤 H A) h _ g $ fjoin ! $ done !
 
-  exits : (r : Stepped) (ws : Lists) → Is KT.the-row (r .kept) (val-k (r .kept) ∷ []) → Says h x (r .counters) (r .kept) ws
+  exits : (r : Stepped) (ws : Lists) → Is KT.the-row (r .kept) (val-k (r .kept) ∷ []) → Says h k x (r .counters) (r .kept) ws
       → ent 𝓤 (⋆ 𝓤 H A (‵ (fobs γ (CT.the-row .coded .code (r .counters))) ∷ ‵ (flft κ q) ∷ (‵ (flft κ′ q′) ⊛ ‵ ftrue) ∷ ‵ (Left κ′ h k x ws) ∷ [])) (Post (val-k (r .kept)))
   exits r ws g e =
       qed W (‵ (fobs γ (CT.the-row .coded .code (r .counters))) ∷ ‵ (flft κ q) ∷ (‵ (flft κ′ q′) ⊛ ‵ ftrue) ∷ ‵ (Left κ′ h k x ws) ∷ []) ∵
@@ -99,7 +99,7 @@ module _ {M : Type 1} (𝓤 : URA M) (H : Heap 𝓤) (A : Atoms 𝓤) (W : Given
         -- `step_apart`
         move ! (65 ∷ 64 ∷ []) $ use2 W (raw (Apart 𝓤 H A mem run .pre to-apart)) (goes g ask) $
         calls-at ! fm (Apart 𝓤 H A mem run) known to-apart (arg ! 37 refl refl (arg ! 59 refl refl (arg ! 33 refl refl (arg ! 29 refl refl (arg ! 25 refl refl (arg ! 51 refl refl (arg ! 21 refl refl (arg ! 17 refl refl (arg ! 13 refl refl (arg ! 9 refl refl (arg ! 5 refl refl (no-more !)))))))))))) (λ w.
-        returned apart.ended (apart.clauses 𝓤 H A mem run) ! tt to-apart w (λ r ws. Says h x (r .counters) (r .kept) (ws .1 .1)) (λ r ws. refl) (λ r ws e. move ! (1 ∷ []) $ peeks ! ST.the-row (Is ST.the-row) (shows 𝓤 H A ST.the-row) r (w ∷ []) (λ is. drop ! $
+        returned apart.ended (apart.clauses 𝓤 H A mem run) ! tt to-apart w (λ r ws. Says h k x (r .counters) (r .kept) (ws .1 .1)) (λ r ws. refl) (λ r ws e. move ! (1 ∷ []) $ peeks ! ST.the-row (Is ST.the-row) (shows 𝓤 H A ST.the-row) r (w ∷ []) (λ is. drop ! $
         -- [the slices' token; the last lists; the counters' cell; the open borrow; obs; auth; _29; …; _0; …]
         land ! (from ! (stop !)) (init ! 40 refl (typed-s 𝓤 H A W r _ is)) $ rewrite ! 40 (λ (u : Val). ‵ (fat fullShare ST′.mir (l .1 .1 .1 .1 .1 .1 .1 .1 .1 .1 .1 .1 .0) 0 u)) (ap only (LL.tells ST.the-type ST′.the-laws r _ is)) refl $
         assigns ! (of-opd ! (load ! (from ! (fld ! refl (stop !))) (look-in ! 40 (sub ! 0 refl (whole !))))) (from ! (hop ! (look ! 62 refl) (stop !))) (store-raw ! 2 refl (typed-c 𝓤 H A W (r .counters) _ (apart-c r w is))) $
