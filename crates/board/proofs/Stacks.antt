@@ -15,7 +15,7 @@ use Rattle.nodes.specs.Nodes.{Ty, words, nodesAt, zeros}
 use Rattle.nodes.proofs.Laws.{length-words, words-append, length-nodesAt, sets-append, getD-sets-below, getD-sets-above, getD-sets-in, nodesAt-same, nodesAt-agree, take-nodesAt, drop-nodesAt}
 use Rattle.spelling.specs.declared.Triple.{Triple}
 use Rattle.judgment.proofs.TypeLaws.{both}
-use Rattle.judgment.specs.Board.{Entry, tvar, var, sub, inf, chk, infApp, entryNodes, boardNodes, Limits, roomFor}
+use Rattle.judgment.specs.Board.{upTo, Entry, tvar, var, sub, inf, chk, infApp, entryNodes, boardNodes, Limits, roomFor}
 use Rattle.judgment.specs.Result.{boardWords}
 use Rattle.board.specs.declared.Board.{Board}
 use Rattle.board.specs.Board.{entryOf, slotOf, word, size, nodesBelow, leftAt, entryAt, entriesOf, Stacked, fitting, laid, grown, topOf}
@@ -201,7 +201,7 @@ module _ {w : List ℕ} {b : Board} (s : Stacked w b) (k n : ℕ) (t u : Ty) (fe
         (λ i l ls. kept .2 i l ls (s .counted i l ls)) (λ ls. ap entryNodes (new-entry ls) ∙ sized ls ∙ sym new-size);
   }
 
-pub fits-room : (ls : List Triple) {w : List ℕ} {b : Board} → Stacked w b → (L : Limits) → L .entries ≡ 512 → L .nodes ≡ 4096 → (e : Entry) (m : ℕ) → entryNodes e ≡ m
+pub fits-room : (ls : List Triple) {w : List ℕ} {b : Board} → Stacked w b → (L : Limits) → L .entries ≡ upTo 512 → L .nodes ≡ upTo 4096 → (e : Entry) (m : ℕ) → entryNodes e ≡ m
     → roomFor L e (entriesOf ls w (b .entries)) ≡ fitting b m
 unfolding boardNodes
 fits-room ls {w} {b} s L p q e m z =

@@ -18,7 +18,7 @@ use Rattle.judgment.specs.Board.{Board as Entries}
 use Rattle.judgment.specs.Rules.{Env, rule}
 use Rattle.judgment.specs.Run.{Step, step, End, accepted, ceiling, refusedBy, addStep, onward, runFrom}
 use Rattle.judgment.specs.Run.{Run as Steps, run as steps}
-use Rattle.judgment.specs.Result.{limits}
+use Rattle.judgment.specs.Result.{limitsWith}
 use Rattle.board.specs.Board.{entryAt, entriesOf}
 use Rattle.book.specs.Book.{sols}
 use Rattle.operations.specs.declared.Halt.{Halt}
@@ -27,7 +27,8 @@ use Rattle.operations.specs.declared.Run.{Run}
 use Rattle.operations.specs.State.{reported, outcomeBy, outcomeOf, stateOf, going}
 use Rattle.operations.proofs.Latch.{going-is}
 use Rattle.applying.specs.Applying.{envOn}
-use Rattle.checker.specs.Running.{stepO, Told, told, endBy, endOf, Standing, Stepping}
+use Rattle.stepping.specs.Stepping.{stepO, Standing, Stepping}
+use Rattle.checker.specs.Running.{Told, told, endBy, endOf}
 
 -- ---- on the definition
 module _ (L : Limits) (E : Env) (C : ℕ) where
@@ -76,18 +77,18 @@ module _ (L : Limits) (E : Env) (C : ℕ) where
 
 -- ---- the loop
 -- T is what the run from the words at its start comes to
-pub record Loop (s : List ℕ) (C : ℕ) (T : Told) (b k rep : List ℕ) (c : Run) : Type 0 where
+pub record Loop (m : ℕ) (s : List ℕ) (C : ℕ) (T : Told) (b k rep : List ℕ) (c : Run) : Type 0 where
   pub standing : Standing s b k c
-  pub left : leftOf limits (envOn s) C (c .taken) (outcomeOf (rows s) b k rep c) ≡ T
+  pub left : leftOf (limitsWith m) (envOn s) C (c .taken) (outcomeOf (rows s) b k rep c) ≡ T
 
 -- the run from the words at the start
-abbrev pub wholeRun : List ℕ → ℕ → List ℕ → List ℕ → Run → Told
-wholeRun s C b k c = told (c .taken) (runFrom limits (envOn s) (C - c .taken) (stateOf (rows s) b k c))
+abbrev pub wholeRun : ℕ → List ℕ → ℕ → List ℕ → List ℕ → Run → Told
+wholeRun m s C b k c = told (c .taken) (runFrom (limitsWith m) (envOn s) (C - c .taken) (stateOf (rows s) b k c))
 
-pub loop-start : {s : List ℕ} (C : ℕ) {b k rep : List ℕ} {c : Run} → Standing s b k c → going (c .halt) ≡ true → Loop s C (wholeRun s C b k c) b k rep c
-loop-start {s} C {b} {k} {rep} {c} r g = record {
+pub loop-start : {m : ℕ} {s : List ℕ} (C : ℕ) {b k rep : List ℕ} {c : Run} → Standing s b k c → going (c .halt) ≡ true → Loop m s C (wholeRun m s C b k c) b k rep c
+loop-start {m} {s} C {b} {k} {rep} {c} r g = record {
   standing = r;
-  left = ap (λ (h : Halt). leftOf limits (envOn s) C (c .taken) (outcomeBy h rep (stateOf (rows s) b k c))) (going-is (c .halt) g);
+  left = ap (λ (h : Halt). leftOf (limitsWith m) (envOn s) C (c .taken) (outcomeBy h rep (stateOf (rows s) b k c))) (going-is (c .halt) g);
 }
 
 -- what the test tells
@@ -97,17 +98,17 @@ more-facts c C e =
     let y = and-eq-true-iff (ltb 0 (c .board .entries)) (ltb (c .taken) C) .0 (x .1) in
     (x .0, ltb-true 0 (c .board .entries) (y .0), ltb-true (c .taken) C (y .1))
 
-pub loop-turn : {s : List ℕ} {C : ℕ} {T : Told} {b k rep : List ℕ} {c : Run} {b' k' rep' : List ℕ} {q : Run} → (going (c .halt) ≡ true) × (0 < c .board .entries) × (c .taken < C)
-    → Loop s C T b k rep c → Stepping s b k rep c b' k' rep' q → Loop s C T b' k' rep' q
-loop-turn {s} {C} {T} {b} {k} {rep} {c} {b'} {k'} {rep'} {q} f h r =
+pub loop-turn : {m : ℕ} {s : List ℕ} {C : ℕ} {T : Told} {b k rep : List ℕ} {c : Run} {b' k' rep' : List ℕ} {q : Run} → (going (c .halt) ≡ true) × (0 < c .board .entries) × (c .taken < C)
+    → Loop m s C T b k rep c → Stepping m s b k rep c b' k' rep' q → Loop m s C T b' k' rep' q
+loop-turn {m} {s} {C} {T} {b} {k} {rep} {c} {b'} {k'} {rep'} {q} f h r =
     let E = envOn s in
     let ls = rows s in
     let g = going-is (c .halt) (f .0) in
-    let t : leftOf limits E C (c .taken + 1) (stepO limits E (outcomeBy (c .halt) rep (stateOf ls b k c))) ≡ leftOf limits E C (c .taken) (outcomeBy (c .halt) rep (stateOf ls b k c)) =
-    rw g (turn-entries limits E C ls b (c .board .entries) (f .1) (c .taken) (f .2) (sols k) (c .fresh)) in
+    let t : leftOf (limitsWith m) E C (c .taken + 1) (stepO (limitsWith m) E (outcomeBy (c .halt) rep (stateOf ls b k c))) ≡ leftOf (limitsWith m) E C (c .taken) (outcomeBy (c .halt) rep (stateOf ls b k c)) =
+    rw g (turn-entries (limitsWith m) E C ls b (c .board .entries) (f .1) (c .taken) (f .2) (sols k) (c .fresh)) in
     record {
       standing = r .standing;
-      left = ap₂ (leftOf limits E C) (r .taken) (r .outcome) ∙ t ∙ h .left;
+      left = ap₂ (leftOf (limitsWith m) E C) (r .taken) (r .outcome) ∙ t ∙ h .left;
     }
 
 -- no more is taken
@@ -121,7 +122,7 @@ ended L E C ls b rep Going i m σ n e = end-entries L E C ls b rep i m σ n (λ 
     go false y p q l z = absurd (let u = ltb-false 0 i p in omega arith)
 ended L E C ls b rep (Refused r) i m σ n e = refl
 
-pub loop-end : {s : List ℕ} {C : ℕ} {T : Told} {b k rep : List ℕ} {c : Run} → Loop s C T b k rep c → (going (c .halt) && (ltb 0 (c .board .entries) && ltb (c .taken) C)) ≡ false
+pub loop-end : {m : ℕ} {s : List ℕ} {C : ℕ} {T : Told} {b k rep : List ℕ} {c : Run} → Loop m s C T b k rep c → (going (c .halt) && (ltb 0 (c .board .entries) && ltb (c .taken) C)) ≡ false
     → T ≡ record { end = endOf rep c; taken = c .taken; last = stateOf (rows s) b k c }
-loop-end {s} {C} {T} {b} {k} {rep} {c} h e =
-    sym (h .left) ∙ ended limits (envOn s) C (rows s) b rep (c .halt) (c .board .entries) (c .taken) (sols k) (c .fresh) e
+loop-end {m} {s} {C} {T} {b} {k} {rep} {c} h e =
+    sym (h .left) ∙ ended (limitsWith m) (envOn s) C (rows s) b rep (c .halt) (c .board .entries) (c .taken) (sols k) (c .fresh) e

@@ -39,10 +39,11 @@ use Rattle.operations.specs.declared.Halt.{Halt}
 use Rattle.operations.specs.declared.Halt.the-variants.{Going, Refused}
 use Rattle.operations.specs.declared.Run.{Run}
 use Rattle.operations.specs.State.{outcomeBy, outcomeOf, stateOf, WellFormed, going}
-use Rattle.checker.specs.Running.{startOf, told, Read, StartAsk, Standing}
-use Rattle.checker.proofs.Judging.{part-stands}
-use Rattle.checker.proofs.Reading.{read-few, read-formed, read-good, read-whole}
-use Rattle.checker.proofs.Reaching.{OutcomeOK, of-outcome, bare-inv}
+use Rattle.stepping.specs.Stepping.{Read, Standing}
+use Rattle.checker.specs.Running.{startOf, told, StartAsk}
+use Rattle.stepping.proofs.Judging.{part-stands}
+use Rattle.stepping.proofs.Reading.{read-few, read-formed, read-good, read-whole}
+use Rattle.stepping.proofs.Reaching.{OutcomeOK, of-outcome, bare-inv}
 
 -- a part that is all there is
 no-lines : (ts : List Triple) → Forms ts [] → ts ≡ []

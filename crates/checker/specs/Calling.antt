@@ -10,7 +10,8 @@ use Rattle.sheet.specs.Plan.{triples, planOf}
 use Rattle.judgment.specs.declared.Answer.{Answer}
 use Rattle.judgment.specs.Result.{Result, Buffers, limits, runOf, judge, call, boardWords, bookWords, reportWords}
 use Rattle.judgment.specs.Promise.{Promise}
-use Rattle.checker.specs.Running.{startOf, Read, Lent}
+use Rattle.stepping.specs.Stepping.{Read, Lent}
+use Rattle.checker.specs.Running.{startOf}
 
 -- what the run of a plan that was read asks: the buffers at their own lengths
 pub record PlanAsk (d b k rep t l r w v : List ℕ) : Type 0 where

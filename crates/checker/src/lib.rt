@@ -1,40 +1,32 @@
-// The run (worklist.rs: `solve`, `solve_judgment`, `check_type`), from a sheet to the seven numbers.
+// The run (worklist.rs: `solve`, `check_type`), from a sheet to the seven numbers.
 ghost use mathlib.Core.Path.{_≡_};
 ghost use mathlib.Core.Bool.{true, cond, _&&_};
 ghost use mathlib.Core.List.{List};
-ghost use Prim.Native.Nat.{ℕ, _+_, _-_, _/_, _<_, _≤_};
+ghost use Prim.Native.Nat.{ℕ, _+_, _-_, _*_, _/_, _<_, _≤_};
 ghost use lib.Dec.{ltb};
 ghost use lib.ListN.{length};
-ghost use Rattle.grammar.specs.declared.Check.the-variants.{Plan};
-ghost use Rattle.grammar.specs.Check.{check};
-ghost use Rattle.sheet.specs.Plan.{triples, planOf};
+ghost use Rattle.sheet.specs.Plan.{triples};
 ghost use Rattle.sheet.specs.Rows.{rows};
-ghost use Rattle.judgment.specs.Rules.{rule};
 ghost use Rattle.judgment.specs.Run.{runFrom};
-ghost use Rattle.judgment.specs.Result.{endNumber, endDetails, limits, judge, refusedAt, tooShort};
-ghost use Rattle.operations.specs.State.{outcomeOf, stateOf, reported, WellFormed, Does, going};
+ghost use Rattle.judgment.specs.Result.{endNumber, endDetails, limits, limitsWith, judge, refusedAt, tooShort};
+ghost use Rattle.operations.specs.State.{outcomeOf, stateOf, reported, WellFormed, going};
 ghost use Rattle.applying.specs.Applying.{envOn};
 ghost use Rattle.judgment.specs.Board.{finished};
-ghost use Rattle.checker.specs.Running.{startOf, told, endBy, endOf, reportEnd, answerBy, topEntry, StartAsk, JudgeAsk, Standing, Stepping, StepAsk, Lent, joined, countersOf, keptOf};
+ghost use Rattle.stepping.specs.Stepping.{Standing, Lent};
+ghost use Rattle.checker.specs.Running.{startOf, told, endBy, endOf, reportEnd, answerBy, StartAsk};
 ghost use Rattle.checker.specs.Calling.{PlanAsk, RunAsk, RowsAsk, Ran, FrontAsk, Fronted, Answered};
-use applying::solve_inf_app;
 use board::Board;
-use board::Top;
 use board::clear_board;
-use board::pop;
 use book::Book;
 use book::clear_book;
-use checking::solve_checking;
 use grammar::Check;
 use grammar::check_sheet;
-use inferring::solve_inference;
 use judgment::Answer;
 use judgment::Details;
 use judgment::TypeError;
 use judgment::error_details;
 use judgment::error_number;
 use nodes::clear_words;
-use nodes::copy_nodes;
 use nodes::wide;
 use operations::Halt;
 use operations::Run;
@@ -45,212 +37,7 @@ use sheet::find_places;
 use sheet::is_plain;
 use sheet::part_line;
 use sheet::read_rows;
-use subtyping::solve_subtype;
-
-// The counters of a run: entries taken, fresh numbers, the board's entries and their nodes. A step is lent them.
-pub struct Counters {
-    pub taken: u32,
-    pub fresh: u32,
-    pub entries: usize,
-    pub nodes: usize,
-}
-
-// What a run has beside its counters.
-struct Kept {
-    book: Book,
-    halt: Halt,
-}
-
-struct Stepped {
-    counters: Counters,
-    kept: Kept,
-}
-
-// Performs the rule of an entry that was taken off the board. A type is copied where the rule's pushes would write over it; a TVar or a Var is dropped.
-fn solve_judgment(
-    board: &mut [u32],
-    book: &mut [u32],
-    report: &mut [u32],
-    c: Run,
-    o: Top,
-    s: &[u64],
-    t: &mut [u32],
-    l: &mut [u32],
-    r: &mut [u32],
-    w: &mut [usize],
-    v: &mut [usize],
-) -> Run
-    requires { ⌜ JudgeAsk (now s) (now board) (now book) (now report) c o (now t) (now l) (now r) (now w) (now v) ⌝ }
-    ensures { λ q. ⌜ Does 1024 (rows (now (s .entry))) (now (board .entry)) (now (book .entry)) (now (report .entry)) c (rule (envOn (now (s .entry))) (topEntry (rows (now (s .entry))) (now (board .entry)) o)) (now (board .exit)) (now (book .exit)) (now (report .exit)) q ⌝ }
-{
-    let kind = o.kind;
-    let line = o.number;
-    let at = o.at;
-    let n = o.left;
-    if kind == 3 {
-        return solve_subtype(board, book, report, c, at, n, o.right, Zonked::NODES);
-    }
-    if kind == 4 {
-        copy_nodes(t, 0, board, at, n);
-        return solve_inference(board, c, s, line, t, n, l, r, w, v);
-    }
-    if kind == 5 {
-        copy_nodes(t, 0, board, at, n);
-        return solve_checking(board, c, s, line, t, n, l);
-    }
-    if kind == 6 {
-        return solve_inf_app(board, book, report, c, line, at, n, o.right, Zonked::NODES);
-    }
-    c
-}
-
-// The run that counters and the rest make together.
-fn run_of(n: Counters, k: Kept) -> Run
-    ensures { λ r. ⌜ r ≡ joined n k ⌝ }
-{
-    let book = k.book;
-    let halt = k.halt;
-    Run {
-        taken: n.taken,
-        fresh: n.fresh,
-        board: Board {
-            entries: n.entries,
-            nodes: n.nodes,
-        },
-        book,
-        halt,
-    }
-}
-
-fn counters_of(run: Run) -> Counters
-    ensures { λ r. ⌜ r ≡ countersOf run ⌝ }
-{
-    let board = run.board;
-    Counters {
-        taken: run.taken,
-        fresh: run.fresh,
-        entries: board.entries,
-        nodes: board.nodes,
-    }
-}
-
-fn kept_of(run: Run) -> Kept
-    ensures { λ r. ⌜ r ≡ keptOf run ⌝ }
-{
-    let book = run.book;
-    let halt = run.halt;
-    Kept { book, halt }
-}
-
-// One step: takes the newest entry. The slices have one lifetime here and in the two functions below, so that a proof by hand has one token for them all.
-fn step_apart<'a>(
-    c: Counters,
-    kept: Kept,
-    board: &'a mut [u32],
-    book: &'a mut [u32],
-    report: &'a mut [u32],
-    s: &'a [u64],
-    t: &'a mut [u32],
-    l: &'a mut [u32],
-    r: &'a mut [u32],
-    w: &'a mut [usize],
-    v: &'a mut [usize],
-) -> Stepped
-    requires { ⌜ StepAsk (now s) (now board) (now book) (now report) (joined c kept) (now t) (now l) (now r) (now w) (now v) ⌝ }
-    ensures { λ q. ⌜ Stepping (now (s .entry)) (now (board .entry)) (now (book .entry)) (now (report .entry)) (joined c kept) (now (board .exit)) (now (book .exit)) (now (report .exit)) (joined (q .counters) (q .kept)) ⌝ }
-{
-    let b = Board {
-        entries: c.entries,
-        nodes: c.nodes,
-    };
-    let o = pop(board, b);
-    let rest = o.rest;
-    let solved = kept.book;
-    let halt = kept.halt;
-    let taken = Run {
-        taken: c.taken + 1,
-        fresh: c.fresh,
-        board: rest,
-        book: solved,
-        halt,
-    };
-    let q = solve_judgment(board, book, report, taken, o, s, t, l, r, w, v);
-    Stepped {
-        counters: counters_of(q),
-        kept: kept_of(q),
-    }
-}
-
-// The same with the counters lent: they are changed where they stand.
-fn step_lent<'c, 'a>(
-    c: &'c mut Counters,
-    kept: Kept,
-    board: &'a mut [u32],
-    book: &'a mut [u32],
-    report: &'a mut [u32],
-    s: &'a [u64],
-    t: &'a mut [u32],
-    l: &'a mut [u32],
-    r: &'a mut [u32],
-    w: &'a mut [usize],
-    v: &'a mut [usize],
-) -> Kept
-    requires { ⌜ StepAsk (now s) (now board) (now book) (now report) (joined (now c) kept) (now t) (now l) (now r) (now w) (now v) ⌝ }
-    ensures { λ q. ⌜ Stepping (now (s .entry)) (now (board .entry)) (now (book .entry)) (now (report .entry)) (joined (now (c .entry)) kept) (now (board .exit)) (now (book .exit)) (now (report .exit)) (joined (now (c .exit)) q) ⌝ }
-{
-    let q = step_apart(*c, kept, board, book, report, s, t, l, r, w, v);
-    *c = q.counters;
-    q.kept
-}
-
-// Lends them. Its parameters are plain, so whoever calls it needs no proof by hand.
-fn lend_step<'a>(
-    c: Counters,
-    kept: Kept,
-    board: &'a mut [u32],
-    book: &'a mut [u32],
-    report: &'a mut [u32],
-    s: &'a [u64],
-    t: &'a mut [u32],
-    l: &'a mut [u32],
-    r: &'a mut [u32],
-    w: &'a mut [usize],
-    v: &'a mut [usize],
-) -> Stepped
-    requires { ⌜ StepAsk (now s) (now board) (now book) (now report) (joined c kept) (now t) (now l) (now r) (now w) (now v) ⌝ }
-    ensures { λ q. ⌜ Stepping (now (s .entry)) (now (board .entry)) (now (book .entry)) (now (report .entry)) (joined c kept) (now (board .exit)) (now (book .exit)) (now (report .exit)) (joined (q .counters) (q .kept)) ⌝ }
-{
-    let mut mine = c;
-    let k = step_lent(&mut mine, kept, board, book, report, s, t, l, r, w, v);
-    Stepped {
-        counters: mine,
-        kept: k,
-    }
-}
-
-// One step of a run, its counters lent.
-fn solve_step(
-    board: &mut [u32],
-    book: &mut [u32],
-    report: &mut [u32],
-    c: Run,
-    s: &[u64],
-    t: &mut [u32],
-    l: &mut [u32],
-    r: &mut [u32],
-    w: &mut [usize],
-    v: &mut [usize],
-) -> Run
-    requires { ⌜ StepAsk (now s) (now board) (now book) (now report) c (now t) (now l) (now r) (now w) (now v) ⌝ }
-    ensures { λ q. ⌜ Stepping (now (s .entry)) (now (board .entry)) (now (book .entry)) (now (report .entry)) c (now (board .exit)) (now (book .exit)) (now (report .exit)) q ⌝ }
-{
-    let counters = counters_of(c);
-    let kept = kept_of(c);
-    let q = lend_step(counters, kept, board, book, report, s, t, l, r, w, v);
-    let n = q.counters;
-    let k = q.kept;
-    run_of(n, k)
-}
+use stepping::solve_step;
 
 // An entry is to be taken: the run was not refused, one remains, and the ceiling is not reached.
 fn takes_more(c: Run, ceiling: u32) -> bool
@@ -274,18 +61,19 @@ fn solve(
     c: Run,
     s: &[u64],
     ceiling: u32,
+    limit: usize,
     t: &mut [u32],
     l: &mut [u32],
     r: &mut [u32],
     w: &mut [usize],
     v: &mut [usize],
 ) -> Run
-    requires { ⌜ Standing (now s) (now board) (now book) c × (going (c .halt) ≡ true) × (4096 ≤ length (now report)) × Lent (now s) (now t) (now l) (now r) (now w) (now v) ⌝ }
-    ensures { λ q. ⌜ WellFormed (now (board .exit)) (now (book .exit)) q × (told (c .taken) (runFrom limits (envOn (now (s .entry))) (ceiling - c .taken) (stateOf (rows (now (s .entry))) (now (board .entry)) (now (book .entry)) c)) ≡ record { end = endOf (now (report .exit)) q; taken = q .taken; last = stateOf (rows (now (s .entry))) (now (board .exit)) (now (book .exit)) q }) ⌝ }
+    requires { ⌜ Standing (now s) (now board) (now book) c × (going (c .halt) ≡ true) × (limit ≤ 4096) × (4 * limit ≤ length (now report)) × Lent (now s) (now t) (now l) (now r) (now w) (now v) ⌝ }
+    ensures { λ q. ⌜ WellFormed (now (board .exit)) (now (book .exit)) q × (told (c .taken) (runFrom (limitsWith limit) (envOn (now (s .entry))) (ceiling - c .taken) (stateOf (rows (now (s .entry))) (now (board .entry)) (now (book .entry)) c)) ≡ record { end = endOf (now (report .exit)) q; taken = q .taken; last = stateOf (rows (now (s .entry))) (now (board .exit)) (now (book .exit)) q }) ⌝ }
 {
     let mut run = c;
     while takes_more(run, ceiling) {
-        run = solve_step(board, book, report, run, s, t, l, r, w, v);
+        run = solve_step(board, book, report, run, s, limit, t, l, r, w, v);
     }
     run
 }
@@ -415,7 +203,20 @@ fn check_plan(
     ensures { λ o. ⌜ Ran (judge limits ceiling (rows (now (s .entry)))) (now (board .exit)) (now (book .exit)) (now (report .exit)) o ⌝ }
 {
     let c = start(board, book, s, t);
-    let o = solve(board, book, report, c, s, ceiling, t, l, r, w, v);
+    let o = solve(
+        board,
+        book,
+        report,
+        c,
+        s,
+        ceiling,
+        Zonked::NODES,
+        t,
+        l,
+        r,
+        w,
+        v,
+    );
     clear_board(board);
     let halt = o.halt;
     let end = report_end(halt);

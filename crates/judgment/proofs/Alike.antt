@@ -12,7 +12,7 @@ use Rattle.judgment.specs.declared.TypeError.{TypeError}
 use Rattle.judgment.specs.Types.{unknown, eqTy, View, isArrow, isApp, isForall, isUnknown, isOther, view, canUnify, occurs, isMonotype}
 use Rattle.judgment.specs.Terms.{Term, Lambda, lambdaOf}
 use Rattle.judgment.specs.Solutions.{_≔_, Solutions, find, writeOut, solutionNodes}
-use Rattle.judgment.specs.Board.{Entry, var, Board, entryNodes, boardNodes, varNamed, orElse, findVar, isTVar, hasTVar, before, Limits, Rule, done, refuse, fresh, push, solve, zonk, look, state, Outcome, finished, refused, solving, roomFor, perform}
+use Rattle.judgment.specs.Board.{below, within, Entry, var, Board, entryNodes, boardNodes, varNamed, orElse, findVar, isTVar, hasTVar, before, Limits, Rule, done, refuse, fresh, push, solve, zonk, look, state, Outcome, finished, refused, solving, roomFor, perform}
 use Rattle.judgment.specs.Rules.{Env, Side, left, right, openBody, solveMonotype, instantiateBy, instantiateFrom, mismatch, unknownLeft, unknownRight, subtypeBy, subtype, variable, checkArrow, checkBy, applyBy, inferApp}
 
 -- ---- boards that no rule tells apart
@@ -93,7 +93,7 @@ module _ (L : Limits) where
 
   pub fresh-parallel : {f g : ℕ → Rule} → ((n : ℕ) → Parallel (f n) (g n)) → Parallel (fresh f) (fresh g)
   unfolding perform
-  fresh-parallel k = record { go = λ σ n h. either (ltb n (L .numbers)) (k n .go σ (suc n) h) stop }
+  fresh-parallel k = record { go = λ σ n h. either (below n (L .numbers)) (k n .go σ (suc n) h) stop }
 
   pub push-parallel : {e : Entry} {p q : Rule} → Parallel p q → Parallel (push e p) (push e q)
   unfolding perform boardNodes
@@ -110,9 +110,9 @@ module _ (L : Limits) where
   steady-parallel (push e p) s = push-parallel (steady-parallel p s)
   steady-parallel (solve k t p) s =
       let i = steady-parallel p s in
-      record { go = λ σ n h. solving-agree (find k σ) t (either (leb (solutionNodes σ + length t) (L .solved)) (i .go (σ ++ (_≔_ k t ∷ [])) n h) stop) (i .go σ n h) stop }
+      record { go = λ σ n h. solving-agree (find k σ) t (either (within (solutionNodes σ + length t) (L .solved)) (i .go (σ ++ (_≔_ k t ∷ [])) n h) stop) (i .go σ n h) stop }
   steady-parallel (zonk t f) s =
-      record { go = λ σ n h. either (leb (length (writeOut σ t)) (L .written)) (steady-parallel (f (writeOut σ t)) (s (writeOut σ t)) .go σ n h) stop }
+      record { go = λ σ n h. either (within (length (writeOut σ t)) (L .written)) (steady-parallel (f (writeOut σ t)) (s (writeOut σ t)) .go σ n h) stop }
   steady-parallel (look f) s =
       record { go = λ {Γ} {Δ} σ n h. subst (λ p. Agree (perform L (f Γ) Γ σ n) (perform L p Δ σ n)) (s .0 Γ Δ h) (steady-parallel (f Γ) (s .1 Γ) .go σ n h) }
 

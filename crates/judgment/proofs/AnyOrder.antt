@@ -17,7 +17,7 @@ use Rattle.judgment.specs.declared.TypeError.the-variants.{BoardFull, Ar
 use Rattle.judgment.specs.Types.{unknown, View, isArrow, isApp, isForall, isUnknown, isOther, view, Renaming, rename, frontNames, afterFront}
 use Rattle.judgment.specs.Terms.{Term, part, afterParts, TermView, isVar, isLitInt, isLambda, isApply, isTypeLambda, isConstructor, isCase, isBinOp, isIf, isIntrinsic, isNone, termView, PatternView, isWildcard, isPatternVar, isPatternConstructor, patternView}
 use Rattle.judgment.specs.Solutions.{Solutions}
-use Rattle.judgment.specs.Board.{Entry, tvar, var, sub, inf, chk, infApp, Board, boardNodes, findVar, Limits, Rule, refuse, Operation, State, state, Outcome, refused, roomFor, perform}
+use Rattle.judgment.specs.Board.{Limit, upTo, unlimited, below, within, Entry, tvar, var, sub, inf, chk, infApp, Board, boardNodes, findVar, Limits, Rule, refuse, Operation, State, state, Outcome, refused, roomFor, perform}
 use Rattle.judgment.specs.Rules.{Env, subtype, openNames, signatureBy, signatureFrom, insert, pushVars, patternParts, patternConstructor, patternBy, checkPatterns, checkArms, variable, constructor, inferBy, checkBy, inferApp, rule}
 use Rattle.judgment.specs.Run.{Step, End, Run, run, addStep, onward, runFrom, checkType}
 use Rattle.judgment.specs.Result.{resultOf, envOf, runOf, judge}
@@ -26,16 +26,20 @@ use Rattle.judgment.proofs.TypeLaws.{both}
 use Rattle.judgment.proofs.Alike.{Alike, empty, entry, vars, Near, alike-length, Agree, finish, stop, Steady, Parallel, done-parallel, refuse-parallel, fresh-parallel, push-parallel, steady-parallel, subtype-steady, variable-steady, checkBy-steady, inferApp-steady}
 use Rattle.judgment.proofs.Reordered.{total, onto, reordered-length, reordered-total, onto-near, Rising, rising-distinct, insert-rising}
 
+within-less : (j k : ℕ) (l : Limit) → within k l ≡ true → j ≤ k → within j l ≡ true
+within-less j k (upTo m) e p = le-leb j m (le-trans p (leb-true k m e))
+within-less j k unlimited e p = refl
+
 -- ---- the Vars pushed
 module _ (L : Limits) where
   -- room for so many entries with so many nodes
   abbrev fits : ℕ → ℕ → Bool
-  fits k m = leb k (L .entries) && leb m (L .nodes)
+  fits k m = within k (L .entries) && within m (L .nodes)
 
   fits-less : (j k l m : ℕ) → fits k m ≡ true → j ≤ k → l ≤ m → fits j l ≡ true
   fits-less j k l m e p q =
-      let h = both (leb k (L .entries)) (leb m (L .nodes)) e in
-      ap₂ _&&_ (le-leb j (L .entries) (le-trans p (leb-true k (L .entries) (h .0)))) (le-leb l (L .nodes) (le-trans q (leb-true m (L .nodes) (h .1))))
+      let h = both (within k (L .entries)) (within m (L .nodes)) e in
+      ap₂ _&&_ (within-less j k (L .entries) (h .0) p) (within-less l m (L .nodes) (h .1) q)
 
   -- if all fit, all are pushed; else one of them is refused
   all-pushed : (bs : Bindings) (p : Rule) (Γ : Board) (σ : Solutions) (n : ℕ) → fits (length bs + length Γ) (total bs + boardNodes Γ) ≡ true

@@ -14,7 +14,7 @@ use Rattle.judgment.specs.declared.TypeError.{TypeError}
 use Rattle.judgment.specs.declared.TypeError.the-variants.{TypeUnificationError}
 use Rattle.judgment.specs.Types.{canUnify}
 use Rattle.judgment.specs.Solutions.{Solution, _≔_, Solutions, find, writeOut, solutionNodes}
-use Rattle.judgment.specs.Board.{Entry, Board, Limits, Rule, done, refuse, fresh, push, solve, zonk, look, Operation, made, pushed, gave, met, State, state, Outcome, finished, refused, roomFor, solving, perform, operations}
+use Rattle.judgment.specs.Board.{below, within, Entry, Board, Limits, Rule, done, refuse, fresh, push, solve, zonk, look, Operation, made, pushed, gave, met, State, state, Outcome, finished, refused, roomFor, solving, perform, operations}
 use Rattle.judgment.specs.Rules.{Env, rule}
 use Rattle.judgment.specs.Run.{Step, step, End, refusedBy, Run, run, steps, final, addStep, onto, onward, runFrom}
 use Rattle.judgment.specs.Promise.{taken, events, pushes, given, NotMet, board, solutions}
@@ -55,19 +55,19 @@ module _ (L : Limits) where
   unfolding perform operations count
   rule-left done Γ σ n = stays Γ σ n
   rule-left (refuse r ts) Γ σ n = refuses r ts Γ σ n
-  rule-left (fresh f) Γ σ n = both (ltb n (L .numbers)) (let r = rule-left (f n) Γ σ (suc n) in record { gives = r .gives; counts = r .counts }) (refuses _ _ Γ σ n)
+  rule-left (fresh f) Γ σ n = both (below n (L .numbers)) (let r = rule-left (f n) Γ σ (suc n) in record { gives = r .gives; counts = r .counts }) (refuses _ _ Γ σ n)
   rule-left (push e p) Γ σ n =
       both (roomFor L e Γ)
       (let r = rule-left p (e ∷ Γ) σ n in record { gives = r .gives; counts = λ q. (let c = r .counts q in omega arith) })
       (refuses _ _ Γ σ n)
   rule-left (solve k s p) Γ σ n =
       solve-left (find k σ) s
-      (both (leb (solutionNodes σ + length s) (L .solved))
+      (both (within (solutionNodes σ + length s) (L .solved))
       (let r = rule-left p Γ (σ ++ (_≔_ k s ∷ [])) n in record { gives = r .gives ∙ append-assoc σ (_≔_ k s ∷ []) _; counts = r .counts })
       (refuses _ _ Γ σ n))
       (let r = rule-left p Γ σ n in record { gives = r .gives; counts = r .counts })
       (let r = refuses TypeUnificationError [] Γ σ n in record { gives = r .gives; counts = r .counts })
-  rule-left (zonk t f) Γ σ n = both (leb (length (writeOut σ t)) (L .written)) (rule-left (f (writeOut σ t)) Γ σ n) (refuses _ _ Γ σ n)
+  rule-left (zonk t f) Γ σ n = both (within (length (writeOut σ t)) (L .written)) (rule-left (f (writeOut σ t)) Γ σ n) (refuses _ _ Γ σ n)
   rule-left (look f) Γ σ n = rule-left (f Γ) Γ σ n
 
   -- a rule that keeps the invariant meets no solved unknown
@@ -77,19 +77,19 @@ module _ (L : Limits) where
   rule-unmet Plain Q done Γ σ n i g = tt
   rule-unmet Plain Q (refuse r ts) Γ σ n i g = tt
   rule-unmet Plain Q (fresh f) Γ σ n i g =
-      cond-ind (All NotMet) (ltb n (L .numbers)) (λ _. (tt, rule-unmet Plain Q (f n) Γ σ (suc n) (inv-fresh Plain i) g)) (λ _. tt)
+      cond-ind (All NotMet) (below n (L .numbers)) (λ _. (tt, rule-unmet Plain Q (f n) Γ σ (suc n) (inv-fresh Plain i) g)) (λ _. tt)
   rule-unmet Plain Q (push e p) Γ σ n i g =
       cond-ind (All NotMet) (roomFor L e Γ) (λ _. (tt, rule-unmet Plain Q p (e ∷ Γ) σ n (inv-push Plain e (g .0) i) (g .1))) (λ _. tt)
   rule-unmet Plain Q (solve k s p) Γ σ n i g =
       subst⁻¹ (λ o. All NotMet (solving o s
-      (cond (leb (solutionNodes σ + length s) (L .solved)) (gave k s ∷ operations L p Γ (σ ++ (_≔_ k s ∷ [])) n) [])
+      (cond (within (solutionNodes σ + length s) (L .solved)) (gave k s ∷ operations L p Γ (σ ++ (_≔_ k s ∷ [])) n) [])
       (met k ∷ operations L p Γ σ n)
       (met k ∷ [])))
       (find-none σ k (g .0 .unsolved))
-      (cond-ind (All NotMet) (leb (solutionNodes σ + length s) (L .solved))
+      (cond-ind (All NotMet) (within (solutionNodes σ + length s) (L .solved))
       (λ _. (tt, rule-unmet Plain Q p Γ (σ ++ (_≔_ k s ∷ [])) n (inv-solve Plain k s (g .0) i) (g .1))) (λ _. tt))
   rule-unmet Plain Q (zonk t f) Γ σ n i g =
-      cond-ind (All NotMet) (leb (length (writeOut σ t)) (L .written)) (λ _. rule-unmet Plain Q (f (writeOut σ t)) Γ σ n i g) (λ _. tt)
+      cond-ind (All NotMet) (within (length (writeOut σ t)) (L .written)) (λ _. rule-unmet Plain Q (f (writeOut σ t)) Γ σ n i g) (λ _. tt)
   rule-unmet Plain Q (look f) Γ σ n i g = rule-unmet Plain Q (f Γ) Γ σ n i g
 
 -- ---- given and pushed, of several steps

@@ -22,7 +22,7 @@ use Rattle.judgment.specs.declared.TypeError.{TypeError}
 use Rattle.judgment.specs.declared.TypeError.the-variants.{UnboundVariable, UnboundDataConstructor, NotAFunction, ArityMismatch, SubtypingError, TypeUnificationError, InstantiationError, IntrinsicArityMismatch, UnknownIntrinsic, BoardFull, TypeTooLong, NoFreshNumber, SolutionsFull}
 use Rattle.judgment.specs.Solutions.{Solution, _≔_, Solutions, key, value, find, writeOut, solutionNodes, Avoids, Free, keysAfter, keys, Fine}
 use Rattle.judgment.proofs.SolutionLaws.{fine-snoc, find-none}
-use Rattle.judgment.specs.Board.{Entry, tvar, var, sub, inf, chk, infApp, Board, Limits, Rule, done, refuse, fresh, push, solve, zonk, look, State, state, Outcome, finished, refused, perform, roomFor, solving}
+use Rattle.judgment.specs.Board.{below, within, Entry, tvar, var, sub, inf, chk, infApp, Board, Limits, Rule, done, refuse, fresh, push, solve, zonk, look, State, state, Outcome, finished, refused, perform, roomFor, solving}
 
 -- no quantifier
 abbrev pub Mono : Node → Type 0
@@ -132,19 +132,19 @@ module _ (Plain : Type 0) where
     perform-kept done Γ σ n i g = (i, g)
     perform-kept (refuse r ts) Γ σ n i g = (i, g)
     perform-kept (fresh f) Γ σ n i g =
-        cond-ind (Kept Q) (ltb n (L .numbers)) (λ _. perform-kept (f n) Γ σ (suc n) (inv-fresh i) g) (λ _. (i, tt))
+        cond-ind (Kept Q) (below n (L .numbers)) (λ _. perform-kept (f n) Γ σ (suc n) (inv-fresh i) g) (λ _. (i, tt))
     perform-kept (push e p) Γ σ n i g =
         cond-ind (Kept Q) (roomFor L e Γ) (λ _. perform-kept p (e ∷ Γ) σ n (inv-push e (g .0) i) (g .1)) (λ _. (i, tt))
     perform-kept (solve k s p) Γ σ n i g =
         subst⁻¹ (λ o. Kept Q (solving o s
-        (cond (leb (solutionNodes σ + length s) (L .solved)) (perform L p Γ (σ ++ (_≔_ k s ∷ [])) n) (refused SolutionsFull [] (state Γ σ n)))
+        (cond (within (solutionNodes σ + length s) (L .solved)) (perform L p Γ (σ ++ (_≔_ k s ∷ [])) n) (refused SolutionsFull [] (state Γ σ n)))
         (perform L p Γ σ n)
         (refused TypeUnificationError [] (state Γ σ n))))
         (find-none σ k (g .0 .unsolved))
-        (cond-ind (Kept Q) (leb (solutionNodes σ + length s) (L .solved))
+        (cond-ind (Kept Q) (within (solutionNodes σ + length s) (L .solved))
         (λ _. perform-kept p Γ (σ ++ (_≔_ k s ∷ [])) n (inv-solve k s (g .0) i) (g .1)) (λ _. (i, tt)))
     perform-kept (zonk t f) Γ σ n i g =
-        cond-ind (Kept Q) (leb (length (writeOut σ t)) (L .written)) (λ _. perform-kept (f (writeOut σ t)) Γ σ n i g) (λ _. (i, tt))
+        cond-ind (Kept Q) (within (length (writeOut σ t)) (L .written)) (λ _. perform-kept (f (writeOut σ t)) Γ σ n i g) (λ _. (i, tt))
     perform-kept (look f) Γ σ n i g = perform-kept (f Γ) Γ σ n i g
 
 -- Whatever a rule does, it adds: the board keeps its entries, the solutions stay.
@@ -171,19 +171,19 @@ pub perform-grows : (L : Limits) (p : Rule) (Γ : Board) (σ : Solutions) (n : �
 unfolding perform
 perform-grows L done Γ σ n = same Γ σ
 perform-grows L (refuse r ts) Γ σ n = same Γ σ
-perform-grows L (fresh f) Γ σ n = cond-ind (Grown Γ σ) (ltb n (L .numbers)) (λ _. perform-grows L (f n) Γ σ (suc n)) (λ _. same Γ σ)
+perform-grows L (fresh f) Γ σ n = cond-ind (Grown Γ σ) (below n (L .numbers)) (λ _. perform-grows L (f n) Γ σ (suc n)) (λ _. same Γ σ)
 perform-grows L (push e p) Γ σ n =
     cond-ind (Grown Γ σ) (roomFor L e Γ) (λ _. grown-push e Γ σ (perform L p (e ∷ Γ) σ n) (perform-grows L p (e ∷ Γ) σ n)) (λ _. same Γ σ)
 perform-grows L (solve k s p) Γ σ n =
     solving-grows Γ σ (find k σ) s
-    (cond (leb (solutionNodes σ + length s) (L .solved)) (perform L p Γ (σ ++ (_≔_ k s ∷ [])) n) (refused SolutionsFull [] (state Γ σ n)))
+    (cond (within (solutionNodes σ + length s) (L .solved)) (perform L p Γ (σ ++ (_≔_ k s ∷ [])) n) (refused SolutionsFull [] (state Γ σ n)))
     (perform L p Γ σ n)
     (refused TypeUnificationError [] (state Γ σ n))
-    (cond-ind (Grown Γ σ) (leb (solutionNodes σ + length s) (L .solved))
+    (cond-ind (Grown Γ σ) (within (solutionNodes σ + length s) (L .solved))
     (λ _. grown-solve (_≔_ k s) Γ σ (perform L p Γ (σ ++ (_≔_ k s ∷ [])) n) (perform-grows L p Γ (σ ++ (_≔_ k s ∷ [])) n))
     (λ _. same Γ σ))
     (perform-grows L p Γ σ n)
     (same Γ σ)
 perform-grows L (zonk t f) Γ σ n =
-    cond-ind (Grown Γ σ) (leb (length (writeOut σ t)) (L .written)) (λ _. perform-grows L (f (writeOut σ t)) Γ σ n) (λ _. same Γ σ)
+    cond-ind (Grown Γ σ) (within (length (writeOut σ t)) (L .written)) (λ _. perform-grows L (f (writeOut σ t)) Γ σ n) (λ _. same Γ σ)
 perform-grows L (look f) Γ σ n = perform-grows L (f Γ) Γ σ n

@@ -8,7 +8,7 @@ use lib.ListN.{length}
 use Rattle.nodes.specs.Nodes.{Ty}
 use Rattle.judgment.specs.declared.TypeError.the-variants.{TypeTooLong}
 use Rattle.judgment.specs.Solutions.{Solutions, writeOut}
-use Rattle.judgment.specs.Board.{Board, Limits, Rule, zonk, Outcome, refused, state, Operation, perform, operations}
+use Rattle.judgment.specs.Board.{below, within, Board, Limits, Rule, zonk, Outcome, refused, state, Operation, perform, operations}
 
 either-way : {A : Type 0} (a b : Bool) (x y : A) → cond a (cond b x y) y ≡ cond b (cond a x y) y
 either-way true b x y = refl
@@ -17,7 +17,7 @@ either-way false false x y = refl
 
 module _ (L : Limits) (s t : Ty) (f : Ty → Ty → Rule) (Γ : Board) (σ : Solutions) (n : ℕ) where
   fits : Ty → Bool
-  fits u = leb (length (writeOut σ u)) (L .written)
+  fits u = within (length (writeOut σ u)) (L .written)
 
   -- the same outcome, 23 among it
   pub zonks-either-way : perform L (zonk s (λ a. zonk t (λ b. f a b))) Γ σ n ≡ perform L (zonk t (λ b. zonk s (λ a. f a b))) Γ σ n

@@ -21,7 +21,7 @@ use Rattle.sheet.proofs.Formed.{formed}
 use Rattle.judgment.specs.Types.{unknown, eqTy, View, isArrow, isApp, isForall, isUnknown, isOther, view, occurs, isMonotype, substitute, Renaming, rename, frontNames, afterFront, canUnify}
 use Rattle.judgment.specs.Terms.{Term, part, afterParts, Lambda, lambdaOf, TermView, isVar, isLitInt, isLambda, isApply, isTypeLambda, isConstructor, isCase, isBinOp, isIf, isIntrinsic, isNone, termView, PatternView, isWildcard, isPatternVar, isPatternConstructor, patternView}
 use Rattle.judgment.specs.Solutions.{_≔_, Solutions, value, find, writeOut, solutionNodes}
-use Rattle.judgment.specs.Board.{Entry, tvar, var, sub, inf, chk, infApp, Board, varNamed, orElse, findVar, before, Limits, Rule, done, refuse, fresh, push, solve, zonk, look, State, state, Outcome, finished, refused, solving, roomFor, Operation, perform, operations}
+use Rattle.judgment.specs.Board.{below, within, Entry, tvar, var, sub, inf, chk, infApp, Board, varNamed, orElse, findVar, before, Limits, Rule, done, refuse, fresh, push, solve, zonk, look, State, state, Outcome, finished, refused, solving, roomFor, Operation, perform, operations}
 use Rattle.judgment.specs.Rules.{Env, Side, left, right, onSide, offSide, openBody, solveMonotype, instantiateBy, instantiateFrom, mismatch, forallRight, forallLeft, unknownRight, unknownLeft, subtypeBy, subtype, openNames, instantiateConstructor, signatureBy, signatureFrom, insert, pushVars, patternParts, patternConstructor, patternBy, checkPatterns, checkArms, variable, constructor, inferBy, synthesize, checkArrow, checkBy, applyBy, inferApp, rule}
 use Rattle.judgment.specs.Run.{Step, step, Run, run, addStep, onward, runFrom}
 use Rattle.judgment.specs.Result.{envOf}
@@ -71,18 +71,18 @@ unfolding perform
 perform-whole L done Γ σ n hΓ hσ g = (hΓ, hσ)
 perform-whole L (refuse r ts) Γ σ n hΓ hσ g = (hΓ, hσ)
 perform-whole L (fresh f) Γ σ n hΓ hσ g =
-    cond-ind OutcomeWhole (ltb n (L .numbers)) (λ _. perform-whole L (f n) Γ σ (suc n) hΓ hσ (g n)) (λ _. (hΓ, hσ))
+    cond-ind OutcomeWhole (below n (L .numbers)) (λ _. perform-whole L (f n) Γ σ (suc n) hΓ hσ (g n)) (λ _. (hΓ, hσ))
 perform-whole L (push e p) Γ σ n hΓ hσ g =
     cond-ind OutcomeWhole (roomFor L e Γ) (λ _. perform-whole L p (e ∷ Γ) σ n (g .0, hΓ) hσ (g .1)) (λ _. (hΓ, hσ))
 perform-whole L (solve k s p) Γ σ n hΓ hσ g =
     solving-ind OutcomeWhole (find k σ) s
-    (cond-ind OutcomeWhole (leb (solutionNodes σ + length s) (L .solved))
+    (cond-ind OutcomeWhole (within (solutionNodes σ + length s) (L .solved))
     (λ _. perform-whole L p Γ (σ ++ (_≔_ k s ∷ [])) n hΓ (all-append (λ x. IsTy (value x)) σ (_≔_ k s ∷ []) hσ (g .0, tt)) (g .1))
     (λ _. (hΓ, hσ)))
     (perform-whole L p Γ σ n hΓ hσ (g .1))
     (hΓ, hσ)
 perform-whole L (zonk t f) Γ σ n hΓ hσ g =
-    cond-ind OutcomeWhole (leb (length (writeOut σ t)) (L .written))
+    cond-ind OutcomeWhole (within (length (writeOut σ t)) (L .written))
     (λ _. perform-whole L (f (writeOut σ t)) Γ σ n hΓ hσ (g .1 (writeOut σ t) (written-whole σ t hσ (g .0)))) (λ _. (hΓ, hσ))
 perform-whole L (look f) Γ σ n hΓ hσ g = perform-whole L (f Γ) Γ σ n hΓ hσ (g Γ hΓ)
 

@@ -72,13 +72,26 @@ unfoldable pub before : ℕ → ℕ → Board → Bool
 before a b [] = false
 before a b (e ∷ Γ) = cond (isTVar a e) false (cond (isTVar b e) (hasTVar a Γ) (before a b Γ))
 
+-- a limit, or none
+pub data Limit : Type 0 where
+  upTo : ℕ → Limit
+  unlimited : Limit
+
+abbrev pub within : ℕ → Limit → Bool
+within k (upTo m) = leb k m
+within k unlimited = true
+
+abbrev pub below : ℕ → Limit → Bool
+below n (upTo m) = ltb n m
+below n unlimited = true
+
 -- document 01's limits: entries and type nodes on the board, nodes of one written-out type, fresh numbers, nodes of all solutions
 pub record Limits : Type 0 where
-  pub entries : ℕ
-  pub nodes : ℕ
-  pub written : ℕ
-  pub numbers : ℕ
-  pub solved : ℕ
+  pub entries : Limit
+  pub nodes : Limit
+  pub written : Limit
+  pub numbers : Limit
+  pub solved : Limit
 
 -- What a rule does, operation by operation; each hands on what it read or made.
 pub data Rule : Type 0 where
@@ -120,34 +133,34 @@ solving (some t) s new same clash = cond (canUnify s t) same clash
 -- A rule performed. A refusal keeps the state that it met.
 module _ (L : Limits) where
   abbrev pub roomFor : Entry → Board → Bool
-  roomFor e Γ = leb (length (e ∷ Γ)) (L .entries) && leb (boardNodes (e ∷ Γ)) (L .nodes)
+  roomFor e Γ = within (length (e ∷ Γ)) (L .entries) && within (boardNodes (e ∷ Γ)) (L .nodes)
 
   unfoldable pub perform : Rule → Board → Solutions → ℕ → Outcome
   perform done Γ σ n = finished (state Γ σ n)
   perform (refuse r ts) Γ σ n = refused r ts (state Γ σ n)
   perform (fresh f) Γ σ n =
-      cond (ltb n (L .numbers)) (perform (f n) Γ σ (suc n)) (refused NoFreshNumber [] (state Γ σ n))
+      cond (below n (L .numbers)) (perform (f n) Γ σ (suc n)) (refused NoFreshNumber [] (state Γ σ n))
   perform (push e p) Γ σ n =
       cond (roomFor e Γ) (perform p (e ∷ Γ) σ n) (refused BoardFull [] (state Γ σ n))
   perform (solve k s p) Γ σ n =
       solving (find k σ) s
-      (cond (leb (solutionNodes σ + length s) (L .solved)) (perform p Γ (σ ++ (_≔_ k s ∷ [])) n) (refused SolutionsFull [] (state Γ σ n)))
+      (cond (within (solutionNodes σ + length s) (L .solved)) (perform p Γ (σ ++ (_≔_ k s ∷ [])) n) (refused SolutionsFull [] (state Γ σ n)))
       (perform p Γ σ n)
       (refused TypeUnificationError [] (state Γ σ n))
   perform (zonk t f) Γ σ n =
-      cond (leb (length (writeOut σ t)) (L .written)) (perform (f (writeOut σ t)) Γ σ n) (refused TypeTooLong [] (state Γ σ n))
+      cond (within (length (writeOut σ t)) (L .written)) (perform (f (writeOut σ t)) Γ σ n) (refused TypeTooLong [] (state Γ σ n))
   perform (look f) Γ σ n = perform (f Γ) Γ σ n
 
   -- what the rule did: the operations that were granted, in order
   unfoldable pub operations : Rule → Board → Solutions → ℕ → List Operation
   operations done Γ σ n = []
   operations (refuse r ts) Γ σ n = []
-  operations (fresh f) Γ σ n = cond (ltb n (L .numbers)) (made n ∷ operations (f n) Γ σ (suc n)) []
+  operations (fresh f) Γ σ n = cond (below n (L .numbers)) (made n ∷ operations (f n) Γ σ (suc n)) []
   operations (push e p) Γ σ n = cond (roomFor e Γ) (pushed e ∷ operations p (e ∷ Γ) σ n) []
   operations (solve k s p) Γ σ n =
       solving (find k σ) s
-      (cond (leb (solutionNodes σ + length s) (L .solved)) (gave k s ∷ operations p Γ (σ ++ (_≔_ k s ∷ [])) n) [])
+      (cond (within (solutionNodes σ + length s) (L .solved)) (gave k s ∷ operations p Γ (σ ++ (_≔_ k s ∷ [])) n) [])
       (met k ∷ operations p Γ σ n)
       (met k ∷ [])
-  operations (zonk t f) Γ σ n = cond (leb (length (writeOut σ t)) (L .written)) (operations (f (writeOut σ t)) Γ σ n) []
+  operations (zonk t f) Γ σ n = cond (within (length (writeOut σ t)) (L .written)) (operations (f (writeOut σ t)) Γ σ n) []
   operations (look f) Γ σ n = operations (f Γ) Γ σ n

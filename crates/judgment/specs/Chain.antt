@@ -12,7 +12,7 @@ use Rattle.judgment.specs.declared.TypeError.{TypeError}
 use Rattle.judgment.specs.declared.TypeError.the-variants.{TypeUnificationError, BoardFull, TypeTooLong, NoFreshNumber, SolutionsFull}
 use Rattle.judgment.specs.Types.{canUnify}
 use Rattle.judgment.specs.Solutions.{Solution, _≔_, Solutions, find, writeOut, solutionNodes}
-use Rattle.judgment.specs.Board.{Entry, Board, Limits, Rule, done, refuse, fresh, push, solve, zonk, look, State, state, Outcome, finished, refused, roomFor, solving, perform}
+use Rattle.judgment.specs.Board.{below, within, Entry, Board, Limits, Rule, done, refuse, fresh, push, solve, zonk, look, State, state, Outcome, finished, refused, roomFor, solving, perform}
 
 abbrev pub boardOf : Outcome → Board
 boardOf (finished (state Γ σ n)) = Γ
@@ -32,7 +32,7 @@ module _ (L : Limits) where
   refuseO r ts (refused q us s) = refused q us s
 
   unfoldable pub freshO : Outcome → Outcome
-  freshO (finished (state Γ σ n)) = cond (ltb n (L .numbers)) (finished (state Γ σ (suc n))) (refused NoFreshNumber [] (state Γ σ n))
+  freshO (finished (state Γ σ n)) = cond (below n (L .numbers)) (finished (state Γ σ (suc n))) (refused NoFreshNumber [] (state Γ σ n))
   freshO (refused q us s) = refused q us s
 
   unfoldable pub pushO : Entry → Outcome → Outcome
@@ -42,13 +42,13 @@ module _ (L : Limits) where
   unfoldable pub solveO : ℕ → Ty → Outcome → Outcome
   solveO k t (finished (state Γ σ n)) =
       solving (find k σ) t
-      (cond (leb (solutionNodes σ + length t) (L .solved)) (finished (state Γ (σ ++ (_≔_ k t ∷ [])) n)) (refused SolutionsFull [] (state Γ σ n)))
+      (cond (within (solutionNodes σ + length t) (L .solved)) (finished (state Γ (σ ++ (_≔_ k t ∷ [])) n)) (refused SolutionsFull [] (state Γ σ n)))
       (finished (state Γ σ n))
       (refused TypeUnificationError [] (state Γ σ n))
   solveO k t (refused q us s) = refused q us s
 
   unfoldable pub zonkO : Ty → Outcome → Outcome
-  zonkO t (finished (state Γ σ n)) = cond (leb (length (writeOut σ t)) (L .written)) (finished (state Γ σ n)) (refused TypeTooLong [] (state Γ σ n))
+  zonkO t (finished (state Γ σ n)) = cond (within (length (writeOut σ t)) (L .written)) (finished (state Γ σ n)) (refused TypeTooLong [] (state Γ σ n))
   zonkO t (refused q us s) = refused q us s
 
   -- the chain that a rule is
@@ -95,17 +95,17 @@ module _ (L : Limits) where
   performs done Γ σ n = refl
   performs (refuse r ts) Γ σ n = refl
   performs (fresh f) Γ σ n =
-      choice (f n) (ltb n (L .numbers)) _ _ ∙ either (ltb n (L .numbers)) (performs (f n) Γ σ (suc n)) (stays (f n) NoFreshNumber [] (state Γ σ n))
+      choice (f n) (below n (L .numbers)) _ _ ∙ either (below n (L .numbers)) (performs (f n) Γ σ (suc n)) (stays (f n) NoFreshNumber [] (state Γ σ n))
   performs (push e p) Γ σ n =
       choice p (roomFor L e Γ) _ _ ∙ either (roomFor L e Γ) (performs p (e ∷ Γ) σ n) (stays p BoardFull [] (state Γ σ n))
   performs (solve k t p) Γ σ n =
       solved p (find k σ) t _ _ _
       ∙ three (find k σ) t
-      (choice p (leb (solutionNodes σ + length t) (L .solved)) _ _
-      ∙ either (leb (solutionNodes σ + length t) (L .solved)) (performs p Γ (σ ++ (_≔_ k t ∷ [])) n) (stays p SolutionsFull [] (state Γ σ n)))
+      (choice p (within (solutionNodes σ + length t) (L .solved)) _ _
+      ∙ either (within (solutionNodes σ + length t) (L .solved)) (performs p Γ (σ ++ (_≔_ k t ∷ [])) n) (stays p SolutionsFull [] (state Γ σ n)))
       (performs p Γ σ n)
       (stays p TypeUnificationError [] (state Γ σ n))
   performs (zonk t f) Γ σ n =
-      choice (f (writeOut σ t)) (leb (length (writeOut σ t)) (L .written)) _ _
-      ∙ either (leb (length (writeOut σ t)) (L .written)) (performs (f (writeOut σ t)) Γ σ n) (stays (f (writeOut σ t)) TypeTooLong [] (state Γ σ n))
+      choice (f (writeOut σ t)) (within (length (writeOut σ t)) (L .written)) _ _
+      ∙ either (within (length (writeOut σ t)) (L .written)) (performs (f (writeOut σ t)) Γ σ n) (stays (f (writeOut σ t)) TypeTooLong [] (state Γ σ n))
   performs (look f) Γ σ n = performs (f Γ) Γ σ n

@@ -17,7 +17,7 @@ use Rattle.judgment.specs.declared.TypeError.the-variants.{UnboundVariab
 use Rattle.judgment.specs.declared.Answer.{Answer}
 use Rattle.judgment.specs.declared.Details.{Details}
 use Rattle.judgment.specs.Solutions.{Solution, _≔_, Solutions}
-use Rattle.judgment.specs.Board.{Limits, State, state}
+use Rattle.judgment.specs.Board.{upTo, Limits, State, state}
 use Rattle.judgment.specs.Rules.{Env}
 use Rattle.judgment.specs.Run.{Step, End, accepted, ceiling, refusedBy, Run, run, checkType}
 
@@ -104,7 +104,7 @@ judge L c ls = let p = planOf ls in resultOf (p .plain) (runOf L c p)
 
 -- document 01's limits, but for the nodes of one written-out type
 abbrev pub limitsWith : ℕ → Limits
-limitsWith w = record { entries = 512; nodes = 4096; written = w; numbers = 1000; solved = 4096 }
+limitsWith w = record { entries = upTo 512; nodes = upTo 4096; written = upTo w; numbers = upTo 1000; solved = upTo 4096 }
 
 -- document 01's limits
 abbrev pub limits : Limits

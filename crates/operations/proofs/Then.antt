@@ -15,7 +15,7 @@ use Rattle.judgment.specs.declared.TypeError.{TypeError}
 use Rattle.judgment.specs.declared.TypeError.the-variants.{NoFreshNumber}
 use Rattle.judgment.specs.Types.{unknown, canUnify}
 use Rattle.judgment.specs.Solutions.{Solution, _≔_, Solutions, find, solutionNodes, writeOut, Free, keys}
-use Rattle.judgment.specs.Board.{Entry, Board as Entries, Limits, Rule, done, refuse, fresh, push, solve, zonk, look, State, state, Outcome, finished, refused, roomFor, solving}
+use Rattle.judgment.specs.Board.{below, within, Entry, Board as Entries, Limits, Rule, done, refuse, fresh, push, solve, zonk, look, State, state, Outcome, finished, refused, roomFor, solving}
 use Rattle.judgment.specs.Chain.{boardOf, solutionsOf, counterOf, performO, stays, refuseO, freshO, pushO, solveO, zonkO}
 use Rattle.judgment.specs.Result.{limitsWith}
 use Rattle.board.specs.Board.{entriesOf}
@@ -177,7 +177,7 @@ counter-grows L (fresh f) o = le-trans (one o) (counter-grows L (f (counterOf o)
   where
     one : (o : Outcome) → counterOf o ≤ counterOf (freshO L o)
     one (finished (state Γ σ n)) =
-        cond-ind (λ (x : Outcome). n ≤ counterOf x) (ltb n (L .numbers)) (λ _. omega arith) (λ _. le-refl n)
+        cond-ind (λ (x : Outcome). n ≤ counterOf x) (below n (L .numbers)) (λ _. omega arith) (λ _. le-refl n)
     one (refused x us (state Γ σ n)) = le-refl n
 counter-grows L (push e p) o = le-trans (one o) (counter-grows L p (pushO L e o))
   where
@@ -192,12 +192,12 @@ counter-grows L (solve k t p) o = le-trans (one o) (counter-grows L p (solveO L 
 
     one : (o : Outcome) → counterOf o ≤ counterOf (solveO L k t o)
     one (finished (state Γ σ n)) =
-        by (find k σ) n _ _ _ (cond-ind (λ (x : Outcome). n ≤ counterOf x) (leb (solutionNodes σ + length t) (L .solved)) (λ _. le-refl n) (λ _. le-refl n)) (le-refl n) (le-refl n)
+        by (find k σ) n _ _ _ (cond-ind (λ (x : Outcome). n ≤ counterOf x) (within (solutionNodes σ + length t) (L .solved)) (λ _. le-refl n) (λ _. le-refl n)) (le-refl n) (le-refl n)
     one (refused x us (state Γ σ n)) = le-refl n
 counter-grows L (zonk t f) o = le-trans (one o) (counter-grows L (f (writeOut (solutionsOf o) t)) (zonkO L t o))
   where
     one : (o : Outcome) → counterOf o ≤ counterOf (zonkO L t o)
-    one (finished (state Γ σ n)) = cond-ind (λ (x : Outcome). n ≤ counterOf x) (leb (length (writeOut σ t)) (L .written)) (λ _. le-refl n) (λ _. le-refl n)
+    one (finished (state Γ σ n)) = cond-ind (λ (x : Outcome). n ≤ counterOf x) (within (length (writeOut σ t)) (L .written)) (λ _. le-refl n) (λ _. le-refl n)
     one (refused x us (state Γ σ n)) = le-refl n
 counter-grows L (look f) o = counter-grows L (f (boardOf o)) o
 

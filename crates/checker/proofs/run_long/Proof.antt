@@ -1,7 +1,8 @@
 use mathlib.Core.Path.{sym}
 use denote.Ref.{now}
 use lib.Seq.{length-take-le}
-use Rattle.checker.proofs.Reading.{plan-lines, rows-asks}
+use Rattle.stepping.proofs.Reading.{plan-lines}
+use Rattle.checker.proofs.Reading.{rows-asks}
 use borrow.Author.Needs.{needs}
 use Rattle.checker.proofs.run_long.Statement.{statement}
 use Rattle.checker.proofs.run_long.Tie as tie

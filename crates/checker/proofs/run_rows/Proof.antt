@@ -2,7 +2,8 @@ use mathlib.Core.Path.{_≡_, refl, sym, ap, ap₂, _∙_}
 use Prim.Native.Nat.{ℕ, _+_, _*_, _≤_, _<_}
 use native.Mathlib.Omega.{arith}
 use denote.Ref.{now}
-use Rattle.checker.proofs.Reading.{plan-lines, was-read, case-room, ran-as}
+use Rattle.stepping.proofs.Reading.{plan-lines}
+use Rattle.checker.proofs.Reading.{was-read, case-room, ran-as}
 use borrow.Author.Needs.{needs}
 use Rattle.checker.proofs.run_rows.Statement.{statement}
 use Rattle.checker.proofs.run_rows.Tie as tie

@@ -9,10 +9,10 @@ use Rattle.checker.proofs.solve.Statement.{statement}
 use Rattle.checker.proofs.solve.Tie as tie
 
 abbrev Inv-loop : tie.InvT-loop
-Inv-loop board₀ book₀ report₀ s ceiling t₀ l₀ r₀ w₀ v₀ run₀ board book report t l r w v run = Loop s ceiling (wholeRun s ceiling board₀ book₀ run₀) board book report run × (length board ≡ length board₀) × (length book ≡ length book₀) × (length report ≡ length report₀) × (length t ≡ length t₀) × (length l ≡ length l₀) × (length r ≡ length r₀) × (length w ≡ length w₀) × (length v ≡ length v₀)
+Inv-loop board₀ book₀ report₀ s ceiling limit t₀ l₀ r₀ w₀ v₀ run₀ board book report t l r w v run = Loop limit s ceiling (wholeRun limit s ceiling board₀ book₀ run₀) board book report run × (length board ≡ length board₀) × (length book ≡ length book₀) × (length report ≡ length report₀) × (length t ≡ length t₀) × (length l ≡ length l₀) × (length r ≡ length r₀) × (length w ≡ length w₀) × (length v ≡ length v₀)
 
 abbrev μ-loop : tie.MeasureT-loop
-μ-loop board₀ book₀ report₀ s ceiling t₀ l₀ r₀ w₀ v₀ run₀ board book report t l r w v run = ceiling - run .taken
+μ-loop board₀ book₀ report₀ s ceiling limit t₀ l₀ r₀ w₀ v₀ run₀ board book report t l r w v run = ceiling - run .taken
 
 loop-holds : tie.Need-loop-holds Inv-loop μ-loop
 loop-holds c = (loop-start (c .before .before .before .before .before .before .before .before .before .args .ceiling) (c .before .before .before .before .before .before .before .before .before .pre .0) (c .before .before .before .before .before .before .before .before .before .pre .1), refl, refl, refl, refl, refl, refl, refl, refl)
@@ -23,8 +23,8 @@ solve-step-requires c κs =
     let h = L .inv in
     let p = c .before .before .before .before .before .before .before .before .before .before .before .before .before .before .before .before .before .before .before .before .pre in
     let f = more-facts (L .run) (c .before .before .before .before .before .before .before .before .before .before .before .before .before .before .before .before .before .before .before .before .args .ceiling) (sym (c .before .before .before .before .before .before .before .before .before .takes-more .ensures) ∙ c .before .before .before .before .before .before .before .before .if1 .taken) in
-    let x = p .2 in
-    let q = p .3 in
+    let x = p .3 in
+    let q = p .4 in
     let y = q .type in
     let z = q .left in
     let g = q .room in
@@ -37,6 +37,7 @@ solve-step-requires c κs =
       goes = f .0;
       more = f .1;
       counts = let u = c .before .before .before .before .before .before .before .before .before .before .before .before .before .before .before .before .before .before .before .before .fits .ceiling in omega arith;
+      limit = p .2;
       report = omega arith;
       lent = record { type = omega arith; left = omega arith; room = record { right = omega arith; frames = omega arith; bound = omega arith } };
     }
@@ -58,7 +59,7 @@ loop-again c =
     let p = c .before .before .before .before .before .before .before .before .before .before .before .before .before .before .before .before .before .before .before .before .before .before .before .before .before .before .before .before .before .before .before .before .before .before .before .before .before .pre in
     let f = more-facts (L .run) (c .before .before .before .before .before .before .before .before .before .before .before .before .before .before .before .before .before .before .before .before .before .before .before .before .before .before .before .before .before .before .before .before .before .before .before .before .before .args .ceiling) (sym (c .before .before .before .before .before .before .before .before .before .before .before .before .before .before .before .before .before .before .before .before .before .before .before .before .before .before .takes-more .ensures) ∙ c .before .before .before .before .before .before .before .before .before .before .before .before .before .before .before .before .before .before .before .before .before .before .before .before .before .if1 .taken) in
     let K = c .before .before .before .before .before .before .before .before .before .before .before .before .before .before .before .before .solve-step .kept in
-    (loop-turn f (h .0) (c .before .before .before .before .before .before .before .before .before .before .before .before .before .before .before .before .solve-step .ensures), K .0 ∙ h .1, K .1 .0 ∙ h .2, K .1 .1 .0 ∙ h .3, K .1 .1 .1 .1 .1 .0 ∙ h .4, K .1 .1 .1 .1 .1 .1 .0 ∙ h .5, K .1 .1 .1 .1 .1 .1 .1 .0 ∙ h .6, K .1 .1 .1 .1 .1 .1 .1 .1 .0 ∙ h .7, K .1 .1 .1 .1 .1 .1 .1 .1 .1 .0 ∙ h .8)
+    (loop-turn f (h .0) (c .before .before .before .before .before .before .before .before .before .before .before .before .before .before .before .before .solve-step .ensures), K .0 ∙ h .1, K .1 .0 ∙ h .2, K .1 .1 .0 ∙ h .3, K .1 .1 .1 .1 .1 .1 .0 ∙ h .4, K .1 .1 .1 .1 .1 .1 .1 .0 ∙ h .5, K .1 .1 .1 .1 .1 .1 .1 .1 .0 ∙ h .6, K .1 .1 .1 .1 .1 .1 .1 .1 .1 .0 ∙ h .7, K .1 .1 .1 .1 .1 .1 .1 .1 .1 .1 .0 ∙ h .8)
 
 same-length : tie.Need-same-length Inv-loop μ-loop
 same-length c = c .before .before .loop .inv .1

@@ -1,7 +1,7 @@
 use borrow.Author.Needs.{needs}
-use Rattle.checker.proofs.Stepping.{step-asks, step-reached}
-use Rattle.checker.proofs.step_apart.Statement.{statement}
-use Rattle.checker.proofs.step_apart.Tie as tie
+use Rattle.stepping.proofs.Stepping.{step-asks, step-reached}
+use Rattle.stepping.proofs.step_apart.Statement.{statement}
+use Rattle.stepping.proofs.step_apart.Tie as tie
 
 solve-judgment-requires : tie.Need-solve-judgment-requires
 solve-judgment-requires c κs = step-asks (c .before .before .before .before .before .before .before .before .before .before .before .before .before .before .before .before .before .before .before .before .before .before .pre) _ (c .before .before .before .before .before .before .before .before .before .before .before .pop .ensures)

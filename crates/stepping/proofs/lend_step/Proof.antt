@@ -36,24 +36,24 @@ use denote.Triple.Statement.{Contract, Triple}
 use denote.Triple.Call.{calls-at}
 use denote.Triple.Table.{entered, cited}
 use denote.Triple.Walked.{says, needs, walkOf, ends-at}
-use Rattle.checker.specs.declared.Counters.{Counters}
-use Rattle.checker.specs.declared.Kept.{Kept}
-use Rattle.checker.specs.declared.Stepped.{Stepped}
-use Rattle.checker.proofs.Counters as CT
-use Rattle.checker.proofs.Counters.Laws as CT′
-use Rattle.checker.proofs.Kept as KT
-use Rattle.checker.proofs.Kept.Laws as KT′
-use Rattle.checker.proofs.Stepped as ST
-use Rattle.checker.proofs.Walking.{Blocks, gaves, fit, meets-by, alloc-all, free-all, upFrom, arg, lend-on, pass-slice, returned, lies-in, lies-out}
-use Rattle.checker.proofs.Lending.{Slices, rows, spells, tells, spell, small, Lists, Ask, Says, Left, val-c, val-k, val-s, made, owned-c, owned-s, typed-c, typed-k, typed-s}
-use Rattle.checker.proofs.step_lent as lent
-use Rattle.checker.proofs.step_lent.Symbol as lent-def
-use Rattle.checker.proofs.step_lent.Symbol.{name as #lent}
-use Rattle.checker.proofs.step_lent.Met as lent-thm
-use Rattle.checker.proofs.lend_step.Key.{name as #lends}
-use Rattle.checker.proofs.lend_step as lends
-use Rattle.checker.proofs.lend_step.Statement as stated
-use Rattle.checker.proofs.lend_step.Code as code
+use Rattle.stepping.specs.declared.Counters.{Counters}
+use Rattle.stepping.specs.declared.Kept.{Kept}
+use Rattle.stepping.specs.declared.Stepped.{Stepped}
+use Rattle.stepping.proofs.Counters as CT
+use Rattle.stepping.proofs.Counters.Laws as CT′
+use Rattle.stepping.proofs.Kept as KT
+use Rattle.stepping.proofs.Kept.Laws as KT′
+use Rattle.stepping.proofs.Stepped as ST
+use Rattle.stepping.proofs.Walking.{Blocks, gaves, fit, meets-by, alloc-all, free-all, upFrom, arg, lend-on, pass-slice, returned, lies-in, lies-out}
+use Rattle.stepping.proofs.Lending.{Slices, rows, spells, tells, spell, small, Lists, Ask, Says, Left, val-c, val-k, val-s, made, owned-c, owned-s, typed-c, typed-k, typed-s}
+use Rattle.stepping.proofs.step_lent as lent
+use Rattle.stepping.proofs.step_lent.Symbol as lent-def
+use Rattle.stepping.proofs.step_lent.Symbol.{name as #lent}
+use Rattle.stepping.proofs.step_lent.Met as lent-thm
+use Rattle.stepping.proofs.lend_step.Key.{name as #lends}
+use Rattle.stepping.proofs.lend_step as lends
+use Rattle.stepping.proofs.lend_step.Statement as stated
+use Rattle.stepping.proofs.lend_step.Code as code
 
 -- the contract that the proof cites
 abbrev Lent : {M : Type 1} (𝓤 : URA M) (H : Heap 𝓤) (A : Atoms 𝓤) (mem : Memory → SProp 𝓤) (run : Routine → Fun 𝓤) → Contract 𝓤
@@ -130,7 +130,7 @@ unfolding code.routine tablesOf
 lend-step-spec 𝓤 H 𝓜 𝓖 𝓡 =
     let 𝓣 = tablesOf 𝓤 H 𝓜 (tables 𝓤 H 𝓜 𝓡 code.env) in
     let W = givenOf 𝓤 H 𝓜 𝓖 in
-    let known = cited 𝓤 H (Lent 𝓤 H (𝓖 .A) (𝓜 .mem) (𝓡 .run)) 𝓜 𝓡 code.env #lent lent-def.routine code.calls-checker·step-lent (lent-thm.met 𝓤 H 𝓜 𝓖 𝓡) in
+    let known = cited 𝓤 H (Lent 𝓤 H (𝓖 .A) (𝓜 .mem) (𝓡 .run)) 𝓜 𝓡 code.env #lent lent-def.routine code.calls-stepping·step-lent (lent-thm.met 𝓤 H 𝓜 𝓖 𝓡) in
     entered 𝓤 H (tripleOf 𝓤 H (𝓖 .A) lends.signature (lends.spec 𝓤 H (𝓖 .A) (𝓜 .mem) (𝓡 .run)))
     (tables 𝓤 H 𝓜 𝓡 code.env .C) (tables 𝓤 H 𝓜 𝓡 code.env .Λ) #lends code.function (code.unfolded 𝓤 H 𝓜 𝓡)
     (meets-by 𝓤 H (𝓖 .A) W lends.ended (lends.clauses 𝓤 H (𝓖 .A) (𝓜 .mem) (𝓡 .run)) code.function 𝓣

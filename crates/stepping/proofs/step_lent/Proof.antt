@@ -32,25 +32,25 @@ use denote.Triple.Statement.{Contract, Triple}
 use denote.Triple.Call.{calls-at}
 use denote.Triple.Table.{entered, cited}
 use denote.Triple.Walked.{says, needs, walkOf, ends-at}
-use Rattle.checker.specs.declared.Counters.{Counters}
-use Rattle.checker.specs.declared.Kept.{Kept}
-use Rattle.checker.specs.declared.Stepped.{Stepped}
-use Rattle.checker.proofs.Counters as CT
-use Rattle.checker.proofs.Counters.Laws as CT′
-use Rattle.checker.proofs.Kept as KT
-use Rattle.checker.proofs.Kept.Laws as KT′
-use Rattle.checker.proofs.Stepped as ST
-use Rattle.checker.proofs.Stepped.Laws as ST′
-use Rattle.checker.proofs.Walking.{gaves, fit, meets-by, alloc-all, free-all, upFrom, arg, lend-on, pass-slice, returned}
-use Rattle.checker.proofs.Lending.{Slices, rows, spells, tells, spell, small, Lists, Ask, Says, Left, val-c, val-k, apart-c, apart-k, owned-c, owned-k, typed-c, typed-k, typed-s}
-use Rattle.checker.proofs.step_apart as apart
-use Rattle.checker.proofs.step_apart.Symbol as apart-def
-use Rattle.checker.proofs.step_apart.Symbol.{name as #apart}
-use Rattle.checker.proofs.step_apart.Met as apart-thm
-use Rattle.checker.proofs.step_lent.Key.{name as #lent}
-use Rattle.checker.proofs.step_lent as lent
-use Rattle.checker.proofs.step_lent.Statement as stated
-use Rattle.checker.proofs.step_lent.Code as code
+use Rattle.stepping.specs.declared.Counters.{Counters}
+use Rattle.stepping.specs.declared.Kept.{Kept}
+use Rattle.stepping.specs.declared.Stepped.{Stepped}
+use Rattle.stepping.proofs.Counters as CT
+use Rattle.stepping.proofs.Counters.Laws as CT′
+use Rattle.stepping.proofs.Kept as KT
+use Rattle.stepping.proofs.Kept.Laws as KT′
+use Rattle.stepping.proofs.Stepped as ST
+use Rattle.stepping.proofs.Stepped.Laws as ST′
+use Rattle.stepping.proofs.Walking.{gaves, fit, meets-by, alloc-all, free-all, upFrom, arg, lend-on, pass-slice, returned}
+use Rattle.stepping.proofs.Lending.{Slices, rows, spells, tells, spell, small, Lists, Ask, Says, Left, val-c, val-k, apart-c, apart-k, owned-c, owned-k, typed-c, typed-k, typed-s}
+use Rattle.stepping.proofs.step_apart as apart
+use Rattle.stepping.proofs.step_apart.Symbol as apart-def
+use Rattle.stepping.proofs.step_apart.Symbol.{name as #apart}
+use Rattle.stepping.proofs.step_apart.Met as apart-thm
+use Rattle.stepping.proofs.step_lent.Key.{name as #lent}
+use Rattle.stepping.proofs.step_lent as lent
+use Rattle.stepping.proofs.step_lent.Statement as stated
+use Rattle.stepping.proofs.step_lent.Code as code
 
 -- the contract that the proof cites
 abbrev Apart : {M : Type 1} (𝓤 : URA M) (H : Heap 𝓤) (A : Atoms 𝓤) (mem : Memory → SProp 𝓤) (run : Routine → Fun 𝓤) → Contract 𝓤
@@ -114,7 +114,7 @@ unfolding code.routine tablesOf
 step-lent-spec 𝓤 H 𝓜 𝓖 𝓡 =
     let 𝓣 = tablesOf 𝓤 H 𝓜 (tables 𝓤 H 𝓜 𝓡 code.env) in
     let W = givenOf 𝓤 H 𝓜 𝓖 in
-    let known = cited 𝓤 H (Apart 𝓤 H (𝓖 .A) (𝓜 .mem) (𝓡 .run)) 𝓜 𝓡 code.env #apart apart-def.routine code.calls-checker·step-apart (apart-thm.met 𝓤 H 𝓜 𝓖 𝓡) in
+    let known = cited 𝓤 H (Apart 𝓤 H (𝓖 .A) (𝓜 .mem) (𝓡 .run)) 𝓜 𝓡 code.env #apart apart-def.routine code.calls-stepping·step-apart (apart-thm.met 𝓤 H 𝓜 𝓖 𝓡) in
     entered 𝓤 H (tripleOf 𝓤 H (𝓖 .A) lent.signature (lent.spec 𝓤 H (𝓖 .A) (𝓜 .mem) (𝓡 .run)))
     (tables 𝓤 H 𝓜 𝓡 code.env .C) (tables 𝓤 H 𝓜 𝓡 code.env .Λ) #lent code.function (code.unfolded 𝓤 H 𝓜 𝓡)
     (meets-by 𝓤 H (𝓖 .A) W lent.ended (lent.clauses 𝓤 H (𝓖 .A) (𝓜 .mem) (𝓡 .run)) code.function 𝓣

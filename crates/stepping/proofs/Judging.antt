@@ -31,8 +31,8 @@ use Rattle.patterns.specs.Turns.{Ready}
 use Rattle.subtyping.specs.Subtyping.{Sound, SubtypeAsk}
 use Rattle.checking.specs.Checking.{CheckAsk}
 use Rattle.inferring.specs.Inferring.{InferAsk}
-use Rattle.checker.specs.Running.{topEntry, EntrySound, JudgeAsk}
-use Rattle.checker.proofs.Reading.{read-few, read-formed}
+use Rattle.stepping.specs.Stepping.{topEntry, EntrySound, JudgeAsk}
+use Rattle.stepping.proofs.Reading.{read-few, read-formed}
 
 -- a part that is there stands on a line
 pub part-stands : (x : ℕ) (ls : List Triple) (p : ℕ) → IsPart x (termAt ls p .lines) → p < length ls
@@ -70,7 +70,7 @@ module _ (ls : List Triple) (n : ℕ) (t u : Ty) where
       go true = refl
       go false = refl
 
-module _ {s b k rep : List ℕ} {c : Run} {o : Top} {t l r w v : List ℕ} (a : JudgeAsk s b k rep c o t l r w v) where
+module _ {m : ℕ} {s b k rep : List ℕ} {c : Run} {o : Top} {t l r w v : List ℕ} (a : JudgeAsk m s b k rep c o t l r w v) where
   abbrev ls : List Triple
   ls = rows s
 
@@ -84,21 +84,21 @@ module _ {s b k rep : List ℕ} {c : Run} {o : Top} {t l r w v : List ℕ} (a : 
       let z = within-board in
       (omega arith, omega arith)
 
-  two-sound : Sound (c .fresh) (nodesAt b (o .at) (o .left)) × Sound (c .fresh) (nodesAt b (o .at + 2 * o .left) (o .right)) → SubtypeAsk b k rep c (o .at) (o .left) (o .right) 1024
+  two-sound : Sound (c .fresh) (nodesAt b (o .at) (o .left)) × Sound (c .fresh) (nodesAt b (o .at + 2 * o .left) (o .right)) → SubtypeAsk b k rep c (o .at) (o .left) (o .right) m
   two-sound q = record {
     formed = a .formed;
     within = within-board;
-    limit = omega arith;
-    report = let x = a .report in omega arith;
+    limit = a .limit;
+    report = a .report;
     left = q .0;
     right = q .1;
     solutions = a .solutions;
   }
 
-  pub subtype-asks : o .kind ≡ 3 → SubtypeAsk b k rep c (o .at) (o .left) (o .right) 1024
+  pub subtype-asks : o .kind ≡ 3 → SubtypeAsk b k rep c (o .at) (o .left) (o .right) m
   subtype-asks e = two-sound (subst (EntrySound (c .fresh)) (is-sub ls (o .number) _ _ (o .kind) e) (a .entry))
 
-  pub app-asks : o .kind ≡ 6 → SubtypeAsk b k rep c (o .at) (o .left) (o .right) 1024
+  pub app-asks : o .kind ≡ 6 → SubtypeAsk b k rep c (o .at) (o .left) (o .right) m
   app-asks e = two-sound (subst (EntrySound (c .fresh)) (is-app ls (o .number) _ _ (o .kind) e) (a .entry))
 
   pub infer-asks : o .kind ≡ 4 → (t' : List ℕ) → length t' ≡ length t → InferAsk b c s (o .number) t' (o .left) l
@@ -139,8 +139,8 @@ module _ {s b k rep : List ℕ} {c : Run} {o : Top} {t l r w v : List ℕ} (a : 
     same-type : nodesAt t' 0 (o .left) ≡ nodesAt b (o .at) (o .left)
     same-type = copied t (nodesAt b (o .at) (o .left)) (o .left) (length-nodesAt b (o .at) (o .left)) (let x = copy-asks .0 in omega arith) e
 
-    pub inferred : (E : Env) {b' k' rep' : List ℕ} {q : Run} → o .kind ≡ 4 → Does 1024 ls b k rep c (inferBy E (nodesAt t' 0 (o .left)) (termView (termAt ls (o .number)))) b' k' rep' q → Does 1024 ls b k rep c (rule E (topEntry ls b o)) b' k' rep' q
+    pub inferred : (E : Env) {b' k' rep' : List ℕ} {q : Run} → o .kind ≡ 4 → Does m ls b k rep c (inferBy E (nodesAt t' 0 (o .left)) (termView (termAt ls (o .number)))) b' k' rep' q → Does m ls b k rep c (rule E (topEntry ls b o)) b' k' rep' q
     inferred E h = does-as (λ _. ap (λ (X : Ty). inferBy E X (termView (termAt ls (o .number)))) same-type ∙ ap (rule E) (sym (is-inf ls (o .number) _ _ (o .kind) h)))
 
-    pub checked : (E : Env) {b' k' rep' : List ℕ} {q : Run} → o .kind ≡ 5 → Does 1024 ls b k rep c (checkBy E (termAt ls (o .number)) (nodesAt t' 0 (o .left)) (view (nodesAt t' 0 (o .left)))) b' k' rep' q → Does 1024 ls b k rep c (rule E (topEntry ls b o)) b' k' rep' q
+    pub checked : (E : Env) {b' k' rep' : List ℕ} {q : Run} → o .kind ≡ 5 → Does m ls b k rep c (checkBy E (termAt ls (o .number)) (nodesAt t' 0 (o .left)) (view (nodesAt t' 0 (o .left)))) b' k' rep' q → Does m ls b k rep c (rule E (topEntry ls b o)) b' k' rep' q
     checked E h = does-as (λ _. ap (λ (X : Ty). checkBy E (termAt ls (o .number)) X (view X)) same-type ∙ ap (rule E) (sym (is-chk ls (o .number) _ _ (o .kind) h)))

@@ -21,17 +21,17 @@ use denote.Builtin.{u32, u64, usize}
 use denote.Slice.{MutSlice, ShrSlice, slice-vals, mut-slice-tells, shr-slice-tells}
 use denote.Struct.Laws as LL
 use denote.Triple.Clauses.{lasts}
-use Rattle.checker.specs.declared.Counters.{Counters}
-use Rattle.checker.specs.declared.Kept.{Kept}
-use Rattle.checker.specs.declared.Stepped.{Stepped}
-use Rattle.checker.specs.Running.{joined, StepAsk, Stepping}
-use Rattle.checker.proofs.Counters as C
-use Rattle.checker.proofs.Counters.Laws as C′
-use Rattle.checker.proofs.Kept as K
-use Rattle.checker.proofs.Kept.Laws as K′
-use Rattle.checker.proofs.Stepped as S
-use Rattle.checker.proofs.Stepped.Laws as S′
-use Rattle.checker.proofs.step_apart as apart
+use Rattle.stepping.specs.declared.Counters.{Counters}
+use Rattle.stepping.specs.declared.Kept.{Kept}
+use Rattle.stepping.specs.declared.Stepped.{Stepped}
+use Rattle.stepping.specs.Stepping.{joined, StepAsk, Stepping}
+use Rattle.stepping.proofs.Counters as C
+use Rattle.stepping.proofs.Counters.Laws as C′
+use Rattle.stepping.proofs.Kept as K
+use Rattle.stepping.proofs.Kept.Laws as K′
+use Rattle.stepping.proofs.Stepped as S
+use Rattle.stepping.proofs.Stepped.Laws as S′
+use Rattle.stepping.proofs.step_apart as apart
 
 -- ---- the slices: board, book, report, s, t, l, r, w, v
 abbrev pub rows : Lifetime → Lft → List RattleType
@@ -58,10 +58,10 @@ Lists = List ℕ × (List ℕ × (List ℕ × (Unit {0} × (List ℕ × (List �
 
 -- ---- the contract, and what says the last lists
 abbrev pub Ask : Counters → Kept → Slices → Type 0
-Ask n k x = StepAsk (x .1 .1 .1 .0 .now) (x .0 .now) (x .1 .0 .now) (x .1 .1 .0 .now) (joined n k) (x .1 .1 .1 .1 .0 .now) (x .1 .1 .1 .1 .1 .0 .now) (x .1 .1 .1 .1 .1 .1 .0 .now) (x .1 .1 .1 .1 .1 .1 .1 .0 .now) (x .1 .1 .1 .1 .1 .1 .1 .1 .0 .now)
+Ask n k x = StepAsk (k .limit) (x .1 .1 .1 .0 .now) (x .0 .now) (x .1 .0 .now) (x .1 .1 .0 .now) (joined n k) (x .1 .1 .1 .1 .0 .now) (x .1 .1 .1 .1 .1 .0 .now) (x .1 .1 .1 .1 .1 .1 .0 .now) (x .1 .1 .1 .1 .1 .1 .1 .0 .now) (x .1 .1 .1 .1 .1 .1 .1 .1 .0 .now)
 
 abbrev pub Says : Counters → Kept → Slices → Counters → Kept → Lists → Type 0
-Says n k x c d ws = Stepping (x .1 .1 .1 .0 .now) (x .0 .now) (x .1 .0 .now) (x .1 .1 .0 .now) (joined n k) (ws .0) (ws .1 .0) (ws .1 .1 .0) (joined c d)
+Says n k x c d ws = Stepping (k .limit) (x .1 .1 .1 .0 .now) (x .0 .now) (x .1 .0 .now) (x .1 .1 .0 .now) (joined n k) (ws .0) (ws .1 .0) (ws .1 .1 .0) (joined c d)
 
 abbrev pub Left : Lft → Counters → Kept → Slices → Lists → Fml
 Left κ n k x ws = lasts apart.ended (κ, tt) (n, (k, x)) (tt, (tt, ws))

@@ -16,7 +16,7 @@ use Rattle.judgment.specs.Solutions.{Solution, Solutions, value}
 use Rattle.judgment.specs.Board.{Entry, tvar, var, sub, inf, chk, infApp, Limits, State, state, Outcome, finished, refused, perform}
 use Rattle.judgment.specs.Board.{Board as Entries}
 use Rattle.judgment.specs.Rules.{Env, rule}
-use Rattle.judgment.specs.Result.{limits, envOf}
+use Rattle.judgment.specs.Result.{limitsWith}
 use Rattle.judgment.proofs.Invariant.{OK, EntryOK, SolutionOK, Inv, Kept, perform-kept}
 use Rattle.judgment.proofs.RuleLaws.{BindingOK, EnvOK, Explains, rule-good}
 use Rattle.judgment.proofs.WholeTypes.{IsTy}
@@ -30,8 +30,8 @@ use Rattle.operations.specs.declared.Run.{Run}
 use Rattle.operations.specs.State.{outcomeBy, outcomeOf, stateOf, WellFormed}
 use Rattle.subtyping.specs.Subtyping.{Made, Sound}
 use Rattle.applying.specs.Applying.{envOn}
-use Rattle.checker.specs.Running.{stepO, EntrySound, Standing}
-use Rattle.checker.proofs.Reading.{read-good, read-whole}
+use Rattle.stepping.specs.Stepping.{stepO, EntrySound, Standing}
+use Rattle.stepping.proofs.Reading.{read-good, read-whole}
 
 module _ (Plain : Type 0) where
   -- unknowns below the counter, whole types
@@ -121,10 +121,10 @@ pub standing-ok : {s b k : List ℕ} {c : Run} → Standing s b k c → StateOK 
 standing-ok q = record { inv = q .inv; entries = q .entries; solutions = q .solutions }
 
 -- what a step leaves is standing
-pub stands : {s b k : List ℕ} (rep : List ℕ) {c : Run} {b' k' : List ℕ} (rep' : List ℕ) {q : Run} → Standing s b k c → WellFormed b' k' q → outcomeOf (rows s) b' k' rep' q ≡ stepO limits (envOn s) (outcomeOf (rows s) b k rep c) → Standing s b' k' q
-stands {s} {b} {k} rep {c} {b'} {k'} rep' {q} h f e =
+pub stands : (m : ℕ) {s b k : List ℕ} (rep : List ℕ) {c : Run} {b' k' : List ℕ} (rep' : List ℕ) {q : Run} → Standing s b k c → WellFormed b' k' q → outcomeOf (rows s) b' k' rep' q ≡ stepO (limitsWith m) (envOn s) (outcomeOf (rows s) b k rep c) → Standing s b' k' q
+stands m {s} {b} {k} rep {c} {b'} {k'} rep' {q} h f e =
     let p = planOf (rows s) in
     let w = read-whole (h .plan) in
     let o = of-outcome ⊥ (q .halt) rep' (entriesOf (rows s) b' (q .board .entries)) (sols k') (q .fresh)
-    (subst⁻¹ (OutcomeOK ⊥) e (step-ok ⊥ limits (envOn s) (bare-env (p .plain ≡ true) (plan-env p (read-good (h .plan)))) (w .0) (outcomeOf (rows s) b k rep c) (to-outcome ⊥ (c .halt) rep _ _ _ (standing-ok h)))) in
+    (subst⁻¹ (OutcomeOK ⊥) e (step-ok ⊥ (limitsWith m) (envOn s) (bare-env (p .plain ≡ true) (plan-env p (read-good (h .plan)))) (w .0) (outcomeOf (rows s) b k rep c) (to-outcome ⊥ (c .halt) rep _ _ _ (standing-ok h)))) in
     record { plan = h .plan; formed = f; inv = o .inv; entries = o .entries; solutions = o .solutions }

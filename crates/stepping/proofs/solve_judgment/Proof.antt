@@ -6,10 +6,10 @@ use Rattle.sheet.specs.Rows.{rows}
 use Rattle.judgment.specs.Rules.{rule}
 use Rattle.operations.proofs.Then.{does-as, done-does}
 use Rattle.applying.specs.Applying.{envOn}
-use Rattle.checker.proofs.Judging.{is-sub, is-app, is-other, subtype-asks, app-asks, infer-asks, check-asks, copy-asks, inferred, checked}
+use Rattle.stepping.proofs.Judging.{is-sub, is-app, is-other, subtype-asks, app-asks, infer-asks, check-asks, copy-asks, inferred, checked}
 use borrow.Author.Needs.{needs}
-use Rattle.checker.proofs.solve_judgment.Statement.{statement}
-use Rattle.checker.proofs.solve_judgment.Tie as tie
+use Rattle.stepping.proofs.solve_judgment.Statement.{statement}
+use Rattle.stepping.proofs.solve_judgment.Tie as tie
 
 solve-subtype-requires : tie.Need-solve-subtype-requires
 solve-subtype-requires c κs = subtype-asks (c .before .before .before .before .before .before .before .before .before .before .before .before .before .pre) (c .before .before .before .if1 .taken)
@@ -33,7 +33,7 @@ solve-inference-requires c κs = (infer-asks (c .before .before .before .before 
 returns-2 : tie.Need-returns-2
 returns-2 c =
     let E = envOn (now (c .before .before .before .before .before .before .before .before .before .before .before .before .before .before .before .before .before .before .before .before .before .before .before .before .before .before .before .before .before .before .before .before .before .args .s)) in
-    inferred (c .before .before .before .before .before .before .before .before .before .before .before .before .before .before .before .before .before .before .before .before .before .before .before .before .before .before .before .before .before .before .before .before .before .pre) (c .before .before .before .before .before .before .before .before .before .before .before .before .before .before .before .before .before .before .before .copy-nodes .ensures) E (c .before .before .before .before .before .before .before .before .before .before .before .before .before .before .before .before .before .before .before .before .before .before .if2 .taken) (c .before .before .before .before .before .before .before .before .before .before .solve-inference .ensures .0 1024 _ _ (c .before .before .before .before .before .before .before .before .before .before .before .before .before .before .before .before .before .before .before .before .before .before .before .before .before .before .before .before .before .before .before .before .before .pre .formed))
+    inferred (c .before .before .before .before .before .before .before .before .before .before .before .before .before .before .before .before .before .before .before .before .before .before .before .before .before .before .before .before .before .before .before .before .before .pre) (c .before .before .before .before .before .before .before .before .before .before .before .before .before .before .before .before .before .before .before .copy-nodes .ensures) E (c .before .before .before .before .before .before .before .before .before .before .before .before .before .before .before .before .before .before .before .before .before .before .if2 .taken) (c .before .before .before .before .before .before .before .before .before .before .solve-inference .ensures .0 _ _ _ (c .before .before .before .before .before .before .before .before .before .before .before .before .before .before .before .before .before .before .before .before .before .before .before .before .before .before .before .before .before .before .before .before .before .pre .formed))
 
 copy-nodes-requires-2 : tie.Need-copy-nodes-requires-2
 copy-nodes-requires-2 c κs = copy-asks (c .before .before .before .before .before .before .before .before .before .before .before .before .before .before .pre)
@@ -44,7 +44,7 @@ solve-checking-requires c κs = check-asks (c .before .before .before .before .b
 returns-3 : tie.Need-returns-3
 returns-3 c =
     let E = envOn (now (c .before .before .before .before .before .before .before .before .before .before .before .before .before .before .before .before .before .before .before .before .before .before .before .before .before .before .before .args .s)) in
-    checked (c .before .before .before .before .before .before .before .before .before .before .before .before .before .before .before .before .before .before .before .before .before .before .before .before .before .before .before .pre) (c .before .before .before .before .before .before .before .before .before .before .before .before .copy-nodes2 .ensures) E (c .before .before .before .before .before .before .before .before .before .before .before .before .before .before .before .if3 .taken) (c .before .before .before .before .before .before .solve-checking .ensures .0 1024 E _ _ (c .before .before .before .before .before .before .before .before .before .before .before .before .before .before .before .before .before .before .before .before .before .before .before .before .before .before .before .pre .formed))
+    checked (c .before .before .before .before .before .before .before .before .before .before .before .before .before .before .before .before .before .before .before .before .before .before .before .before .before .before .before .pre) (c .before .before .before .before .before .before .before .before .before .before .before .before .copy-nodes2 .ensures) E (c .before .before .before .before .before .before .before .before .before .before .before .before .before .before .before .if3 .taken) (c .before .before .before .before .before .before .solve-checking .ensures .0 _ E _ _ (c .before .before .before .before .before .before .before .before .before .before .before .before .before .before .before .before .before .before .before .before .before .before .before .before .before .before .before .pre .formed))
 
 solve-inf-app-requires : tie.Need-solve-inf-app-requires
 solve-inf-app-requires c κs = app-asks (c .before .before .before .before .before .before .before .before .before .before .before .before .before .before .before .before .pre) (c .before .before .before .if4 .taken)

@@ -1,6 +1,6 @@
 use borrow.Author.Needs.{needs}
-use Rattle.checker.proofs.solve_step.Statement.{statement}
-use Rattle.checker.proofs.solve_step.Tie as tie
+use Rattle.stepping.proofs.solve_step.Statement.{statement}
+use Rattle.stepping.proofs.solve_step.Tie as tie
 
 lend-step-requires : tie.Need-lend-step-requires
 lend-step-requires c κs = rw (c .before .before .before .before .before .before .before .before .before .counters-of .ensures, c .before .before .before .before .before .before .before .before .kept-of .ensures) (c .before .before .before .before .before .before .before .before .before .before .before .before .before .before .before .before .before .before .before .pre)

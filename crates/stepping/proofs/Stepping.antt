@@ -14,7 +14,7 @@ use Rattle.judgment.specs.Board.{Entry, State, state, Outcome, finished, refuse
 use Rattle.judgment.specs.Board.{Board as Entries}
 use Rattle.judgment.specs.Rules.{Env, rule}
 use Rattle.judgment.specs.Chain.{performO, performs}
-use Rattle.judgment.specs.Result.{limits, limitsWith}
+use Rattle.judgment.specs.Result.{limitsWith}
 use Rattle.judgment.proofs.Invariant.{EntryOK}
 use Rattle.judgment.proofs.WholeRun.{EntryWhole}
 use Rattle.board.specs.declared.Board.{Board}
@@ -28,8 +28,8 @@ use Rattle.operations.specs.declared.Run.{Run}
 use Rattle.operations.specs.State.{Came, outcomeBy, outcomeOf, stateOf, WellFormed, Does, going}
 use Rattle.operations.proofs.Latch.{going-is}
 use Rattle.applying.specs.Applying.{envOn}
-use Rattle.checker.specs.Running.{stepO, topEntry, JudgeAsk, Stepping, StepAsk}
-use Rattle.checker.proofs.Reaching.{entry-sound, solutions-sound, standing-ok, stands}
+use Rattle.stepping.specs.Stepping.{stepO, topEntry, JudgeAsk, Stepping, StepAsk}
+use Rattle.stepping.proofs.Reaching.{entry-sound, solutions-sound, standing-ok, stands}
 
 -- the run with the newest entry taken
 abbrev pub taking : Run → Top → Run
@@ -39,7 +39,7 @@ top-few : {b : List ℕ} {d : Board} → Stacked b d → 0 < d .entries → topO
 unfolding topOf
 top-few h l = let x = top-size h l in let y = h .fewNodes in omega arith
 
-module _ {s b k rep : List ℕ} {c : Run} {t l r w v : List ℕ} (a : StepAsk s b k rep c t l r w v) (o : Top) (e : o ≡ topOf b (c .board)) where
+module _ {m : ℕ} {s b k rep : List ℕ} {c : Run} {t l r w v : List ℕ} (a : StepAsk m s b k rep c t l r w v) (o : Top) (e : o ≡ topOf b (c .board)) where
   abbrev ls : List Triple
   ls = rows s
 
@@ -60,7 +60,7 @@ module _ {s b k rep : List ℕ} {c : Run} {t l r w v : List ℕ} (a : StepAsk s 
     unmade = a .standing .formed .unmade;
   }
 
-  pub step-asks : JudgeAsk s b k rep (taking c o) o t l r w v
+  pub step-asks : JudgeAsk m s b k rep (taking c o) o t l r w v
   step-asks =
       let q = standing-ok (a .standing) in
       record {
@@ -68,6 +68,7 @@ module _ {s b k rep : List ℕ} {c : Run} {t l r w v : List ℕ} (a : StepAsk s 
         formed = formed-next;
         within = rw e (top-within st (a .more));
         few = rw e (top-few st (a .more));
+        limit = a .limit;
         report = a .report;
         lent = a .lent;
         entry =
@@ -77,13 +78,13 @@ module _ {s b k rep : List ℕ} {c : Run} {t l r w v : List ℕ} (a : StepAsk s 
         solutions = solutions-sound ⊥ (c .fresh) (sols k) (q .inv .solutions) (q .solutions);
       }
 
-  pub step-reached : {b' k' rep' : List ℕ} {q : Run} → Does 1024 ls b k rep (taking c o) (rule (envOn s) (topEntry ls b o)) b' k' rep' q → Stepping s b k rep c b' k' rep' q
+  pub step-reached : {b' k' rep' : List ℕ} {q : Run} → Does m ls b k rep (taking c o) (rule (envOn s) (topEntry ls b o)) b' k' rep' q → Stepping m s b k rep c b' k' rep' q
   step-reached {b'} {k'} {rep'} {q} d =
       let E = envOn s in
       let g = going-is (c .halt) (a .goes) in
       let p : Entry = topEntry ls b o in
       let σ = sols k in
-      let one : performO limits (rule E p) (outcomeBy (c .halt) rep (state below σ (c .fresh))) ≡ stepO limits E (outcomeBy (c .halt) rep (stateOf ls b k c))
-      = rw (g, entries-are) (performs limits (rule E p) below σ (c .fresh)) in
-      let e : outcomeOf ls b' k' rep' q ≡ stepO limits E (outcomeOf ls b k rep c) = ap (λ (x : Came). x .outcome) (d .outcome) ∙ one in
-      record { standing = stands rep rep' (a .standing) (d .kept) e; outcome = e; taken = d .taken }
+      let one : performO (limitsWith m) (rule E p) (outcomeBy (c .halt) rep (state below σ (c .fresh))) ≡ stepO (limitsWith m) E (outcomeBy (c .halt) rep (stateOf ls b k c))
+      = rw (g, entries-are) (performs (limitsWith m) (rule E p) below σ (c .fresh)) in
+      let e : outcomeOf ls b' k' rep' q ≡ stepO (limitsWith m) E (outcomeOf ls b k rep c) = ap (λ (x : Came). x .outcome) (d .outcome) ∙ one in
+      record { standing = stands m rep rep' (a .standing) (d .kept) e; outcome = e; taken = d .taken }

@@ -1,0 +1,226 @@
+// One step of a run (worklist.rs: `solve_judgment`, and what `solve` does with an entry that it takes), its counters lent.
+ghost use mathlib.Core.Path.{_≡_};
+ghost use Rattle.sheet.specs.Rows.{rows};
+ghost use Rattle.judgment.specs.Rules.{rule};
+ghost use Rattle.operations.specs.State.{Does};
+ghost use Rattle.applying.specs.Applying.{envOn};
+ghost use Rattle.stepping.specs.Stepping.{topEntry, JudgeAsk, Stepping, StepAsk, joined, countersOf, keptOf};
+use applying::solve_inf_app;
+use board::Board;
+use board::Top;
+use board::pop;
+use book::Book;
+use checking::solve_checking;
+use inferring::solve_inference;
+use nodes::copy_nodes;
+use operations::Halt;
+use operations::Run;
+use subtyping::solve_subtype;
+
+// The counters of a run: entries taken, fresh numbers, the board's entries and their nodes. A step is lent them.
+pub struct Counters {
+    pub taken: u32,
+    pub fresh: u32,
+    pub entries: usize,
+    pub nodes: usize,
+}
+
+// What a run has beside its counters, and the nodes that it writes out at most.
+struct Kept {
+    book: Book,
+    halt: Halt,
+    limit: usize,
+}
+
+struct Stepped {
+    counters: Counters,
+    kept: Kept,
+}
+
+// Performs the rule of an entry that was taken off the board. A type is copied where the rule's pushes would write over it; a TVar or a Var is dropped.
+fn solve_judgment(
+    board: &mut [u32],
+    book: &mut [u32],
+    report: &mut [u32],
+    c: Run,
+    o: Top,
+    s: &[u64],
+    limit: usize,
+    t: &mut [u32],
+    l: &mut [u32],
+    r: &mut [u32],
+    w: &mut [usize],
+    v: &mut [usize],
+) -> Run
+    requires { ⌜ JudgeAsk limit (now s) (now board) (now book) (now report) c o (now t) (now l) (now r) (now w) (now v) ⌝ }
+    ensures { λ q. ⌜ Does limit (rows (now (s .entry))) (now (board .entry)) (now (book .entry)) (now (report .entry)) c (rule (envOn (now (s .entry))) (topEntry (rows (now (s .entry))) (now (board .entry)) o)) (now (board .exit)) (now (book .exit)) (now (report .exit)) q ⌝ }
+{
+    let kind = o.kind;
+    let line = o.number;
+    let at = o.at;
+    let n = o.left;
+    if kind == 3 {
+        return solve_subtype(board, book, report, c, at, n, o.right, limit);
+    }
+    if kind == 4 {
+        copy_nodes(t, 0, board, at, n);
+        return solve_inference(board, c, s, line, t, n, l, r, w, v);
+    }
+    if kind == 5 {
+        copy_nodes(t, 0, board, at, n);
+        return solve_checking(board, c, s, line, t, n, l);
+    }
+    if kind == 6 {
+        return solve_inf_app(board, book, report, c, line, at, n, o.right, limit);
+    }
+    c
+}
+
+// The run that counters and the rest make together.
+fn run_of(n: Counters, k: Kept) -> Run
+    ensures { λ r. ⌜ r ≡ joined n k ⌝ }
+{
+    let book = k.book;
+    let halt = k.halt;
+    Run {
+        taken: n.taken,
+        fresh: n.fresh,
+        board: Board {
+            entries: n.entries,
+            nodes: n.nodes,
+        },
+        book,
+        halt,
+    }
+}
+
+fn counters_of(run: Run) -> Counters
+    ensures { λ r. ⌜ r ≡ countersOf run ⌝ }
+{
+    let board = run.board;
+    Counters {
+        taken: run.taken,
+        fresh: run.fresh,
+        entries: board.entries,
+        nodes: board.nodes,
+    }
+}
+
+fn kept_of(run: Run, limit: usize) -> Kept
+    ensures { λ r. ⌜ r ≡ keptOf run limit ⌝ }
+{
+    let book = run.book;
+    let halt = run.halt;
+    Kept { book, halt, limit }
+}
+
+// One step: takes the newest entry. The slices have one lifetime here and in the two functions below, so that a proof by hand has one token for them all.
+fn step_apart<'a>(
+    c: Counters,
+    kept: Kept,
+    board: &'a mut [u32],
+    book: &'a mut [u32],
+    report: &'a mut [u32],
+    s: &'a [u64],
+    t: &'a mut [u32],
+    l: &'a mut [u32],
+    r: &'a mut [u32],
+    w: &'a mut [usize],
+    v: &'a mut [usize],
+) -> Stepped
+    requires { ⌜ StepAsk (kept .limit) (now s) (now board) (now book) (now report) (joined c kept) (now t) (now l) (now r) (now w) (now v) ⌝ }
+    ensures { λ q. ⌜ Stepping (kept .limit) (now (s .entry)) (now (board .entry)) (now (book .entry)) (now (report .entry)) (joined c kept) (now (board .exit)) (now (book .exit)) (now (report .exit)) (joined (q .counters) (q .kept)) ⌝ }
+{
+    let b = Board {
+        entries: c.entries,
+        nodes: c.nodes,
+    };
+    let o = pop(board, b);
+    let rest = o.rest;
+    let solved = kept.book;
+    let halt = kept.halt;
+    let taken = Run {
+        taken: c.taken + 1,
+        fresh: c.fresh,
+        board: rest,
+        book: solved,
+        halt,
+    };
+    let q = solve_judgment(board, book, report, taken, o, s, kept.limit, t, l, r, w, v);
+    Stepped {
+        counters: counters_of(q),
+        kept: kept_of(q, kept.limit),
+    }
+}
+
+// The same with the counters lent: they are changed where they stand.
+fn step_lent<'c, 'a>(
+    c: &'c mut Counters,
+    kept: Kept,
+    board: &'a mut [u32],
+    book: &'a mut [u32],
+    report: &'a mut [u32],
+    s: &'a [u64],
+    t: &'a mut [u32],
+    l: &'a mut [u32],
+    r: &'a mut [u32],
+    w: &'a mut [usize],
+    v: &'a mut [usize],
+) -> Kept
+    requires { ⌜ StepAsk (kept .limit) (now s) (now board) (now book) (now report) (joined (now c) kept) (now t) (now l) (now r) (now w) (now v) ⌝ }
+    ensures { λ q. ⌜ Stepping (kept .limit) (now (s .entry)) (now (board .entry)) (now (book .entry)) (now (report .entry)) (joined (now (c .entry)) kept) (now (board .exit)) (now (book .exit)) (now (report .exit)) (joined (now (c .exit)) q) ⌝ }
+{
+    let q = step_apart(*c, kept, board, book, report, s, t, l, r, w, v);
+    *c = q.counters;
+    q.kept
+}
+
+// Lends them. Its parameters are plain, so whoever calls it needs no proof by hand.
+fn lend_step<'a>(
+    c: Counters,
+    kept: Kept,
+    board: &'a mut [u32],
+    book: &'a mut [u32],
+    report: &'a mut [u32],
+    s: &'a [u64],
+    t: &'a mut [u32],
+    l: &'a mut [u32],
+    r: &'a mut [u32],
+    w: &'a mut [usize],
+    v: &'a mut [usize],
+) -> Stepped
+    requires { ⌜ StepAsk (kept .limit) (now s) (now board) (now book) (now report) (joined c kept) (now t) (now l) (now r) (now w) (now v) ⌝ }
+    ensures { λ q. ⌜ Stepping (kept .limit) (now (s .entry)) (now (board .entry)) (now (book .entry)) (now (report .entry)) (joined c kept) (now (board .exit)) (now (book .exit)) (now (report .exit)) (joined (q .counters) (q .kept)) ⌝ }
+{
+    let mut mine = c;
+    let k = step_lent(&mut mine, kept, board, book, report, s, t, l, r, w, v);
+    Stepped {
+        counters: mine,
+        kept: k,
+    }
+}
+
+// One step of a run, its counters lent.
+pub fn solve_step(
+    board: &mut [u32],
+    book: &mut [u32],
+    report: &mut [u32],
+    c: Run,
+    s: &[u64],
+    limit: usize,
+    t: &mut [u32],
+    l: &mut [u32],
+    r: &mut [u32],
+    w: &mut [usize],
+    v: &mut [usize],
+) -> Run
+    requires { ⌜ StepAsk limit (now s) (now board) (now book) (now report) c (now t) (now l) (now r) (now w) (now v) ⌝ }
+    ensures { λ q. ⌜ Stepping limit (now (s .entry)) (now (board .entry)) (now (book .entry)) (now (report .entry)) c (now (board .exit)) (now (book .exit)) (now (report .exit)) q ⌝ }
+{
+    let counters = counters_of(c);
+    let kept = kept_of(c, limit);
+    let q = lend_step(counters, kept, board, book, report, s, t, l, r, w, v);
+    let n = q.counters;
+    let k = q.kept;
+    run_of(n, k)
+}
