@@ -7,7 +7,7 @@ use mathlib.Core.List.{List, [], _∷_, _++_, append-nil}
 use Prim.Native.Nat.{ℕ, zero, suc, _+_, _*_, _-_, _≤_, _<_}
 use native.Mathlib.Numerals.{add-one}
 use native.Mathlib.Omega.{arith}
-use lib.ListN.{length, getD, set, take, length-append}
+use lib.ListN.{length, getD, set, take, length-append, length-set}
 use lib.Seq.{sets, take-all, take-append-le, take-append-add}
 use lib.Dec.{leb, ltb, eqb}
 use borrow.Author.Tests.{leb-true, leb-false, ltb-true, ltb-false, eqb-true, eqb-false, le-leb, lt-leb}
@@ -118,6 +118,10 @@ none-written : (t : Ty) (n end : ℕ) (o : List ℕ) → end ≤ n → o ≡ wri
 unfolding words
 none-written t n end o h = let e : end - n ≡ 0 = omega arith in rw e
 
+-- what a call leaves that writes t out, up to node `end`
+abbrev pub Leaves : ℕ → Ty → ℕ → List ℕ → Wrote → List ℕ → Type 0
+Leaves end t m o₁ r o₂ = (r ≡ wrote t m end) × (o₂ ≡ writtenTo t m end o₁)
+
 -- ---- the first node of a call at which nodes are left. t is its measure
 module _ {s : List ℕ} {at left : ℕ} {w o : List ℕ} {n end : ℕ} (ask : WriteAsk s at left w o n end) (some : left ≢ 0) where
   abbrev σ : Solutions
@@ -144,10 +148,6 @@ module _ {s : List ℕ} {at left : ℕ} {w o : List ℕ} {n end : ℕ} (ask : Wr
     most = l;
   }
 
-  -- what a call leaves that writes t out
-  abbrev Leaves : Ty → ℕ → List ℕ → Wrote → List ℕ → Type 0
-  Leaves t m o₁ r o₂ = (r ≡ wrote t m end) × (o₂ ≡ writtenTo t m end o₁)
-
   module _ (f : Unsolved w d v) where
     free : Free (keys σ) (node d v)
     free = go (eqb d 17) refl
@@ -165,10 +165,10 @@ module _ {s : List ℕ} {at left : ℕ} {w o : List ℕ} {n end : ℕ} (ask : Wr
         let one = visits-free σ (node d v) free in
         omega arith
 
-    pub miss-full : end ≤ n → Leaves (writeOut σ (nodesAt s at left)) n o Over o
+    pub miss-full : end ≤ n → Leaves end (writeOut σ (nodesAt s at left)) n o Over o
     miss-full h = rw miss-out (sym (none-wrote (node d v) (writeOut σ others) n end h), none-written ((node d v ∷ []) ++ writeOut σ others) n end o h)
 
-    pub miss-on : {r : Wrote} {o₂ : List ℕ} → n < end → Leaves (writeOut σ others) (n + 1) (set (set o (2 * n) d) (2 * n + 1) v) r o₂ → Leaves (writeOut σ (nodesAt s at left)) n o r o₂
+    pub miss-on : {r : Wrote} {o₂ : List ℕ} → n < end → Leaves end (writeOut σ others) (n + 1) (set (set o (2 * n) d) (2 * n + 1) v) r o₂ → Leaves end (writeOut σ (nodesAt s at left)) n o r o₂
     miss-on h l =
         let x : Ty = node d v ∷ [] in
         let y : Ty = writeOut σ others in
@@ -206,11 +206,11 @@ module _ {s : List ℕ} {at left : ℕ} {w o : List ℕ} {n end : ℕ} (ask : Wr
       most = ask .most;
     }
 
-    pub hit-fits : {r₁ : Wrote} {o₁ : List ℕ} {m : ℕ} → Leaves (writeOut σ solution) n o r₁ o₁ → r₁ ≡ Fits m → m ≤ end
+    pub hit-fits : {r₁ : Wrote} {o₁ : List ℕ} {m : ℕ} → Leaves end (writeOut σ solution) n o r₁ o₁ → r₁ ≡ Fits m → m ≤ end
     hit-fits {m = m} a q = let k = fits-told (writeOut σ solution) [] n end o m (sym (a .0) ∙ q) in let z = k .0 in let y = k .1 in omega arith
 
-    pub hit-on : {r₁ r₂ : Wrote} {o₁ o₂ : List ℕ} {m : ℕ} → Leaves (writeOut σ solution) n o r₁ o₁ → r₁ ≡ Fits m → Leaves (writeOut σ others) m o₁ r₂ o₂
-        → Leaves (writeOut σ (nodesAt s at left)) n o r₂ o₂
+    pub hit-on : {r₁ r₂ : Wrote} {o₁ o₂ : List ℕ} {m : ℕ} → Leaves end (writeOut σ solution) n o r₁ o₁ → r₁ ≡ Fits m → Leaves end (writeOut σ others) m o₁ r₂ o₂
+        → Leaves end (writeOut σ (nodesAt s at left)) n o r₂ o₂
     hit-on {m = m} a q l =
         let x = writeOut σ solution in
         let y = writeOut σ others in
@@ -220,7 +220,7 @@ module _ {s : List ℕ} {at left : ℕ} {w o : List ℕ} {n end : ℕ} (ask : Wr
           l .1 ∙ ap₂ (λ (j : ℕ) (b : List ℕ). writtenTo y j end b) (k .1) (a .1) ∙ then-written x y n end o (k .0),
         )
 
-    pub hit-over : {r₁ : Wrote} {o₁ : List ℕ} → Leaves (writeOut σ solution) n o r₁ o₁ → r₁ ≡ Over → Leaves (writeOut σ (nodesAt s at left)) n o Over o₁
+    pub hit-over : {r₁ : Wrote} {o₁ : List ℕ} → Leaves end (writeOut σ solution) n o r₁ o₁ → r₁ ≡ Over → Leaves end (writeOut σ (nodesAt s at left)) n o Over o₁
     hit-over a q =
         let x = writeOut σ solution in
         let y = writeOut σ others in
@@ -228,10 +228,59 @@ module _ {s : List ℕ} {at left : ℕ} {w o : List ℕ} {n end : ℕ} (ask : Wr
         rw hit-out (sym (over-wrote x y n end o k), a .1 ∙ over-written x y n end o k)
 
 -- a call at which no node is left
-pub empty-leaves : {s : List ℕ} {at left : ℕ} {w o : List ℕ} {n end : ℕ} → WriteAsk s at left w o n end → left ≡ 0
+empty-leaves : {s : List ℕ} {at left : ℕ} {w o : List ℕ} {n end : ℕ} → WriteAsk s at left w o n end → left ≡ 0
     → (Fits n ≡ wrote (writeOut (sols w) (nodesAt s at left)) n end) × (o ≡ writtenTo (writeOut (sols w) (nodesAt s at left)) n end o)
 unfolding nodesAt words
 empty-leaves {s} {at} {left} {w} {o} {n} {end} ask z =
     let e : writeOut (sols w) (nodesAt s at left) ≡ [] = ap (λ (k : ℕ). writeOut (sols w) (nodesAt s at k)) z ∙ written-free (sols w) [] tt in
     let f : n + 0 ≡ n = omega arith in
     rw (e, f, le-leb n end (ask .most)) (refl, ap (λ (t : Ty). sets o (2 * n) (words t)) (sym (take-all (end - n) [] (omega arith))))
+
+-- ---- the turns of a call: the l nodes at word p of s are left, and m stand in o'
+pub record Turning (s : List ℕ) (at left : ℕ) (w o : List ℕ) (n end : ℕ) (o' : List ℕ) (p l m : ℕ) : Type 0 where
+  pub ask : WriteAsk s p l w o' m end
+  pub same : length o' ≡ length o
+  pub less : visits (sols w) (nodesAt s p l) ≤ visits (sols w) (nodesAt s at left)
+  pub whole : (r : Wrote) (o₂ : List ℕ) → Leaves end (writeOut (sols w) (nodesAt s p l)) m o' r o₂ → Leaves end (writeOut (sols w) (nodesAt s at left)) n o r o₂
+
+module _ {s : List ℕ} {at left : ℕ} {w o : List ℕ} {n end : ℕ} where
+  pub first-turn : WriteAsk s at left w o n end → Turning s at left w o n end o at left n
+  first-turn a = record { ask = a; same = refl; less = omega arith; whole = λ r o₂ x. x }
+
+  module _ {o' : List ℕ} {p l m : ℕ} (i : Turning s at left w o n end o' p l m) where
+    pub last-turn : l ≡ 0 → Leaves end (writeOut (sols w) (nodesAt s at left)) n o (Fits m) o'
+    last-turn z = i .whole (Fits m) o' (empty-leaves (i .ask) z)
+
+    module _ (some : 0 < l) where
+      left-some : l ≢ 0
+      left-some e = omega arith
+
+      pub miss-ends : Unsolved w (getD s p 0) (getD s (p + 1) 0) → end ≤ m → Leaves end (writeOut (sols w) (nodesAt s at left)) n o Over o'
+      miss-ends f h = i .whole Over o' (miss-full (i .ask) left-some f h)
+
+      pub miss-turn : Unsolved w (getD s p 0) (getD s (p + 1) 0) → m < end
+          → Turning s at left w o n end (set (set o' (2 * m) (getD s p 0)) (2 * m + 1) (getD s (p + 1) 0)) (p + 2) (l - 1) (m + 1)
+      miss-turn f h =
+          let e : length (set (set o' (2 * m) (getD s p 0)) (2 * m + 1) (getD s (p + 1) 0)) ≡ length o' = simp length-set in
+          record {
+            ask = on-ask (i .ask) left-some _ (m + 1) e (omega arith);
+            same = e ∙ i .same;
+            less = let a = miss-falls (i .ask) left-some f (visits (sols w) (nodesAt s p l)) refl in let b = i .less in omega arith;
+            whole = λ r o₂ x. i .whole r o₂ (miss-on (i .ask) left-some f h x);
+          }
+
+      module _ {q : Place} (f : Solved w (getD s p 0) (getD s (p + 1) 0) q) where
+        pub in-turn : (t : ℕ) → visits (sols w) (nodesAt s at left) ≡ t → (visits (sols w) (nodesAt w (q .start) (q .count)) < t) × WriteAsk w (q .start) (q .count) w o' m end
+        in-turn t e = (let a = in-falls (i .ask) left-some f (visits (sols w) (nodesAt s p l)) refl in let b = i .less in omega arith, in-ask (i .ask) left-some f)
+
+        module _ {r₁ : Wrote} {o₁ : List ℕ} (a : Leaves end (writeOut (sols w) (nodesAt w (q .start) (q .count))) m o' r₁ o₁) where
+          pub hit-ends : r₁ ≡ Over → Leaves end (writeOut (sols w) (nodesAt s at left)) n o Over o₁
+          hit-ends u = i .whole Over o₁ (hit-over (i .ask) left-some f a u)
+
+          pub hit-turn : (k : ℕ) → length o₁ ≡ length o' → r₁ ≡ Fits k → Turning s at left w o n end o₁ (p + 2) (l - 1) k
+          hit-turn k e u = record {
+            ask = on-ask (i .ask) left-some o₁ k e (hit-fits (i .ask) left-some f a u);
+            same = e ∙ i .same;
+            less = let b = on-falls (i .ask) left-some f (visits (sols w) (nodesAt s p l)) refl in let b₂ = i .less in omega arith;
+            whole = λ r o₂ x. i .whole r o₂ (hit-on (i .ask) left-some f a u x);
+          }

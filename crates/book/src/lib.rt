@@ -102,30 +102,39 @@ pub fn write_out(
     requires { ⌜ WriteAsk (now src) at left (now book) (now out) n end ⌝ }
     ensures { λ r. ⌜ (r ≡ wrote (writeOut (sols (now (book .entry))) (nodesAt (now (src .entry)) at left)) n end) × (now (out .exit) ≡ writtenTo (writeOut (sols (now (book .entry))) (nodesAt (now (src .entry)) at left)) n end (now (out .entry))) ⌝ }
 {
-    if left == 0 {
-        return Wrote::Fits(n);
-    }
-    let kind = src[at];
-    let number = src[at + 1];
-    match find(book, kind, number) {
-        Found::At(p) => {
-            let start = p.start;
-            let count = p.count;
-            match write_out(book, start, count, book, out, n, end) {
-                Wrote::Fits(m) => write_out(src, at + 2, left - 1, book, out, m, end),
-                Wrote::Over => Wrote::Over,
+    let mut p = at;
+    let mut l = left;
+    let mut m = n;
+    while 0 < l {
+        let kind = src[p];
+        let number = src[p + 1];
+        match find(book, kind, number) {
+            Found::At(q) => {
+                let start = q.start;
+                let count = q.count;
+                match write_out(book, start, count, book, out, m, end) {
+                    Wrote::Fits(k) => {
+                        m = k;
+                    }
+                    Wrote::Over => {
+                        return Wrote::Over;
+                    }
+                }
+            }
+            Found::Nothing => {
+                if end <= m {
+                    return Wrote::Over;
+                }
+                let two = 2 * m;
+                out[two] = kind;
+                out[two + 1] = number;
+                m += 1;
             }
         }
-        Found::Nothing => {
-            if end <= n {
-                return Wrote::Over;
-            }
-            let two = 2 * n;
-            out[two] = kind;
-            out[two + 1] = number;
-            write_out(src, at + 2, left - 1, book, out, n + 1, end)
-        }
+        p += 2;
+        l -= 1;
     }
+    Wrote::Fits(m)
 }
 
 // Empties the book.

@@ -22,13 +22,11 @@ use Rattle.judgment.specs.Result.{limitsWith}
 use Rattle.board.specs.Board.{entryAt, entriesOf}
 use Rattle.book.specs.Book.{sols}
 use Rattle.operations.specs.declared.Halt.{Halt}
-use Rattle.operations.specs.declared.Halt.the-variants.{Going, Refused}
 use Rattle.operations.specs.declared.Run.{Run}
 use Rattle.operations.specs.State.{reported, outcomeBy, outcomeOf, stateOf, going}
-use Rattle.operations.proofs.Latch.{going-is}
 use Rattle.applying.specs.Applying.{envOn}
 use Rattle.stepping.specs.Stepping.{stepO, Standing, Stepping}
-use Rattle.checker.specs.Running.{Told, told, endBy, endOf}
+use Rattle.checker.specs.Running.{Told, told, endAt, endBy, endOf}
 
 -- ---- on the definition
 module _ (L : Limits) (E : Env) (C : ℕ) where
@@ -62,15 +60,15 @@ module _ (L : Limits) (E : Env) (C : ℕ) where
   turn-entries ls b zero h m l σ n = absurd (not-suc-le-zero h)
   turn-entries ls b (suc i) h m l σ n = left-turn m l (entryAt ls b i) (entriesOf ls b i) σ n
 
-  end-entries : (ls : List Triple) (b rep : List ℕ) (i m : ℕ) (σ : Solutions) (n : ℕ) → (0 < i → C ≤ m)
-      → leftOf m (finished (state (entriesOf ls b i) σ n)) ≡ record { end = endBy Going i rep; taken = m; last = state (entriesOf ls b i) σ n }
+  end-entries : (ls : List Triple) (b : List ℕ) (i m : ℕ) (σ : Solutions) (n : ℕ) → (0 < i → C ≤ m)
+      → leftOf m (finished (state (entriesOf ls b i) σ n)) ≡ record { end = endAt i; taken = m; last = state (entriesOf ls b i) σ n }
   unfolding runFrom entriesOf
-  end-entries ls b rep zero m σ n h = go (C - m)
+  end-entries ls b zero m σ n h = go (C - m)
     where
       go : (c : ℕ) → told m (runFrom L E c (state [] σ n)) ≡ record { end = accepted; taken = m; last = state [] σ n }
       go zero = ap (λ (k : ℕ). record { end = accepted; taken = k; last = state [] σ n }) (add-zero m)
       go (suc c) = ap (λ (k : ℕ). record { end = accepted; taken = k; last = state [] σ n }) (add-zero m)
-  end-entries ls b rep (suc i) m σ n h =
+  end-entries ls b (suc i) m σ n h =
       let z : C - m ≡ 0 = (let y = h (omega arith) in omega arith) in
       let s : State = state (entryAt ls b i ∷ entriesOf ls b i) σ n in
       ap (λ (c : ℕ). told m (runFrom L E c s)) z ∙ ap (λ (k : ℕ). record { end = ceiling; taken = k; last = s }) (add-zero m)
@@ -88,7 +86,7 @@ wholeRun m s C b k c = told (c .taken) (runFrom (limitsWith m) (envOn s) (C - c 
 pub loop-start : {m : ℕ} {s : List ℕ} (C : ℕ) {b k rep : List ℕ} {c : Run} → Standing s b k c → going (c .halt) ≡ true → Loop m s C (wholeRun m s C b k c) b k rep c
 loop-start {m} {s} C {b} {k} {rep} {c} r g = record {
   standing = r;
-  left = ap (λ (h : Halt). leftOf (limitsWith m) (envOn s) C (c .taken) (outcomeBy h rep (stateOf (rows s) b k c))) (going-is (c .halt) g);
+  left = rw g refl;
 }
 
 -- what the test tells
@@ -103,7 +101,7 @@ pub loop-turn : {m : ℕ} {s : List ℕ} {C : ℕ} {T : Told} {b k rep : List �
 loop-turn {m} {s} {C} {T} {b} {k} {rep} {c} {b'} {k'} {rep'} {q} f h r =
     let E = envOn s in
     let ls = rows s in
-    let g = going-is (c .halt) (f .0) in
+    let g = f .0 in
     let t : leftOf (limitsWith m) E C (c .taken + 1) (stepO (limitsWith m) E (outcomeBy (c .halt) rep (stateOf ls b k c))) ≡ leftOf (limitsWith m) E C (c .taken) (outcomeBy (c .halt) rep (stateOf ls b k c)) =
     rw g (turn-entries (limitsWith m) E C ls b (c .board .entries) (f .1) (c .taken) (f .2) (sols k) (c .fresh)) in
     record {
@@ -114,13 +112,16 @@ loop-turn {m} {s} {C} {T} {b} {k} {rep} {c} {b'} {k'} {rep'} {q} f h r =
 -- no more is taken
 ended : (L : Limits) (E : Env) (C : ℕ) (ls : List Triple) (b rep : List ℕ) (h : Halt) (i m : ℕ) (σ : Solutions) (n : ℕ) → (going h && (ltb 0 i && ltb m C)) ≡ false
     → leftOf L E C m (outcomeBy h rep (state (entriesOf ls b i) σ n)) ≡ record { end = endBy h i rep; taken = m; last = state (entriesOf ls b i) σ n }
-ended L E C ls b rep Going i m σ n e = end-entries L E C ls b rep i m σ n (λ l. go (ltb 0 i) (ltb m C) refl refl l e)
+ended L E C ls b rep h i m σ n e = by (going h) refl
   where
     go : (x y : Bool) → ltb 0 i ≡ x → ltb m C ≡ y → 0 < i → (x && y) ≡ false → C ≤ m
     go true true p q l z = absurd (let u : _≡_ {A = ℕ} 0 1 = cc in omega arith)
     go true false p q l z = ltb-false m C q
     go false y p q l z = absurd (let u = ltb-false 0 i p in omega arith)
-ended L E C ls b rep (Refused r) i m σ n e = refl
+
+    by : (g : Bool) → going h ≡ g → leftOf L E C m (outcomeBy h rep (state (entriesOf ls b i) σ n)) ≡ record { end = endBy h i rep; taken = m; last = state (entriesOf ls b i) σ n }
+    by true g = rw g (end-entries L E C ls b i m σ n (λ l. go (ltb 0 i) (ltb m C) refl refl l (sym (ap (λ (x : Bool). x && (ltb 0 i && ltb m C)) g) ∙ e)))
+    by false g = rw g refl
 
 pub loop-end : {m : ℕ} {s : List ℕ} {C : ℕ} {T : Told} {b k rep : List ℕ} {c : Run} → Loop m s C T b k rep c → (going (c .halt) && (ltb 0 (c .board .entries) && ltb (c .taken) C)) ≡ false
     → T ≡ record { end = endOf rep c; taken = c .taken; last = stateOf (rows s) b k c }

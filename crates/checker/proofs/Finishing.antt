@@ -11,6 +11,7 @@ use lib.Seq.{sets, length-sets, sets-eq, take-all, length-take-le, getD-take, ge
 use lib.ListN.{List·getD-append, getD-replicate}
 use borrow.Author.Tests.{ltb-true, ltb-false, lt-ltb, le-ltb, ne-eqb}
 use Rattle.nodes.specs.Nodes.{Ty, words, nodesAt, zeros}
+use Rattle.nodes.proofs.ListLaws.{cond-ind}
 use Rattle.nodes.proofs.Laws.{length-words, length-nodesAt, getD-sets-below, getD-sets-in}
 use Rattle.spelling.specs.declared.Triple.{Triple}
 use Rattle.sheet.specs.Plan.{isPlain, planOf}
@@ -28,11 +29,10 @@ use Rattle.book.specs.declared.Book.{Book}
 use Rattle.book.specs.Book.{sols, Booked}
 use Rattle.book.proofs.Words.{words-at, book-words}
 use Rattle.operations.specs.declared.Halt.{Halt}
-use Rattle.operations.specs.declared.Halt.the-variants.{Going, Refused}
 use Rattle.operations.specs.declared.Run.{Run}
-use Rattle.operations.specs.State.{reported, stateOf, WellFormed}
+use Rattle.operations.specs.State.{reported, errorOf, going, stateOf, WellFormed}
 use Rattle.applying.specs.Applying.{envOn}
-use Rattle.checker.specs.Running.{startOf, Told, told, endBy, endOf, reportEnd, answerBy}
+use Rattle.checker.specs.Running.{startOf, Told, told, endAt, endBy, endOf, reportEnd, answerBy}
 use Rattle.checker.specs.Calling.{Ran}
 
 -- ---- the result
@@ -66,23 +66,27 @@ judged s C b k rep c e =
     result-told (p .plain) (runFrom limits (envOn s) C (startOf (rows s))) ∙ ap (resultTold (p .plain)) e
 
 -- ---- the numbers of an end
-pub going-number : (i : ℕ) (rep : List ℕ) → endNumber (endBy Going i rep) ≡ cond (eqb i 0) 0 21
-going-number zero rep = refl
-going-number (suc i) rep = sym (ap (λ (b : Bool). cond b 0 21) (ne-eqb (suc i) 0 (λ z. omega arith)))
+pub going-number : (i : ℕ) → endNumber (endAt i) ≡ cond (eqb i 0) 0 21
+going-number zero = refl
+going-number (suc i) = sym (ap (λ (b : Bool). cond b 0 21) (ne-eqb (suc i) 0 (λ z. omega arith)))
 
-pub going-details : (i : ℕ) (rep : List ℕ) → endDetails (endBy Going i rep) ≡ (0, 0)
-going-details zero rep = refl
-going-details (suc i) rep = refl
+pub going-details : (i : ℕ) → endDetails (endAt i) ≡ (0, 0)
+going-details zero = refl
+going-details (suc i) = refl
 
 pub answer-is : (plain : Bool) (e : End) (taken fresh : ℕ) {n m : ℕ} {d : Details} → n ≡ endNumber e → d ≡ endDetails e → m ≡ cond plain 1 0
     → record { number = n; line = 0; taken = taken; fresh = fresh; detail1 = d .0; detail2 = d .1; plain = m } ≡ answerBy plain e taken fresh
 answer-is plain e taken fresh p q r = rw (p, q, r) refl
 
-pub refused-fits : {h : Halt} {e : TypeError} {n : ℕ} → h ≡ Refused e → n ≡ reported e → n < 2048 → 2 * n ≡ reportEnd h
-refused-fits {h} {e} {n} p q l = rw q (sym (ap reportEnd p ∙ ap (λ (b : Bool). cond b (2 * reported e) 4096) (lt-ltb (reported e) 2048 (omega arith))))
+module _ (h : Halt) {e : TypeError} {n : ℕ} (g : going h ≡ false) (p : e ≡ errorOf h) (q : n ≡ reported e) where
+  counted : n ≡ reported (errorOf h)
+  counted = q ∙ ap reported p
 
-pub refused-over : {h : Halt} {e : TypeError} {n : ℕ} → h ≡ Refused e → n ≡ reported e → 2048 ≤ n → 4096 ≡ reportEnd h
-refused-over {h} {e} {n} p q l = sym (ap reportEnd p ∙ ap (λ (b : Bool). cond b (2 * reported e) 4096) (le-ltb (reported e) 2048 (omega arith)))
+  pub refused-fits : n < 2048 → 2 * n ≡ reportEnd h
+  refused-fits l = rw (g, sym counted, lt-ltb n 2048 l) refl
+
+  pub refused-over : 2048 ≤ n → 4096 ≡ reportEnd h
+  refused-over l = rw (g, sym counted, le-ltb n 2048 l) refl
 
 -- ---- the buffers
 -- all words of a buffer of that length
@@ -150,17 +154,16 @@ module _ (rep : List ℕ) (len : length rep ≡ 4096) (n : ℕ) where
 -- at any end
 pub ended-report : (rep : List ℕ) → length rep ≡ 4096 → (h : Halt) (i : ℕ) → sets rep (reportEnd h) (zeros (4096 - reportEnd h)) ≡ reportWords (endReport (endBy h i rep))
 unfolding nodesAt
-ended-report rep len Going zero = report-is rep len 0
-ended-report rep len Going (suc i) = report-is rep len 0
-ended-report rep len (Refused e) i = report-is rep len (reported e)
+ended-report rep len h i = go (going h) refl i
+  where
+    go : (g : Bool) → going h ≡ g → (i : ℕ) → sets rep (reportEnd h) (zeros (4096 - reportEnd h)) ≡ reportWords (endReport (endBy h i rep))
+    go true g zero = rw g (report-is rep len 0)
+    go true g (suc i) = rw g (report-is rep len 0)
+    go false g i = rw g (report-is rep len (reported (errorOf h)))
 
 pub end-small : (h : Halt) → reportEnd h ≤ 4096
-end-small Going = omega arith
-end-small (Refused e) = go (ltb (reported e) 2048) refl
-  where
-    go : (b : Bool) → ltb (reported e) 2048 ≡ b → cond b (2 * reported e) 4096 ≤ 4096
-    go true q = let x = ltb-true (reported e) 2048 q in omega arith
-    go false q = omega arith
+end-small h = cond-ind (λ (n : ℕ). n ≤ 4096) (going h) (λ _. omega arith)
+    (λ _. cond-ind (λ (n : ℕ). n ≤ 4096) (ltb (reported (errorOf h)) 2048) (λ q. let x = ltb-true (reported (errorOf h)) 2048 q in omega arith) (λ _. omega arith))
 
 -- ---- all of it
 pub ran : (s : List ℕ) (C : ℕ) {b k : List ℕ} (rep : List ℕ) (c : Run) {b' rep' : List ℕ} {a : Answer} {plain : Bool} {n : ℕ}

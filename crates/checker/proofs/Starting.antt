@@ -20,7 +20,7 @@ use Rattle.sheet.specs.Rows.{rows}
 use Rattle.sheet.specs.Form.{Forms, IsPart}
 use Rattle.sheet.proofs.Forming.{split}
 use Rattle.sheet.proofs.TypeLines.{type-narrow}
-use mathlib.Core.Bool.{Bool, true, false, true≢false}
+use mathlib.Core.Bool.{Bool, true, false, cond, true≢false}
 use Rattle.judgment.specs.Board.{chk, State, state, Outcome, finished, refused}
 use Rattle.judgment.specs.Run.{runFrom}
 use Rattle.judgment.proofs.Promised.{plan-inv}
@@ -36,9 +36,8 @@ use Rattle.book.proofs.Words.{new-sols, new-booked, zero-at}
 use Rattle.inference.proofs.Heads.{part-within}
 use Rattle.inference.proofs.Written.{length-typeOn, copied}
 use Rattle.operations.specs.declared.Halt.{Halt}
-use Rattle.operations.specs.declared.Halt.the-variants.{Going, Refused}
 use Rattle.operations.specs.declared.Run.{Run}
-use Rattle.operations.specs.State.{outcomeBy, outcomeOf, stateOf, WellFormed, going}
+use Rattle.operations.specs.State.{reported, noHalt, errorOf, outcomeBy, outcomeOf, stateOf, WellFormed, going}
 use Rattle.stepping.specs.Stepping.{Read, Standing}
 use Rattle.checker.specs.Running.{startOf, told, StartAsk}
 use Rattle.stepping.proofs.Judging.{part-stands}
@@ -109,7 +108,7 @@ module _ (s : List ℕ) (h : Read s) where
     words-after = laid b none 5 (placesOf ls .term) T []
 
     abbrev begun : Run
-    begun = record { taken = 0; fresh = 0; board = grown none (n + 0); book = record { nodes = 0 }; halt = Going }
+    begun = record { taken = 0; fresh = 0; board = grown none (n + 0); book = record { nodes = 0 }; halt = noHalt }
 
     few : 0 + (length T + 0) ≤ 4096
     few =
@@ -168,14 +167,14 @@ module _ {s b k t : List ℕ} (a : StartAsk s b k t) {p : Places} (ep : p ≡ pl
         let z : T ≡ nodesOf (take (partLine (rows s) (placesOf (rows s) .expected) 1 - placesOf (rows s) .expected) (drop (placesOf (rows s) .expected) (rows s))) = rw (ee, ep) refl in
         y ∙ z
 
-    pub begun-is : {b' k' : List ℕ} {q : Board} {bk : Book} → (b' ≡ laid b d 5 (p .term) (nodesAt t' 0 (e - p .expected)) (nodesAt t' 0 0)) × (q ≡ grown d (e - p .expected + 0)) → k' ≡ sets k 0 (bookWords []) → bk ≡ record { nodes = 0 }
-        → (let r : Run = record { taken = 0; fresh = 0; board = q; book = bk; halt = Going } in WellFormed b' k' r × (r .taken ≡ 0) × ((rep : List ℕ) → outcomeOf (rows s) b' k' rep r ≡ finished (startOf (rows s))))
+    pub begun-is : {b' k' : List ℕ} {q : Board} {bk : Book} → (b' ≡ laid b d 5 (p .term) (nodesAt t' 0 (e - p .expected)) (nodesAt t' 0 0)) × (q ≡ grown d (e - p .expected + 0)) → k' ≡ sets k 0 (bookWords []) → bk ≡ record { nodes = 0 } → {h : Halt} → h ≡ noHalt
+        → (let r : Run = record { taken = 0; fresh = 0; board = q; book = bk; halt = h } in WellFormed b' k' r × (r .taken ≡ 0) × ((rep : List ℕ) → outcomeOf (rows s) b' k' rep r ≡ finished (startOf (rows s))))
     unfolding nodesAt
-    begun-is u ek eb =
+    begun-is u ek eb eh =
         let f = begun-formed s (a .plan) b k t' (a .board) (a .book) (e - p .expected) count-is expected-nodes in
         let o = begun-outcome s (a .plan) b k t' (a .board) (a .book) (e - p .expected) count-is expected-nodes in
         let pt : p .term ≡ placesOf (rows s) .term = ap (λ (x : Places). x .term) ep in
-        (rw (u .0, u .1, ek, eb, ed, pt) f, refl, λ rep. rw (u .0, u .1, ek, ed, pt) (o rep))
+        (rw (u .0, u .1, ek, eb, ed, pt, eh) f, refl, λ rep. rw (u .0, u .1, ek, ed, pt, eh) (o rep))
 
 -- what stands in the words is where the run of the sheet starts
 abbrev stateIn : Outcome → State
@@ -187,11 +186,12 @@ goesOn (finished s) = true
 goesOn (refused e ts s) = false
 
 pub start-is : (s b k : List ℕ) (c : Run) → WellFormed b k c × (c .taken ≡ 0) × ((rep : List ℕ) → outcomeOf (rows s) b k rep c ≡ finished (startOf (rows s))) → (going (c .halt) ≡ true) × (stateOf (rows s) b k c ≡ startOf (rows s))
-start-is s b k c q = go (c .halt) (q .2 [])
+start-is s b k c q = go (going (c .halt)) refl (q .2 [])
   where
-    go : (h : Halt) → outcomeBy h [] (stateOf (rows s) b k c) ≡ finished (startOf (rows s)) → (going h ≡ true) × (stateOf (rows s) b k c ≡ startOf (rows s))
-    go Going e = (refl, ap stateIn e)
-    go (Refused x) e = absurd (true≢false (sym (ap goesOn e)))
+    go : (g : Bool) → going (c .halt) ≡ g → cond g (finished (stateOf (rows s) b k c)) (refused (errorOf (c .halt)) (nodesAt [] 0 (reported (errorOf (c .halt)))) (stateOf (rows s) b k c)) ≡ finished (startOf (rows s))
+        → (going (c .halt) ≡ true) × (stateOf (rows s) b k c ≡ startOf (rows s))
+    go true p e = (p, ap stateIn e)
+    go false p e = absurd (true≢false (sym (ap goesOn e)))
 
 pub start-stands : (s b k : List ℕ) (c : Run) → Read s → WellFormed b k c × (c .taken ≡ 0) × ((rep : List ℕ) → outcomeOf (rows s) b k rep c ≡ finished (startOf (rows s))) → Standing s b k c × (going (c .halt) ≡ true)
 start-stands s b k c h q =

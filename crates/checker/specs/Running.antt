@@ -13,9 +13,8 @@ use Rattle.judgment.specs.Run.{End, accepted, ceiling, refusedBy}
 use Rattle.judgment.specs.Run.{Run as Steps, run as steps}
 use Rattle.judgment.specs.Result.{endNumber, endDetails}
 use Rattle.operations.specs.declared.Halt.{Halt}
-use Rattle.operations.specs.declared.Halt.the-variants.{Going, Refused}
 use Rattle.operations.specs.declared.Run.{Run}
-use Rattle.operations.specs.State.{reported}
+use Rattle.operations.specs.State.{reported, errorOf, going}
 use Rattle.stepping.specs.Stepping.{Read}
 
 -- ---- the definition's run, by steps
@@ -34,18 +33,19 @@ abbrev pub told : ℕ → Steps → Told
 told m (steps ss e s) = record { end = e; taken = m + length ss; last = s }
 
 -- the end that a run in words has come to, where no more is taken
+abbrev pub endAt : ℕ → End
+endAt zero = accepted
+endAt (suc n) = ceiling
+
 abbrev pub endBy : Halt → ℕ → List ℕ → End
-endBy Going zero rep = accepted
-endBy Going (suc n) rep = ceiling
-endBy (Refused e) n rep = refusedBy e (nodesAt rep 0 (reported e))
+endBy h n rep = cond (going h) (endAt n) (refusedBy (errorOf h) (nodesAt rep 0 (reported (errorOf h))))
 
 abbrev pub endOf : List ℕ → Run → End
 endOf rep c = endBy (c .halt) (c .board .entries) rep
 
 -- the word of the report after an end's types; a type that does not fit is cut off
 abbrev pub reportEnd : Halt → ℕ
-reportEnd Going = 0
-reportEnd (Refused e) = cond (ltb (reported e) 2048) (2 * reported e) 4096
+reportEnd h = cond (going h) 0 (cond (ltb (reported (errorOf h)) 2048) (2 * reported (errorOf h)) 4096)
 
 -- the seven numbers of an end
 abbrev pub answerBy : Bool → End → ℕ → ℕ → Answer

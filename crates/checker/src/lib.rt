@@ -31,6 +31,7 @@ use nodes::wide;
 use operations::Halt;
 use operations::Run;
 use operations::Zonked;
+use operations::error_of;
 use operations::is_going;
 use sheet::copy_type;
 use sheet::find_places;
@@ -97,7 +98,7 @@ fn start(board: &mut [u32], book: &mut [u32], s: &[u64], t: &mut [u32]) -> Run
         fresh: 0,
         board: one,
         book: Book::new(),
-        halt: Halt::Going,
+        halt: Halt::none(),
     }
 }
 
@@ -126,37 +127,33 @@ fn reported_nodes(e: TypeError) -> usize
 fn report_end(h: Halt) -> usize
     ensures { λ r. ⌜ r ≡ reportEnd h ⌝ }
 {
-    match h {
-        Halt::Going => 0,
-        Halt::Refused(e) => {
-            let n = reported_nodes(e);
-            if n < 2048 { 2 * n } else { 4096 }
-        }
+    if is_going(h) {
+        return 0;
     }
+    let n = reported_nodes(error_of(h));
+    if n < 2048 { 2 * n } else { 4096 }
 }
 
 // Document 01's number of a run where no more is taken.
 fn end_number(h: Halt, entries: usize) -> u32
     ensures { λ r. ⌜ ((rep : List ℕ) → r ≡ endNumber (endBy h entries rep)) ⌝ }
 {
-    match h {
-        Halt::Going => {
-            if entries == 0 {
-                return 0;
-            }
-            21
+    if is_going(h) {
+        if entries == 0 {
+            return 0;
         }
-        Halt::Refused(e) => error_number(e),
+        return 21;
     }
+    error_number(error_of(h))
 }
 
 fn end_details(h: Halt) -> Details
     ensures { λ r. ⌜ ((entries : ℕ) (rep : List ℕ) → r ≡ endDetails (endBy h entries rep)) ⌝ }
 {
-    match h {
-        Halt::Going => Details(0, 0),
-        Halt::Refused(e) => error_details(e),
+    if is_going(h) {
+        return Details(0, 0);
     }
+    error_details(error_of(h))
 }
 
 // The plain mark as a number.

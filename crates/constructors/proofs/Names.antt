@@ -20,8 +20,6 @@ use Rattle.board.specs.Board.{entryOf, entriesOf, Stacked}
 use Rattle.board.specs.Board.{fitting as fitsBoard}
 use Rattle.board.proofs.Stacks.{laid-stacked, fits-facts}
 use Rattle.book.specs.Book.{sols}
-use Rattle.operations.specs.declared.Halt.{Halt}
-use Rattle.operations.specs.declared.Halt.the-variants.{Going, Refused}
 use Rattle.operations.specs.declared.Run.{Run}
 use Rattle.operations.specs.State.{reported, outcomeBy, stateOf, cameTo, performC, WellFormed, Performs, going, freshRun, pushRun, pushWords, Pushes}
 use Rattle.operations.proofs.Then.{same-going, fresh-is, fresh-made}
@@ -108,7 +106,7 @@ module _ {b b₂ : List ℕ} {c c₁ c₂ : Run} (d : (c₁ ≡ freshRun c) × P
         let D1 = d .1 w ls b k rep h in
         let D2 = p .2 w ls k rep (D1 .kept) in
         let m₂ : Renaming = (x, c .fresh) ∷ m in
-        same-going w ls b₃ k rep c₃ (f (pairs xs (c .fresh + 1) m₂)) (f (pairs xs (c₂ .fresh) m₂)) (λ z. ap (λ (a : ℕ). f (pairs xs a m₂)) (sym (next (g .alive (ap going z)))))
+        same-going w ls b₃ k rep c₃ (f (pairs xs (c .fresh + 1) m₂)) (f (pairs xs (c₂ .fresh) m₂)) (λ z. ap (λ (a : ℕ). f (pairs xs a m₂)) (sym (next (g .alive z))))
         ∙ g .outcome w k rep (D2 .kept) f m₂ xs (omega arith) ls
         ∙ ap (performC w ls (openNames xs m₂ f)) (D2 .outcome ∙ ap (performC w ls (push (tvar (node 17 (c .fresh))) done)) (D1 .outcome))
         ∙ sym (fresh-is w ls b k rep c (λ a. push (tvar (node 17 a)) (openNames xs ((x, a) ∷ m) f)))

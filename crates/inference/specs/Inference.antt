@@ -1,5 +1,6 @@
 -- What the rules read of a sheet, and what they ask. Assumes nothing: these are definitions.
 use mathlib.Core.Path.{_≡_}
+use mathlib.Core.Bool.{true}
 use mathlib.Core.List.{List}
 use Prim.Native.Nat.{ℕ, _+_, _≤_, _<_}
 use lib.ListN.{length, take, drop}
@@ -11,8 +12,8 @@ use Rattle.judgment.specs.Terms.{Lambda}
 use Rattle.judgment.specs.Solutions.{Free, keys}
 use Rattle.board.specs.Board.{termAt}
 use Rattle.book.specs.Book.{sols}
-use Rattle.operations.specs.declared.Halt.the-variants.{Going}
 use Rattle.operations.specs.declared.Run.{Run}
+use Rattle.operations.specs.State.{going}
 
 -- the type on the n lines of a sheet from line `at` on
 abbrev pub typeOn : List ℕ → ℕ → ℕ → Ty
@@ -29,4 +30,4 @@ pub record LinesAsk (s : List ℕ) (at n : ℕ) : Type 0 where
 
 -- an unknown that was made and is not solved, in a run that goes on
 abbrev pub Open : List ℕ → Run → ℕ → Type 0
-Open k c x = c .halt ≡ Going → (x < c .fresh) × Free (keys (sols k)) (node 17 x)
+Open k c x = going (c .halt) ≡ true → (x < c .fresh) × Free (keys (sols k)) (node 17 x)

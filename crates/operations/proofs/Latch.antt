@@ -13,7 +13,7 @@ use Rattle.nodes.specs.Nodes.{Node, node, Ty, nodesAt}
 use Rattle.nodes.proofs.Laws.{length-nodesAt}
 use Rattle.spelling.specs.declared.Triple.{Triple}
 use Rattle.judgment.specs.declared.TypeError.{TypeError}
-use Rattle.judgment.specs.declared.TypeError.the-variants.{BoardFull, TypeTooLong, NoFreshNumber, SolutionsFull}
+use Rattle.judgment.specs.declared.TypeError.the-variants.{UnboundVariable, UnboundDataConstructor, NotAFunction, ArityMismatch, SubtypingError, TypeUnificationError, InstantiationError, IntrinsicArityMismatch, UnknownIntrinsic, BoardFull, TypeTooLong, NoFreshNumber, SolutionsFull}
 use Rattle.judgment.specs.Solutions.{Solution, _≔_, Solutions, find, solutionNodes, writeOut, Free, keys}
 use Rattle.judgment.specs.Board.{Entry, entryNodes, Limits, Rule, done, refuse, fresh, push, solve, zonk, look, State, state, Outcome, finished, refused, roomFor}
 use Rattle.judgment.specs.Chain.{performO, stays, refuseO, freshO, pushO, solveO, zonkO}
@@ -29,13 +29,43 @@ use Rattle.book.specs.Book.{fitting as fitsBook, given, grown as bookGrown, Sol
 use Rattle.book.proofs.Holdings.{nodes-count, given-sols, given-booked, start-old}
 use borrow.Author.Tests.{leb-true, ltb-true, lt-ltb, le-ltb}
 use Rattle.operations.specs.declared.Halt.{Halt}
-use Rattle.operations.specs.declared.Halt.the-variants.{Going, Refused}
 use Rattle.operations.specs.declared.Run.{Run}
-use Rattle.operations.specs.State.{reported, outcomeBy, stateOf, outcomeOf, WellFormed, Words, refuseW, freshW, pushW, solveW, zonkW, performW, Came, Does, Performs, going, stopped, refusedRun, made, freshRun, withBoard, pushRun, pushWords, Pushes, PushAsk, withBook, solveRun, solveWords, Gives, Solves, SolveAsk}
+use Rattle.operations.specs.State.{reported, haltOf, errorOf, outcomeBy, stateOf, outcomeOf, WellFormed, Words, refuseW, freshW, pushW, solveW, zonkW, performW, Came, Does, Performs, going, stopped, refusedRun, made, freshRun, withBoard, pushRun, pushWords, Pushes, PushAsk, withBook, solveRun, solveWords, Gives, Solves, SolveAsk}
 
-pub going-is : (h : Halt) → going h ≡ true → h ≡ Going
-going-is Going e = refl
-going-is (Refused x) e = absurd (false≢true e)
+-- ---- a refusal in words is that of its error, and of no other
+pub error-is : (e : TypeError) → errorOf (haltOf e) ≡ e
+unfolding errorOf
+error-is (UnboundVariable x) = refl
+error-is (UnboundDataConstructor x) = refl
+error-is (NotAFunction n) = refl
+error-is (ArityMismatch e a) = refl
+error-is (SubtypingError l r) = refl
+error-is TypeUnificationError = refl
+error-is (InstantiationError k n) = refl
+error-is (IntrinsicArityMismatch a) = refl
+error-is (UnknownIntrinsic x) = refl
+error-is BoardFull = refl
+error-is TypeTooLong = refl
+error-is NoFreshNumber = refl
+error-is SolutionsFull = refl
+
+pub halt-stops : (e : TypeError) → going (haltOf e) ≡ false
+halt-stops (UnboundVariable x) = refl
+halt-stops (UnboundDataConstructor x) = refl
+halt-stops (NotAFunction n) = refl
+halt-stops (ArityMismatch e a) = refl
+halt-stops (SubtypingError l r) = refl
+halt-stops TypeUnificationError = refl
+halt-stops (InstantiationError k n) = refl
+halt-stops (IntrinsicArityMismatch a) = refl
+halt-stops (UnknownIntrinsic x) = refl
+halt-stops BoardFull = refl
+halt-stops TypeTooLong = refl
+halt-stops NoFreshNumber = refl
+halt-stops SolutionsFull = refl
+
+pub refused-is : (e : TypeError) (rep : List ℕ) (s : State) → outcomeBy (haltOf e) rep s ≡ refused e (nodesAt rep 0 (reported e)) s
+refused-is e rep s = rw (halt-stops e, error-is e) refl
 
 -- an outcome and words, each by its own equation
 pub came : {o o' : Outcome} {x x' : Words} → o ≡ o' → x ≡ x' → _≡_ {A = Came} (record { outcome = o; words = x }) (record { outcome = o'; words = x' })
@@ -53,8 +83,7 @@ words-stay w ls (zonk t f) x g = rw g (words-stay w ls (f (writeOut (sols (x .bo
 words-stay w ls (look f) x g = words-stay w ls (f (entriesOf ls (x .board) (x .run .board .entries))) x g
 
 pub refused-stays : (L : Limits) (h : Halt) → going h ≡ false → (rep : List ℕ) (s : State) (p : Rule) → outcomeBy h rep s ≡ performO L p (outcomeBy h rep s)
-refused-stays L Going e rep s p = absurd (true≢false e)
-refused-stays L (Refused x) e rep s p = sym (stays L p x (nodesAt rep 0 (reported x)) s)
+refused-stays L h e rep s p = rw e (sym (stays L p (errorOf h) (nodesAt rep 0 (reported (errorOf h))) s))
 
 module _ {b k : List ℕ} {c : Run} (f : WellFormed b k c) (w : ℕ) (ls : List Triple) (rep : List ℕ) where
   abbrev at : Run → Words
@@ -79,7 +108,7 @@ module _ {b k : List ℕ} {c : Run} (f : WellFormed b k c) (w : ℕ) (ls : List 
   stops-does g e p q x = record {
     kept = stopped-kept e;
     taken = refl;
-    outcome = came (q ∙ ap (λ (h : Halt). performO (limitsWith w) p (outcomeBy h rep (stateOf ls b k c))) (sym (going-is (c .halt) g))) x;
+    outcome = came (refused-is e rep (stateOf ls b k c) ∙ q ∙ rw g refl) x;
   }
 
   pub refuse-does : going (c .halt) ≡ true → (e : TypeError) → Does w ls b k rep c (refuse e (nodesAt rep 0 (reported e))) b k rep (stopped c e)
@@ -101,7 +130,7 @@ module _ {b k : List ℕ} {c : Run} (f : WellFormed b k c) (w : ℕ) (ls : List 
       unmade = λ j h. f .unmade j (omega arith);
     };
     taken = refl;
-    outcome = came (rw (going-is (c .halt) g, e, add-one (c .fresh))) (rw (g, e));
+    outcome = came (rw (g, e, add-one (c .fresh))) (rw (g, e));
   }
 
   -- ---- a push
@@ -132,7 +161,7 @@ module _ {b k : List ℕ} {c : Run} (f : WellFormed b k c) (w : ℕ) (ls : List 
             unmade = f .unmade;
           };
           taken = refl;
-          outcome = came (rw (going-is (c .halt) g, fits-room ls (f .board) (limitsWith w) refl refl (entry ls) n (counts ls), e, laid-entries (f .board) kind number t u few fits ls)) (rw (slots ls, g, e));
+          outcome = came (rw (g, fits-room ls (f .board) (limitsWith w) refl refl (entry ls) n (counts ls), e, laid-entries (f .board) kind number t u few fits ls)) (rw (slots ls, g, e));
         }
 
   -- ---- a solution
@@ -166,7 +195,7 @@ module _ {b k : List ℕ} {c : Run} (f : WellFormed b k c) (w : ℕ) (ls : List 
                 omega arith;
           };
           taken = refl;
-          outcome = came (rw (going-is (c .halt) g, none-yet, used, e, q)) (rw (g, e));
+          outcome = came (rw (g, none-yet, used, e, q)) (rw (g, e));
         }
 
 -- ---- what the functions return
@@ -184,8 +213,9 @@ module _ (c : Run) (g : going (c .halt) ≡ false) where
   solve-stays k x t = (rw g refl, rw g refl, λ w ls b rep f. stays-does f w ls rep g (solve x t done))
 
 module _ (c : Run) (g : going (c .halt) ≡ true) where
-  pub refuse-returns : (e : TypeError) → (stopped c e ≡ refusedRun c e) × Performs c (λ rep. refuse e (nodesAt rep 0 (reported e))) (stopped c e)
-  refuse-returns e = (rw g refl, λ w ls b k rep f. refuse-does f w ls rep g e)
+  pub refuse-returns : (e : TypeError) (h : Halt) → h ≡ haltOf e
+      → (let r : Run = record { taken = c .taken; fresh = c .fresh; board = c .board; book = c .book; halt = h } in (r ≡ refusedRun c e) × Performs c (λ rep. refuse e (nodesAt rep 0 (reported e))) r)
+  refuse-returns e h q = rw q (rw g refl, λ w ls b k rep f. refuse-does f w ls rep g e)
 
   pub fresh-returns : c .fresh < 1000 → (made c ≡ freshRun c) × Performs c (λ rep. fresh (λ n. done)) (made c)
   fresh-returns l =
@@ -242,7 +272,7 @@ module _ {k : List ℕ} {c : Run} {x : ℕ} {s : List ℕ} {from n : ℕ} (a : S
   pub solve-asks : fitsBook (c .book) n ≡ true → BookAsk k (c .book) x s from n
   solve-asks e = record {
     room = a .book .room;
-    small = let z = a .solves (going-is (c .halt) g) .made in let y = a .numbers in omega arith;
+    small = let z = a .solves g .made in let y = a .numbers in omega arith;
     fits = leb-true (c .book .nodes + n) 4096 e;
     within = a .within;
   }
@@ -250,9 +280,9 @@ module _ {k : List ℕ} {c : Run} {x : ℕ} {s : List ℕ} {from n : ℕ} (a : S
   pub solve-returns : {k' : List ℕ} {d : Book} → fitsBook (c .book) n ≡ true → (k' ≡ given k (c .book) x v) × (d ≡ bookGrown (c .book) n) → Gives k c x v k' (withBook c d)
   solve-returns e q =
       let f : fitsBook (c .book) (length v) ≡ true = subst (λ (m : ℕ). fitsBook (c .book) m ≡ true) long e in
-      rw (q .0, q .1 ∙ ap (bookGrown (c .book)) long) (rw (g, f) refl, rw (g, f) refl, λ w ls b rep h. solve-does h w ls rep x v many (a .solves (going-is (c .halt) g)) g f)
+      rw (q .0, q .1 ∙ ap (bookGrown (c .book)) long) (rw (g, f) refl, rw (g, f) refl, λ w ls b rep h. solve-does h w ls rep x v many (a .solves g) g f)
 
   pub solve-refuses : {p : Run} → fitsBook (c .book) n ≡ false → p ≡ refusedRun c SolutionsFull → Gives k c x v k p
   solve-refuses e q =
       let f : fitsBook (c .book) (length v) ≡ false = subst (λ (m : ℕ). fitsBook (c .book) m ≡ false) long e in
-      rw (q ∙ refused-run c SolutionsFull g) (rw (g, f) refl, rw (g, f) refl, λ w ls b rep h. solve-stops h w ls rep x v many (a .solves (going-is (c .halt) g)) g f)
+      rw (q ∙ refused-run c SolutionsFull g) (rw (g, f) refl, rw (g, f) refl, λ w ls b rep h. solve-stops h w ls rep x v many (a .solves g) g f)

@@ -7,12 +7,11 @@ use lib.Seq.{sets}
 use Rattle.judgment.specs.Result.{bookWords}
 use Rattle.board.proofs.Stacks.{new-stacked}
 use Rattle.book.proofs.Words.{new-booked, zero-at}
-use Rattle.operations.specs.declared.Halt.the-variants.{Going}
 use Rattle.operations.specs.declared.Run.{Run}
-use Rattle.operations.specs.State.{WellFormed}
+use Rattle.operations.specs.State.{noHalt, WellFormed}
 
 abbrev pub started : Run
-started = record { taken = 0; fresh = 0; board = record { entries = 0; nodes = 0 }; book = record { nodes = 0 }; halt = Going }
+started = record { taken = 0; fresh = 0; board = record { entries = 0; nodes = 0 }; book = record { nodes = 0 }; halt = noHalt }
 
 pub start-formed : (b k : List ℕ) → 12288 ≤ length b → 10192 ≤ length k → WellFormed b (sets k 0 (bookWords [])) started
 start-formed b k lb lk = record {

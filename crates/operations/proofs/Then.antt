@@ -22,36 +22,32 @@ use Rattle.board.specs.Board.{entriesOf}
 use Rattle.book.specs.Book.{sols}
 use Rattle.book.proofs.Holdings.{free-of, free-kind}
 use borrow.Author.Tests.{ne-eqb}
-use Rattle.operations.proofs.Latch.{going-is, came, words-stay, refused-stays}
+use Rattle.operations.proofs.Latch.{halt-stops, came, words-stay, refused-stays}
 use Rattle.operations.specs.declared.Halt.{Halt}
-use Rattle.operations.specs.declared.Halt.the-variants.{Going, Refused}
 use Rattle.operations.specs.declared.Run.{Run}
 use Rattle.operations.specs.declared.Zonked.{Zonked}
 use Rattle.operations.specs.State.{reported, outcomeBy, stateOf, outcomeOf, WellFormed, refuseW, Came, cameTo, performC, Does, Performs, PerformsOnBoard, PerformsOnBook, going, stopped, refusedRun, made, freshRun, Solves, SolveAsk, Zonks}
 
 -- ---- what an outcome holds, refused or not
 counter-is : (h : Halt) (rep : List ℕ) (Γ : Entries) (σ : Solutions) (n : ℕ) → counterOf (outcomeBy h rep (state Γ σ n)) ≡ n
-counter-is Going rep Γ σ n = refl
-counter-is (Refused e) rep Γ σ n = refl
+counter-is h rep Γ σ n = cond-ind (λ (o : Outcome). counterOf o ≡ n) (going h) (λ _. refl) (λ _. refl)
 
 board-is : (h : Halt) (rep : List ℕ) (Γ : Entries) (σ : Solutions) (n : ℕ) → boardOf (outcomeBy h rep (state Γ σ n)) ≡ Γ
-board-is Going rep Γ σ n = refl
-board-is (Refused e) rep Γ σ n = refl
+board-is h rep Γ σ n = cond-ind (λ (o : Outcome). boardOf o ≡ Γ) (going h) (λ _. refl) (λ _. refl)
 
 solutions-are : (h : Halt) (rep : List ℕ) (Γ : Entries) (σ : Solutions) (n : ℕ) → solutionsOf (outcomeBy h rep (state Γ σ n)) ≡ σ
-solutions-are Going rep Γ σ n = refl
-solutions-are (Refused e) rep Γ σ n = refl
+solutions-are h rep Γ σ n = cond-ind (λ (o : Outcome). solutionsOf o ≡ σ) (going h) (λ _. refl) (λ _. refl)
 
 -- a refused run stays, whatever rule comes
 stays-so : (w : ℕ) (ls : List Triple) (b k rep : List ℕ) (c : Run) (p : Rule) → going (c .halt) ≡ false → performC w ls p (cameTo ls b k rep c) ≡ cameTo ls b k rep c
 stays-so w ls b k rep c p g = came (sym (refused-stays (limitsWith w) (c .halt) g rep (stateOf ls b k c) p)) (words-stay w ls p (record { board = b; book = k; run = c }) g)
 
 -- rules that are the same where a run goes on
-pub same-going : (w : ℕ) (ls : List Triple) (b k rep : List ℕ) (c : Run) (p q : Rule) → (c .halt ≡ Going → p ≡ q) → performC w ls p (cameTo ls b k rep c) ≡ performC w ls q (cameTo ls b k rep c)
+pub same-going : (w : ℕ) (ls : List Triple) (b k rep : List ℕ) (c : Run) (p q : Rule) → (going (c .halt) ≡ true → p ≡ q) → performC w ls p (cameTo ls b k rep c) ≡ performC w ls q (cameTo ls b k rep c)
 same-going w ls b k rep c p q e = by (going (c .halt)) refl
   where
     by : (g : Bool) → going (c .halt) ≡ g → performC w ls p (cameTo ls b k rep c) ≡ performC w ls q (cameTo ls b k rep c)
-    by true g = ap (λ (r : Rule). performC w ls r (cameTo ls b k rep c)) (e (going-is (c .halt) g))
+    by true g = ap (λ (r : Rule). performC w ls r (cameTo ls b k rep c)) (e g)
     by false g = stays-so w ls b k rep c p g ∙ sym (stays-so w ls b k rep c q g)
 
 -- a fresh number, and then the rest with it
@@ -62,7 +58,7 @@ fresh-is w ls b k rep c f =
 
 -- a refusal, whatever follows
 stopped-so : (c : Run) (e : TypeError) → going (refusedRun c e .halt) ≡ false
-stopped-so c e = cond-ind (λ (r : Run). going (r .halt) ≡ false) (going (c .halt)) (λ _. refl) (λ g. g)
+stopped-so c e = cond-ind (λ (r : Run). going (r .halt) ≡ false) (going (c .halt)) (λ _. halt-stops e) (λ g. g)
 
 refused-so : (L : Limits) (p : Rule) (e : TypeError) (ts : Ty) (o : Outcome) → performO L p (refuseO L e ts o) ≡ refuseO L e ts o
 unfolding refuseO
@@ -80,7 +76,7 @@ done-does f = record { kept = f; taken = refl; outcome = refl }
 
 module _ {w : ℕ} {ls : List Triple} {b k rep : List ℕ} {c : Run} {b₂ k₂ rep₂ : List ℕ} {c₂ : Run} where
   -- the same rule by another name, where a run goes on
-  pub does-as : {p q : Rule} → (c .halt ≡ Going → p ≡ q) → Does w ls b k rep c p b₂ k₂ rep₂ c₂ → Does w ls b k rep c q b₂ k₂ rep₂ c₂
+  pub does-as : {p q : Rule} → (going (c .halt) ≡ true → p ≡ q) → Does w ls b k rep c p b₂ k₂ rep₂ c₂ → Does w ls b k rep c q b₂ k₂ rep₂ c₂
   does-as {p} {q} e d = record {
     kept = d .kept;
     taken = d .taken;
@@ -145,7 +141,7 @@ module _ {b k : List ℕ} {c r : Run} where
   kept-book d f = d 0 [] b [] f .kept
 
 -- what a solution asks of a run, from the state that it comes to
-pub solve-asks : {b k : List ℕ} {c : Run} {x : ℕ} {s : List ℕ} {at n : ℕ} → WellFormed b k c → 0 < n → at + 2 * n ≤ length s → (c .halt ≡ Going → Solves k c x (nodesAt s at n)) → SolveAsk k c x s at n
+pub solve-asks : {b k : List ℕ} {c : Run} {x : ℕ} {s : List ℕ} {at n : ℕ} → WellFormed b k c → 0 < n → at + 2 * n ≤ length s → (going (c .halt) ≡ true → Solves k c x (nodesAt s at n)) → SolveAsk k c x s at n
 solve-asks f h l g = record { book = f .book; numbers = f .numbers; some = h; within = l; solves = g }
 
 -- an outcome that goes on
@@ -154,8 +150,7 @@ goes (finished s) = true
 goes (refused e ts s) = false
 
 goes-is : (h : Halt) (rep : List ℕ) (s : State) → goes (outcomeBy h rep s) ≡ going h
-goes-is Going rep s = refl
-goes-is (Refused e) rep s = refl
+goes-is h rep s = cond-ind (λ (o : Outcome). goes o ≡ going h) (going h) (λ e. sym e) (λ e. sym e)
 
 goes-back : (L : Limits) (p : Rule) (o : Outcome) → goes (performO L p o) ≡ true → goes o ≡ true
 goes-back L p (finished s) e = refl
@@ -244,5 +239,4 @@ report-free {w} {ls} {b} {k} {rep} {rep₁} {c} {p} g d = record {
 }
   where
     same : (h : Halt) → going h ≡ true → outcomeBy h rep₁ (stateOf ls b k c) ≡ outcomeBy h rep (stateOf ls b k c)
-    same Going e = refl
-    same (Refused x) e = absurd (true≢false (sym e))
+    same h e = rw e refl

@@ -22,11 +22,10 @@ use Rattle.book.specs.declared.Wrote.the-variants.{Fits, Over}
 use Rattle.book.specs.Book.{sols, Booked, WriteAsk, wrote, writtenTo}
 use Rattle.book.proofs.Turns.{fits-told, over-told}
 use Rattle.operations.specs.declared.Halt.{Halt}
-use Rattle.operations.specs.declared.Halt.the-variants.{Going, Refused}
 use Rattle.operations.specs.declared.Run.{Run}
 use Rattle.operations.specs.declared.Zonked.{Zonked}
-use Rattle.operations.specs.State.{reported, outcomeBy, stateOf, outcomeOf, WellFormed, zonkW, Does, going, stopped, refusedRun, zonkBy, zonkRun, zonkWords, ZonkAsk, Zonks}
-use Rattle.operations.proofs.Latch.{going-is, came, stays-does}
+use Rattle.operations.specs.State.{haltOf, reported, outcomeBy, stateOf, outcomeOf, WellFormed, zonkW, Does, going, stopped, refusedRun, zonkBy, zonkRun, zonkWords, ZonkAsk, Zonks}
+use Rattle.operations.proofs.Latch.{refused-is, came, stays-does}
 
 module _ {k : List ℕ} {c : Run} {s : List ℕ} {at n : ℕ} {rep : List ℕ} {to w : ℕ} (a : ZonkAsk k c s at n rep to w) where
   abbrev t : Ty
@@ -51,7 +50,7 @@ module _ {k : List ℕ} {c : Run} {s : List ℕ} {at n : ℕ} {rep : List ℕ} {
     rw g refl,
     record {
       does = λ ls b f. stays-does f w ls rep g (zonk t (λ _. done));
-      nodes = λ e. absurd (true≢false (ap going (sym e) ∙ g));
+      nodes = λ e. absurd (true≢false (sym e ∙ g));
       within = let r = a .room in omega arith;
     },
   )
@@ -81,7 +80,7 @@ module _ {k : List ℕ} {c : Run} {s : List ℕ} {at n : ℕ} {rep : List ℕ} {
             does = λ ls b f. record {
               kept = moved (c .halt) f;
               taken = refl;
-              outcome = came (rw (going-is (c .halt) g, le-leb (length T) w few)) (rw (g, le-leb (length T) w few));
+              outcome = came (rw (g, le-leb (length T) w few)) (rw (g, le-leb (length T) w few));
             };
             nodes = λ _.
                 let r = a .room in
@@ -102,11 +101,11 @@ module _ {k : List ℕ} {c : Run} {s : List ℕ} {at n : ℕ} {rep : List ℕ} {
           rw g q,
           record {
             does = λ ls b f. record {
-              kept = moved (Refused TypeTooLong) f;
+              kept = moved (haltOf TypeTooLong) f;
               taken = refl;
-              outcome = came (rw (going-is (c .halt) g, lt-leb (length T) w many)) (rw (g, lt-leb (length T) w many));
+              outcome = came (refused-is TypeTooLong rep' (stateOf ls b k c) ∙ rw (g, lt-leb (length T) w many)) (rw (g, lt-leb (length T) w many));
             };
-            nodes = λ z. absurd (true≢false (ap going (sym z)));
+            nodes = λ z. absurd (true≢false (sym z));
             within = let r = a .room in omega (arith, same-length);
           },
         )

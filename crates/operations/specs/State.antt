@@ -13,7 +13,7 @@ use Rattle.judgment.specs.declared.TypeError.the-variants.{UnboundVariable, Unb
 use Rattle.judgment.specs.Solutions.{writeOut, Free, keys}
 use Rattle.judgment.specs.Board.{Entry, Rule, done, refuse, fresh, push, solve, zonk, look, State, state, Outcome, finished, refused}
 use Rattle.judgment.specs.Chain.{performO}
-use Rattle.judgment.specs.Result.{limitsWith}
+use Rattle.judgment.specs.Result.{errorNumber, errorDetails, limitsWith}
 use Rattle.board.specs.declared.Board.{Board}
 use Rattle.board.specs.Board.{entryOf, entriesOf, Stacked, slotOf}
 use Rattle.board.specs.Board.{fitting as fitsBoard, laid, grown as boardGrown}
@@ -23,7 +23,6 @@ use Rattle.book.specs.declared.Wrote.the-variants.{Fits, Over}
 use Rattle.book.specs.Book.{startOf, sols, Booked, wrote, writtenTo}
 use Rattle.book.specs.Book.{fitting as fitsBook, given, grown as bookGrown}
 use Rattle.operations.specs.declared.Halt.{Halt}
-use Rattle.operations.specs.declared.Halt.the-variants.{Going, Refused}
 use Rattle.operations.specs.declared.Run.{Run}
 use Rattle.operations.specs.declared.Zonked.{Zonked}
 
@@ -44,9 +43,34 @@ reported TypeTooLong = 0
 reported NoFreshNumber = 0
 reported SolutionsFull = 0
 
+-- a refusal in words: the number of its error and the two details. 0 is none
+abbrev pub noHalt : Halt
+noHalt = record { number = 0; first = 0; second = 0 }
+
+abbrev pub haltOf : TypeError → Halt
+haltOf e = record { number = errorNumber e; first = errorDetails e .0; second = errorDetails e .1 }
+
+abbrev pub going : Halt → Bool
+going h = eqb (h .number) 0
+
+-- the error that has these numbers (`error-is` in proofs/Latch.antt: `errorOf (haltOf e)` is e)
+unfoldable pub errorOf : Halt → TypeError
+errorOf h =
+    cond (eqb (h .number) 11) (UnboundVariable (h .first))
+    (cond (eqb (h .number) 12) (UnboundDataConstructor (h .first))
+    (cond (eqb (h .number) 13) (NotAFunction (h .first))
+    (cond (eqb (h .number) 14) (ArityMismatch (h .first) (h .second))
+    (cond (eqb (h .number) 15) (SubtypingError (h .first) (h .second))
+    (cond (eqb (h .number) 16) TypeUnificationError
+    (cond (eqb (h .number) 17) (InstantiationError (h .first) (h .second))
+    (cond (eqb (h .number) 18) (IntrinsicArityMismatch (h .second))
+    (cond (eqb (h .number) 19) (UnknownIntrinsic (h .first))
+    (cond (eqb (h .number) 22) BoardFull
+    (cond (eqb (h .number) 23) TypeTooLong
+    (cond (eqb (h .number) 24) NoFreshNumber SolutionsFull)))))))))))
+
 abbrev pub outcomeBy : Halt → List ℕ → State → Outcome
-outcomeBy Going rep s = finished s
-outcomeBy (Refused e) rep s = refused e (nodesAt rep 0 (reported e)) s
+outcomeBy h rep s = cond (going h) (finished s) (refused (errorOf h) (nodesAt rep 0 (reported (errorOf h))) s)
 
 abbrev pub stateOf : List Triple → List ℕ → List ℕ → Run → State
 stateOf ls b k c = state (entriesOf ls b (c .board .entries)) (sols k) (c .fresh)
@@ -66,12 +90,8 @@ abbrev pub Bookable : List ℕ → Run → Type 0
 Bookable b c = (k : List ℕ) × WellFormed b k c
 
 -- ---- the operations on words: a refused run stays as it is
-abbrev pub going : Halt → Bool
-going Going = true
-going (Refused e) = false
-
 abbrev pub stopped : Run → TypeError → Run
-stopped c e = record { taken = c .taken; fresh = c .fresh; board = c .board; book = c .book; halt = Refused e }
+stopped c e = record { taken = c .taken; fresh = c .fresh; board = c .board; book = c .book; halt = haltOf e }
 
 abbrev pub refusedRun : Run → TypeError → Run
 refusedRun c e = cond (going (c .halt)) (stopped c e) c
@@ -195,7 +215,7 @@ pub record SolveAsk (k : List ℕ) (c : Run) (x : ℕ) (s : List ℕ) («from» 
   pub numbers : c .fresh ≤ 1000
   pub some : 0 < n
   pub within : «from» + 2 * n ≤ length s
-  pub solves : c .halt ≡ Going → Solves k c x (nodesAt s «from» n)
+  pub solves : going (c .halt) ≡ true → Solves k c x (nodesAt s «from» n)
 
 -- a write-out to node `to` of the report
 abbrev pub zonkBy : Wrote → Run → ℕ → Zonked
@@ -216,5 +236,5 @@ pub record ZonkAsk (k : List ℕ) (c : Run) (s : List ℕ) (at n : ℕ) (rep : L
 -- what a write-out of t leaves: the outcome, and the type where it did not refuse
 pub record Zonks (k rep : List ℕ) (c : Run) (t : Ty) (to w : ℕ) (rep' : List ℕ) (z : Zonked) : Type 0 where
   pub does : (ls : List Triple) (b : List ℕ) → WellFormed b k c → Does w ls b k rep c (zonk t (λ _. done)) b k rep' (z .run)
-  pub nodes : z .run .halt ≡ Going → nodesAt rep' (2 * to) (z .nodes) ≡ writeOut (sols k) t
+  pub nodes : going (z .run .halt) ≡ true → nodesAt rep' (2 * to) (z .nodes) ≡ writeOut (sols k) t
   pub within : 2 * (to + z .nodes) ≤ length rep'

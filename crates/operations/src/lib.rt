@@ -9,17 +9,32 @@ ghost use Rattle.judgment.specs.Solutions.{writeOut};
 ghost use Rattle.judgment.specs.Board.{refuse as refuseRule, fresh as freshRule, done, tvar, var, sub, inf, chk, infApp};
 ghost use Rattle.board.specs.Board.{termAt, entryOf, Stacked};
 ghost use Rattle.book.specs.Book.{sols};
-ghost use Rattle.operations.specs.State.{reported, Performs, going, refusedRun, freshRun, Pushes, PushAsk, Gives, SolveAsk, zonkRun, zonkWords, ZonkAsk, Zonks};
+ghost use Rattle.operations.specs.State.{reported, noHalt, haltOf, errorOf, Performs, going, refusedRun, freshRun, Pushes, PushAsk, Gives, SolveAsk, zonkRun, zonkWords, ZonkAsk, Zonks};
 use board::Board;
 use book::Book;
 use book::Wrote;
 use book::write_out;
 use judgment::TypeError;
+use judgment::error_details;
+use judgment::error_number;
 
-// Why a run was refused, if it was.
-pub enum Halt {
-    Going,
-    Refused(TypeError),
+// Why a run was refused: the number of the error and its two details. The number 0 is none.
+pub struct Halt {
+    pub number: u32,
+    pub first: u32,
+    pub second: u32,
+}
+
+impl Halt {
+    pub fn none() -> Halt
+        ensures { λ r. ⌜ r ≡ noHalt ⌝ }
+    {
+        Halt {
+            number: 0,
+            first: 0,
+            second: 0,
+        }
+    }
 }
 
 // What the rules hand on: entries taken, fresh numbers, the counters of board and book, and the refusal.
@@ -45,9 +60,39 @@ impl Zonked {
 pub fn is_going(h: Halt) -> bool
     ensures { λ r. ⌜ r ≡ going h ⌝ }
 {
-    match h {
-        Halt::Going => true,
-        Halt::Refused(_) => false,
+    h.number == 0
+}
+
+fn halt_of(e: TypeError) -> Halt
+    ensures { λ r. ⌜ r ≡ haltOf e ⌝ }
+{
+    let d = error_details(e);
+    Halt {
+        number: error_number(e),
+        first: d.0,
+        second: d.1,
+    }
+}
+
+// The error of a run that was refused.
+pub fn error_of(h: Halt) -> TypeError
+    ensures { λ r. ⌜ r ≡ errorOf h ⌝ }
+{
+    let number = h.number;
+    match number {
+        11 => TypeError::UnboundVariable(h.first),
+        12 => TypeError::UnboundDataConstructor(h.first),
+        13 => TypeError::NotAFunction(h.first),
+        14 => TypeError::ArityMismatch(h.first, h.second),
+        15 => TypeError::SubtypingError(h.first, h.second),
+        16 => TypeError::TypeUnificationError,
+        17 => TypeError::InstantiationError(h.first, h.second),
+        18 => TypeError::IntrinsicArityMismatch(h.second),
+        19 => TypeError::UnknownIntrinsic(h.first),
+        22 => TypeError::BoardFull,
+        23 => TypeError::TypeTooLong,
+        24 => TypeError::NoFreshNumber,
+        _ => TypeError::SolutionsFull,
     }
 }
 
@@ -59,12 +104,13 @@ pub fn refuse(c: Run, e: TypeError) -> Run
     if is_going(halt) {
         let board = c.board;
         let book = c.book;
+        let refusal = halt_of(e);
         return Run {
             taken: c.taken,
             fresh: c.fresh,
             board,
             book,
-            halt: Halt::Refused(e),
+            halt: refusal,
         };
     }
     c

@@ -100,7 +100,7 @@ fn run(board: &mut [u32], book: &mut [u32], report: &mut [u32])
         fresh: 0,
         board: Board::new(),
         book: Book::new(),
-        halt: Halt::Going,
+        halt: Halt::none(),
     };
     let c1 = script(board, book, report, start);
     let c2 = script(board, book, report, c1);

@@ -6,7 +6,7 @@ use Prim.Native.Nat.{ℕ, zero, suc, _+_, _*_, _≤_, _<_}
 use lib.ListN.{length}
 use Rattle.nodes.specs.Nodes.{Node, Ty, nodesAt}
 use Rattle.nodes.specs.Lists.{All}
-use Rattle.nodes.proofs.ListLaws.{all-map}
+use Rattle.nodes.proofs.ListLaws.{all-map, cond-ind}
 use Rattle.spelling.specs.declared.Triple.{Triple}
 use Rattle.sheet.specs.Plan.{lineNode, Binding, _∶_, planOf}
 use Rattle.judgment.specs.Terms.{Term}
@@ -25,9 +25,8 @@ use Rattle.judgment.proofs.Promised.{plan-env, plan-inv}
 use Rattle.board.specs.Board.{entriesOf}
 use Rattle.book.specs.Book.{sols}
 use Rattle.operations.specs.declared.Halt.{Halt}
-use Rattle.operations.specs.declared.Halt.the-variants.{Going, Refused}
 use Rattle.operations.specs.declared.Run.{Run}
-use Rattle.operations.specs.State.{outcomeBy, outcomeOf, stateOf, WellFormed}
+use Rattle.operations.specs.State.{reported, errorOf, going, outcomeBy, outcomeOf, stateOf, WellFormed}
 use Rattle.subtyping.specs.Subtyping.{Made, Sound}
 use Rattle.applying.specs.Applying.{envOn}
 use Rattle.stepping.specs.Stepping.{stepO, EntrySound, Standing}
@@ -59,12 +58,14 @@ module _ (Plain : Type 0) where
 
   -- refused or not
   pub of-outcome : (h : Halt) (rep : List ℕ) (Γ : Entries) (σ : Solutions) (n : ℕ) → OutcomeOK (outcomeBy h rep (state Γ σ n)) → StateOK Γ σ n
-  of-outcome Going rep Γ σ n q = q
-  of-outcome (Refused e) rep Γ σ n q = q
+  of-outcome h rep Γ σ n q = by (going h) q
+    where
+      by : (g : Bool) → OutcomeOK (cond g (finished (state Γ σ n)) (refused (errorOf h) (nodesAt rep 0 (reported (errorOf h))) (state Γ σ n))) → StateOK Γ σ n
+      by true q = q
+      by false q = q
 
   pub to-outcome : (h : Halt) (rep : List ℕ) (Γ : Entries) (σ : Solutions) (n : ℕ) → StateOK Γ σ n → OutcomeOK (outcomeBy h rep (state Γ σ n))
-  to-outcome Going rep Γ σ n q = q
-  to-outcome (Refused e) rep Γ σ n q = q
+  to-outcome h rep Γ σ n q = cond-ind OutcomeOK (going h) (λ _. q) (λ _. q)
 
   -- what a rule asks of its entry, and of the solutions
   made-of : (n : ℕ) (t : Ty) → All (OK Plain n) t → All (Made n) t

@@ -22,11 +22,8 @@ use Rattle.board.specs.declared.Top.{Top}
 use Rattle.board.specs.Board.{entryOf, entriesOf, Stacked, topOf, size}
 use Rattle.board.proofs.Stacks.{top-size, top-entries, top-stacked, top-within}
 use Rattle.book.specs.Book.{sols}
-use Rattle.operations.specs.declared.Halt.{Halt}
-use Rattle.operations.specs.declared.Halt.the-variants.{Going}
 use Rattle.operations.specs.declared.Run.{Run}
 use Rattle.operations.specs.State.{Came, outcomeBy, outcomeOf, stateOf, WellFormed, Does, going}
-use Rattle.operations.proofs.Latch.{going-is}
 use Rattle.applying.specs.Applying.{envOn}
 use Rattle.stepping.specs.Stepping.{stepO, topEntry, JudgeAsk, Stepping, StepAsk}
 use Rattle.stepping.proofs.Reaching.{entry-sound, solutions-sound, standing-ok, stands}
@@ -81,7 +78,7 @@ module _ {m : ℕ} {s b k rep : List ℕ} {c : Run} {t l r w v : List ℕ} (a : 
   pub step-reached : {b' k' rep' : List ℕ} {q : Run} → Does m ls b k rep (taking c o) (rule (envOn s) (topEntry ls b o)) b' k' rep' q → Stepping m s b k rep c b' k' rep' q
   step-reached {b'} {k'} {rep'} {q} d =
       let E = envOn s in
-      let g = going-is (c .halt) (a .goes) in
+      let g = a .goes in
       let p : Entry = topEntry ls b o in
       let σ = sols k in
       let one : performO (limitsWith m) (rule E p) (outcomeBy (c .halt) rep (state below σ (c .fresh))) ≡ stepO (limitsWith m) E (outcomeBy (c .halt) rep (stateOf ls b k c))

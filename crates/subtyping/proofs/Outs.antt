@@ -22,7 +22,7 @@ use Rattle.book.specs.Book.{sols}
 use Rattle.operations.specs.declared.Run.{Run}
 use Rattle.operations.specs.declared.Zonked.{Zonked}
 use Rattle.operations.specs.State.{WellFormed, Does, going, zonkRun, zonkWords, ZonkAsk, Zonks}
-use Rattle.operations.proofs.Latch.{going-is, stays-does}
+use Rattle.operations.proofs.Latch.{stays-does}
 use Rattle.operations.proofs.Zonking.{zonk-few, zonk-fresh, zonk-below}
 use Rattle.operations.proofs.Then.{does-as, done-does, zonk-then, alive, grows}
 use Rattle.subtyping.specs.Subtyping.{Made, shapesReport, twiceReport, Written, Sound, SubAsk, SubtypeAsk}
@@ -90,7 +90,7 @@ module _ {b k rep : List ℕ} {c : Run} {at fn tn w : ℕ} (p : SubtypeAsk b k r
 
       -- where the run goes on, both types are written out
       outs : going (y .run .halt) ≡ true → (F ≡ writeOut (sols k) f) × (T ≡ writeOut (sols k) t)
-      outs g = (first-stays ∙ Z₁ .nodes (going-is _ (alive (D₂ []) g)), Z₂ .nodes (going-is _ g))
+      outs g = (first-stays ∙ Z₁ .nodes (alive (D₂ []) g), Z₂ .nodes g)
 
       pub both-asks : going (y .run .halt) ≡ true → SubAsk b k rep₂ (y .run) (z .nodes) (y .nodes)
       both-asks g =

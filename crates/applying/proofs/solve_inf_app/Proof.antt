@@ -23,15 +23,18 @@ zonk-requires-2 : tie.Need-zonk-requires-2
 zonk-requires-2 c κs = second-asks (c .before .before .before .before .before .before .before .before .before .before .before .before .before .pre) (c .before .before .before .before .before .before .zonk .ensures .0) (c .before .before .before .before .before .before .zonk .ensures .2) (c .before .before .before .before .before .before .zonk .kept .1 .1 .1 .1 .1 .0)
 
 apply-shapes-requires : tie.Need-apply-shapes-requires
-apply-shapes-requires c κs = both-asks (c .before .before .before .before .before .before .before .before .before .before .before .before .before .before .before .before .before .before .before .before .before .before .pre) (c .before .before .before .before .before .before .before .before .before .before .before .before .before .before .before .zonk .ensures .0) (c .before .before .before .before .before .before .before .before .before .before .before .before .before .before .before .zonk .ensures .2) (c .before .before .before .before .before .before .before .before .zonk2 .ensures .0) (c .before .before .before .before .before .before .before .before .zonk2 .ensures .1) (c .before .before .before .before .before .before .before .before .zonk2 .ensures .2) (sym (c .before .before .before .before .is-going .ensures) ∙ c .before .before .before .if1 .taken)
+apply-shapes-requires c κs = both-asks (c .before .before .before .before .before .before .before .before .before .before .before .before .before .before .before .before .before .before .before .before .before .before .before .pre) (c .before .before .before .before .before .before .before .before .before .before .before .before .before .before .before .before .zonk .ensures .0) (c .before .before .before .before .before .before .before .before .before .before .before .before .before .before .before .before .zonk .ensures .2) (c .before .before .before .before .before .before .before .before .before .zonk2 .ensures .0) (c .before .before .before .before .before .before .before .before .before .zonk2 .ensures .1) (c .before .before .before .before .before .before .before .before .before .zonk2 .ensures .2) (sym (c .before .before .before .before .is-going .ensures) ∙ c .before .before .before .if1 .taken)
+
+same-length-3 : tie.Need-same-length-3
+same-length-3 c = c .before .before .before .before .before .before .apply-shapes .kept .1 .1 .0 ∙ c .before .before .before .before .before .before .before .before .before .before .before .before .before .before .before .before .zonk2 .kept .1 .1 .1 .1 .1 .0 ∙ c .before .before .before .before .before .before .before .before .before .before .before .before .before .before .before .before .before .before .before .before .before .before .before .zonk .kept .1 .1 .1 .1 .1 .0
 
 returns : tie.Need-returns
 unfolding inferApp
 returns c =
-    let a = c .before .before .before .before .before .before .before .before .before .before .before .before .before .before .before .before .before .before .before .before .before .before .before .before .before .before .before .before .before .args in
-    let p = c .before .before .before .before .before .before .before .before .before .before .before .before .before .before .before .before .before .before .before .before .before .before .before .before .before .before .before .before .before .pre in
-    let Z = c .before .before .before .before .before .before .before .before .before .before .before .before .before .before .before .before .before .before .before .before .before .before .zonk .ensures in
-    let Y = c .before .before .before .before .before .before .before .before .before .before .before .before .before .before .before .zonk2 .ensures in
+    let a = c .before .before .before .before .before .before .before .before .before .before .before .before .before .before .before .before .before .before .before .before .before .before .before .before .before .before .before .before .before .before .args in
+    let p = c .before .before .before .before .before .before .before .before .before .before .before .before .before .before .before .before .before .before .before .before .before .before .before .before .before .before .before .before .before .before .pre in
+    let Z = c .before .before .before .before .before .before .before .before .before .before .before .before .before .before .before .before .before .before .before .before .before .before .before .zonk .ensures in
+    let Y = c .before .before .before .before .before .before .before .before .before .before .before .before .before .before .before .before .zonk2 .ensures in
     let S = c .before .before .before .before .before .before .apply-shapes .ensures in
     let g = sym (c .before .before .before .before .before .before .before .before .before .before .before .is-going .ensures) ∙ c .before .before .before .before .before .before .before .before .before .before .if1 .taken in
     (λ (ls : List Triple) (E : Env). twice-then p (Z .0) (Z .2) (Y .0) (Y .1) (Y .2) ls (applied E (termAt ls (a .line))) (S .0 (a .w) ls E), report-then p (Z .0) (Z .2) (Y .0) (Y .1) (Y .2) (Z .1) appliedReport g (S .1))
@@ -39,12 +42,12 @@ returns c =
 returns-2 : tie.Need-returns-2
 unfolding inferApp
 returns-2 c =
-    let p = c .before .before .before .before .before .before .before .before .before .before .before .before .before .before .before .before .before .before .before .pre in
-    let Z = c .before .before .before .before .before .before .before .before .before .before .before .before .zonk .ensures in
-    let Y = c .before .before .before .before .before .zonk2 .ensures in
+    let p = c .before .before .before .before .before .before .before .before .before .before .before .before .before .before .before .before .before .before .before .before .pre in
+    let Z = c .before .before .before .before .before .before .before .before .before .before .before .before .before .zonk .ensures in
+    let Y = c .before .before .before .before .before .before .zonk2 .ensures in
     let g = sym (c .before .is-going .ensures) ∙ c .if1 .left in
-    (λ (ls : List Triple) (E : Env). twice-stays p (Z .0) (Z .2) (Y .0) (Y .1) (Y .2) ls (applied E (termAt ls (c .before .before .before .before .before .before .before .before .before .before .before .before .before .before .before .before .before .before .before .args .line))) g, report-stays p (Z .0) (Z .2) (Y .0) (Y .1) (Y .2) (Z .1) appliedReport g)
+    (λ (ls : List Triple) (E : Env). twice-stays p (Z .0) (Z .2) (Y .0) (Y .1) (Y .2) ls (applied E (termAt ls (c .before .before .before .before .before .before .before .before .before .before .before .before .before .before .before .before .before .before .before .before .args .line))) g, report-stays p (Z .0) (Z .2) (Y .0) (Y .1) (Y .2) (Z .1) appliedReport g)
 
 pub solve-inf-app-spec : {M : Type 1} → statement M
 solve-inf-app-spec =
-    tie.close (tie.spec zonk-requires mul-next add-next zonk-requires-2 (λ c κs. search needs) apply-shapes-requires (λ c. search needs) (λ c. search needs) (λ c. search needs) returns (λ c. search needs) (λ c. search needs) (λ c. search needs) returns-2)
+    tie.close (tie.spec zonk-requires mul-next add-next zonk-requires-2 (λ c κs. search needs) apply-shapes-requires (λ c. search needs) (λ c. search needs) same-length-3 returns (λ c. search needs) (λ c. search needs) (λ c. search needs) returns-2)

@@ -51,4 +51,4 @@ returns c =
 
 pub infer-case-spec : {M : Type 1} → statement M
 infer-case-spec =
-    tie.close (tie.spec (λ c κs. search needs) push-tvar-requires (λ c. search needs) push-chk-requires check-arms-requires (λ c. search needs) (λ c. search needs) (λ c. search needs) (λ c. search needs) (λ c. search needs) returns)
+    tie.close (tie.spec (λ c κs. search needs) push-tvar-requires (λ c. search needs) push-chk-requires check-arms-requires (λ c. c .before .before .before .before .before .before .before .before .before .before .check-arms .kept .0 ∙ c .before .before .before .before .before .before .before .before .before .before .before .before .before .before .before .before .before .before .push-chk .kept .0 ∙ c .before .before .before .before .before .before .before .before .before .before .before .before .before .before .before .before .before .before .before .before .before .before .before .push-tvar .kept .0) (λ c. search needs) (λ c. search needs) (λ c. search needs) (λ c. search needs) returns)

@@ -1,9 +1,9 @@
-use mathlib.Core.Path.{_≡_, refl, sym, ap, ap₂, _∙_}
+use mathlib.Core.Path.{_≡_, refl, sym, ap, _∙_}
 use mathlib.Core.List.{List}
 use Prim.Native.Nat.{ℕ}
-use Rattle.judgment.specs.Result.{endDetails}
-use Rattle.operations.specs.declared.Halt.{Halt}
-use Rattle.checker.specs.Running.{endBy}
+use mathlib.Core.Bool.{true, false}
+use Rattle.judgment.specs.Result.{errorDetails}
+use Rattle.operations.specs.State.{going}
 use Rattle.checker.proofs.Finishing.{going-details}
 use borrow.Author.Needs.{needs}
 use Rattle.checker.proofs.end_details.Statement.{statement}
@@ -11,12 +11,14 @@ use Rattle.checker.proofs.end_details.Tie as tie
 
 returns : tie.Need-returns
 returns c =
-    λ (i : ℕ) (rep : List ℕ). sym (ap (λ (h : Halt). endDetails (endBy h i rep)) (c .enum-told .given .1) ∙ going-details i rep)
+    let g : going (c .before .before .args .h) ≡ true = sym (c .before .is-going .ensures) ∙ c .if1 .taken in
+    λ (i : ℕ) (rep : List ℕ). rw g (sym (going-details i))
 
 returns-2 : tie.Need-returns-2
 returns-2 c =
-    λ (i : ℕ) (rep : List ℕ). c .error-details .ensures ∙ sym (ap (λ (h : Halt). endDetails (endBy h i rep)) (c .before .before .h .given .1))
+    let g : going (c .before .before .before .before .args .h) ≡ false = sym (c .before .before .before .is-going .ensures) ∙ c .before .before .if1 .left in
+    λ (i : ℕ) (rep : List ℕ). rw g (c .error-details .ensures ∙ ap errorDetails (c .before .error-of .ensures))
 
 pub end-details-spec : {M : Type 1} → statement M
 end-details-spec =
-    tie.close (tie.spec (λ c. search needs) (λ c. search needs) (λ c κs. search needs) returns returns-2)
+    tie.close (tie.spec (λ c κs. search needs) returns (λ c κs. search needs) (λ c κs. search needs) returns-2)

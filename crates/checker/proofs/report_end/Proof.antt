@@ -1,17 +1,23 @@
-use Rattle.checker.proofs.Finishing.{refused-fits, refused-over}
+use mathlib.Core.Path.{_≡_, refl, sym, _∙_}
+use mathlib.Core.Bool.{true, false}
 use native.Mathlib.Omega.{arith}
+use Rattle.operations.specs.State.{going}
+use Rattle.checker.proofs.Finishing.{refused-fits, refused-over}
 use borrow.Author.Needs.{needs}
 use Rattle.checker.proofs.report_end.Statement.{statement}
 use Rattle.checker.proofs.report_end.Tie as tie
 
+returns : tie.Need-returns
+returns c = let g : going (c .before .before .args .h) ≡ true = sym (c .before .is-going .ensures) ∙ c .if1 .taken in rw g refl
+
 returns-2 : tie.Need-returns-2
 returns-2 c =
-    refused-fits (c .before .before .before .h .given .1) (c .before .reported-nodes .ensures) (c .if1 .taken)
+    refused-fits (c .before .before .before .before .before .args .h) (sym (c .before .before .before .before .is-going .ensures) ∙ c .before .before .before .if1 .left) (c .before .before .error-of .ensures) (c .before .reported-nodes .ensures) (c .if2 .taken)
 
 returns-3 : tie.Need-returns-3
 returns-3 c =
-    refused-over (c .before .before .before .h .given .1) (c .before .reported-nodes .ensures) (let x = c .if1 .left in omega arith)
+    refused-over (c .before .before .before .before .before .args .h) (sym (c .before .before .before .before .is-going .ensures) ∙ c .before .before .before .if1 .left) (c .before .before .error-of .ensures) (c .before .reported-nodes .ensures) (let x = c .if2 .left in omega arith)
 
 pub report-end-spec : {M : Type 1} → statement M
 report-end-spec =
-    tie.close (tie.spec (λ c. search needs) (λ c. search needs) (λ c κs. search needs) (λ c. search needs) (λ c. search needs) returns-2 returns-3)
+    tie.close (tie.spec (λ c κs. search needs) returns (λ c κs. search needs) (λ c κs. search needs) (λ c. search needs) returns-2 returns-3)

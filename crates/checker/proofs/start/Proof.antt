@@ -30,9 +30,9 @@ push-requires c κs =
 
 returns : tie.Need-returns
 returns c =
-    let p = c .before .before .before .before .before .before .before .before .before .before .before .before .before .before .before .before .before .before .before .before .before .pre in
-    begun-is p (c .before .before .before .before .before .before .before .before .before .before .before .before .find-places .ensures) (c .before .before .before .before .before .before .before .before .before .before .before .part-line .ensures) (c .before .before .before .before .before .before .before .before .before .copy-type .ensures) (c .before .before .before .before .before .before .before .before .before .copy-type .kept .0) (c .before .before .before .before .before .before .new .ensures) (c .before .before .before .push .ensures) (c .before .before .before .before .before .before .before .before .before .before .before .before .before .before .before .clear-book .ensures) (c .new2 .ensures)
+    let p = c .before .before .before .before .before .before .before .before .before .before .before .before .before .before .before .before .before .before .before .before .before .before .pre in
+    begun-is p (c .before .before .before .before .before .before .before .before .before .before .before .before .before .find-places .ensures) (c .before .before .before .before .before .before .before .before .before .before .before .before .part-line .ensures) (c .before .before .before .before .before .before .before .before .before .before .copy-type .ensures) (c .before .before .before .before .before .before .before .before .before .before .copy-type .kept .0) (c .before .before .before .before .before .before .before .new .ensures) (c .before .before .before .before .push .ensures) (c .before .before .before .before .before .before .before .before .before .before .before .before .before .before .before .before .clear-book .ensures) (c .before .new2 .ensures) (c .none .ensures)
 
 pub start-spec : {M : Type 1} → statement M
 start-spec =
-    tie.close (tie.spec (λ c κs. search needs) (λ c κs. search needs) (λ c κs. search needs) sub-n copy-type-requires (λ c κs. search needs) cast-push push-requires (λ c κs. search needs) (λ c. search needs) (λ c. search needs) (λ c. search needs) returns)
+    tie.close (tie.spec (λ c κs. search needs) (λ c κs. search needs) (λ c κs. search needs) sub-n copy-type-requires (λ c κs. search needs) cast-push push-requires (λ c κs. search needs) (λ c κs. search needs) (λ c. search needs) (λ c. search needs) (λ c. search needs) returns)

@@ -3,8 +3,6 @@ use mathlib.Core.List.{[]}
 use native.Mathlib.Nat.{le-trans}
 use native.Mathlib.Omega.{arith}
 use Rattle.nodes.specs.Nodes.{nodesAt}
-use Rattle.operations.specs.State.{going}
-use Rattle.operations.proofs.Latch.{going-is}
 use Rattle.operations.proofs.Then.{push-then, solve-then, fresh-then, kept, kept-board, kept-book, alive, grows, pair-solves, solve-asks}
 use borrow.Author.Needs.{needs}
 use Rattle.inference.proofs.apply_unknown.Statement.{statement}
@@ -25,7 +23,7 @@ solve-evar-requires c κs =
     let D4 = c .before .before .before .before .push-tvar2 .ensures .2 0 [] _ [] (D3 .kept) in
     solve-asks (D4 .kept) (omega arith) (search needs)
     (λ h.
-    let o = c .before .before .before .before .before .before .before .before .before .before .before .before .before .before .before .pre .1 (going-is _ (alive D1 (alive D2 (alive D3 (alive D4 (ap going h)))))) in
+    let o = c .before .before .before .before .before .before .before .before .before .before .before .before .before .before .before .pre .1 (alive D1 (alive D2 (alive D3 (alive D4 h)))) in
     pair-solves (c .before .before .before .before .push-tvar2 .result) 13 (c .before .before .before .before .before .before .before .before .before .before .before .before .before .before .before .args .x) (c .before .before .before .before .before .before .before .before .before .before .before .fresh-evar .result .fresh) (λ e. omega arith) (c .before .before .before .before .before .before .before .before .before .before .before .before .before .before .before .pre .0) (o .0) (o .1) (grows D1) (le-trans (grows D1) (le-trans (grows D2) (le-trans (grows D3) (grows D4)))))
 
 push-sub-requires : tie.Need-push-sub-requires

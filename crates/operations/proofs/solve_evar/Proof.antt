@@ -5,16 +5,16 @@ use Rattle.operations.proofs.solve_evar.Statement.{statement}
 use Rattle.operations.proofs.solve_evar.Tie as tie
 
 solve-requires : tie.Need-solve-requires
-solve-requires c κs = solve-asks (c .before .before .before .before .before .before .before .before .pre) (sym (c .before .before .before .before .before .is-going .ensures) ∙ c .before .before .before .before .if1 .taken) (sym (c .before .before .fits2 .ensures) ∙ c .before .if2 .taken)
+solve-requires c κs = solve-asks (c .before .before .before .before .before .before .before .before .before .pre) (sym (c .before .before .before .before .before .is-going .ensures) ∙ c .before .before .before .before .if1 .taken) (sym (c .before .before .fits2 .ensures) ∙ c .before .if2 .taken)
 
 same-length : tie.Need-same-length
 same-length c = c .before .before .before .solve .kept .0
 
 returns : tie.Need-returns
-returns c = solve-returns (c .before .before .before .before .before .before .before .before .before .before .before .before .pre) (sym (c .before .before .before .before .before .before .before .before .before .is-going .ensures) ∙ c .before .before .before .before .before .before .before .before .if1 .taken) (sym (c .before .before .before .before .before .before .fits2 .ensures) ∙ c .before .before .before .before .before .if2 .taken) (c .before .before .before .solve .ensures)
+returns c = solve-returns (c .before .before .before .before .before .before .before .before .before .before .before .before .before .pre) (sym (c .before .before .before .before .before .before .before .before .before .is-going .ensures) ∙ c .before .before .before .before .before .before .before .before .if1 .taken) (sym (c .before .before .before .before .before .before .fits2 .ensures) ∙ c .before .before .before .before .before .if2 .taken) (c .before .before .before .solve .ensures)
 
 returns-2 : tie.Need-returns-2
-returns-2 c = solve-refuses (c .before .before .before .before .before .before .before .before .pre) (sym (c .before .before .before .before .before .is-going .ensures) ∙ c .before .before .before .before .if1 .taken) (sym (c .before .before .fits2 .ensures) ∙ c .before .if2 .left) (c .refuse .ensures .0)
+returns-2 c = solve-refuses (c .before .before .before .before .before .before .before .before .before .pre) (sym (c .before .before .before .before .before .is-going .ensures) ∙ c .before .before .before .before .if1 .taken) (sym (c .before .before .fits2 .ensures) ∙ c .before .if2 .left) (c .refuse .ensures .0)
 
 returns-3 : tie.Need-returns-3
 returns-3 c = solve-stays _ (sym (c .before .is-going .ensures) ∙ c .if1 .left) _ _ _

@@ -29,7 +29,7 @@ solve-evar-requires c κs =
     (λ h.
     let a : ℕ = c .before .before .before .before .before .before .before .before .before .before .before .before .before .before .before .before .before .args .c .fresh in
     let b : ℕ = c .before .before .before .before .before .before .before .before .before .before .before .before .before .fresh-evar .result .fresh in
-    let m : b ≡ a + 1 = fresh-made (c .before .before .before .before .before .before .before .before .before .before .before .before .before .before .before .before .before .args .c) (c .before .before .before .before .before .before .before .before .before .before .before .before .before .fresh-evar .result) (c .before .before .before .before .before .before .before .before .before .before .before .before .before .fresh-evar .ensures .0) (alive D2 (alive D3 (alive D4 (ap going h)))) in
+    let m : b ≡ a + 1 = fresh-made (c .before .before .before .before .before .before .before .before .before .before .before .before .before .before .before .before .before .args .c) (c .before .before .before .before .before .before .before .before .before .before .before .before .before .fresh-evar .result) (c .before .before .before .before .before .before .before .before .before .before .before .before .before .fresh-evar .ensures .0) (alive D2 (alive D3 (alive D4 h))) in
     pair-solves (c .before .before .before .before .push-sub .result) 13 a b (λ e. omega arith) (D1 .kept) (omega arith) (unmade-free (c .before .before .before .before .before .before .before .before .before .before .before .before .before .before .before .before .before .pre .0) a (le-refl a)) (le-refl b) (le-trans (grows D2) (le-trans (grows D3) (grows D4))))
 
 zonk-requires : tie.Need-zonk-requires
