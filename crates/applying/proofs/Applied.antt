@@ -5,6 +5,7 @@ use mathlib.Core.List.{List}
 use Prim.Native.Nat.{ℕ, _+_, _*_, _-_, _≤_, _<_}
 use native.Mathlib.Omega.{arith}
 use lib.ListN.{length, getD}
+use Rattle.sizes.specs.Sizes.{mostNodes}
 use Rattle.nodes.specs.Nodes.{node, Ty, nodesAt}
 use Rattle.nodes.proofs.Laws.{length-nodesAt}
 use Rattle.judgment.specs.declared.TypeError.the-variants.{NotAFunction}
@@ -34,7 +35,7 @@ module _ {b k rep : List ℕ} {c : Run} {f n : ℕ} (a : SubAsk b k rep c f n) w
   F = nodesAt rep 0 f
 
   -- both types have nodes, and stand in the report one after the other
-  pub bounds : (0 < f) × (0 < n) × (f ≤ 4096) × (n ≤ 4096) × (2 * f + 2 * n ≤ length rep)
+  pub bounds : (0 < f) × (0 < n) × (f ≤ mostNodes) × (n ≤ mostNodes) × (2 * f + 2 * n ≤ length rep)
   bounds =
       let s = sizes a in
       let w = a .within in

@@ -5,6 +5,7 @@ use mathlib.Core.List.{List, [], _∷_}
 use Prim.Native.Nat.{ℕ, zero, suc, _+_, _*_, _≤_}
 use native.Mathlib.Omega.{arith}
 use lib.ListN.{length, take, drop}
+use Rattle.sizes.specs.Sizes.{mostNodes, boardBase}
 use Rattle.nodes.specs.Nodes.{node, Ty}
 use Rattle.nodes.specs.Parts.{takeParts}
 use Rattle.nodes.proofs.ListLaws.{cond-ind}
@@ -89,7 +90,7 @@ module _ (k x : ℕ) where
 -- ---- Vars on the board
 -- what is found has at most m nodes, and stands among the first m
 abbrev Inside : ℕ → OnBoard → Type 0
-Inside m (Stands p) = (p .start + 2 * p .count ≤ 4096 + 2 * m) × (p .count ≤ m)
+Inside m (Stands p) = (p .start + 2 * p .count ≤ boardBase + 2 * m) × (p .count ≤ m)
 Inside m Nowhere = Unit {0}
 
 inside-more : (m n : ℕ) (o : OnBoard) → m ≤ n → Inside m o → Inside n o
@@ -106,7 +107,7 @@ module _ (x : ℕ) (w : List ℕ) where
       (λ _. inside-more (nodesBelow w i) (nodesBelow w i + (word w i 2 + word w i 3)) (varPlace x w i) (omega arith) (found-inside i))
 
   module _ {b : Board} (s : Stacked w b) {r : OnBoard} (e : r ≡ varPlace x w (b .entries)) where
-    pub var-within : {p : Place} → r ≡ Stands p → (p .start + 2 * p .count ≤ length w) × (p .count ≤ 4096)
+    pub var-within : {p : Place} → r ≡ Stands p → (p .start + 2 * p .count ≤ length w) × (p .count ≤ mostNodes)
     var-within {p} q =
         let i : Inside (nodesBelow w (b .entries)) (Stands p) = subst (Inside (nodesBelow w (b .entries))) (sym e ∙ q) (found-inside (b .entries)) in
         let i0 = i .0 in

@@ -4,6 +4,7 @@ use mathlib.Core.List.{List}
 use Prim.Native.Nat.{ℕ, _*_, _≤_}
 use lib.ListN.{length}
 use lib.Seq.{sets}
+use Rattle.sizes.specs.Sizes.{typeWords}
 use Rattle.nodes.specs.Nodes.{node, Ty, words}
 use Rattle.sheet.specs.Plan.{planOf, declarations, bindingsIn, lookup}
 use Rattle.sheet.specs.Rows.{rows, Ended}
@@ -50,5 +51,5 @@ pub record VarAsk (b : List ℕ) (c : Run) (s out t : List ℕ) (tn : ℕ) : Typ
   pub sheet : Formed (rows s)
   pub ended : Ended s
   pub lines : 2 * length (rows s) ≤ length out
-  pub room : 8192 ≤ length out
+  pub room : typeWords ≤ length out
   pub type : 2 * tn ≤ length t

@@ -1,12 +1,13 @@
 -- A Case: what stands ready for its arms, and its parts by its first line. Assumes nothing.
 use mathlib.Core.Path.{_≡_, refl, sym, ap, ap₂, _∙_, subst, fun-ext}
 use mathlib.Core.List.{List, [], _∷_}
-use Prim.Native.Nat.{ℕ, suc, _+_, _*_, _<_}
+use Prim.Native.Nat.{ℕ, _+_, _*_, _<_}
 use native.Mathlib.Nat.{add-zero}
 use native.Mathlib.Omega.{arith}
 use lib.Dec.{ltb}
 use borrow.Author.Tests.{ltb-true}
-use lib.ListN.{length, drop}
+use lib.ListN.{length}
+use Rattle.sizes.specs.Sizes.{mostNumbers}
 use Rattle.nodes.specs.Nodes.{node, Ty}
 use Rattle.nodes.proofs.ListLaws.{cond-ind}
 use Rattle.spelling.specs.declared.Triple.{Triple}
@@ -35,8 +36,8 @@ fresh-ready {b} c h e =
     let l = h .numbers in
     rw e
     (cond-ind (Ready b) (going (c .halt))
-    (λ _. cond-ind (Ready b) (ltb (c .fresh) 1000)
-    (λ q. record { board = h .board; numbers = omega (arith, ltb-true (c .fresh) 1000 q) }) (λ _. record { board = h .board; numbers = l }))
+    (λ _. cond-ind (Ready b) (ltb (c .fresh) mostNumbers)
+    (λ q. record { board = h .board; numbers = omega (arith, ltb-true (c .fresh) mostNumbers q) }) (λ _. record { board = h .board; numbers = l }))
     (λ _. h))
 
 pub tvar-ready : {b : List ℕ} {c : Run} {a : ℕ} {b' : List ℕ} {r : Run} → Ready b c → Pushes b c 17 a [] [] (λ ls. tvar (node 17 a)) b' r → Ready b' r

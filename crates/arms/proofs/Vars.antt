@@ -3,6 +3,7 @@ use mathlib.Core.Path.{_≡_, refl, sym, ap, ap₂, _∙_, subst⁻¹}
 use mathlib.Core.List.{List, []}
 use Prim.Native.Nat.{ℕ, _+_, _-_, _≤_, _<_}
 use native.Mathlib.Omega.{arith}
+use Rattle.sizes.specs.Sizes.{mostNodes}
 use Rattle.nodes.specs.Nodes.{Ty}
 use Rattle.spelling.specs.declared.Triple.{Triple}
 use Rattle.sheet.specs.Plan.{Bindings}
@@ -50,5 +51,5 @@ module _ {b : List ℕ} {c : Run} {ls : List Triple} {v : List ℕ} {n : ℕ} {l
   pub row-good : Good ls q
   row-good = subst⁻¹ (Good ls) e (p .sound i h .0)
 
-  pub row-fits : q .at + q .count ≤ 4096
+  pub row-fits : q .at + q .count ≤ mostNodes
   row-fits = good-fits row-good

@@ -3,6 +3,7 @@ use mathlib.Core.Path.{_≡_}
 use mathlib.Core.List.{List, [], _∷_}
 use Prim.Native.Nat.{ℕ, zero, suc, _+_, _*_, _≤_}
 use lib.ListN.{length}
+use Rattle.sizes.specs.Sizes.{mostNodes, mostNumbers, typeWords}
 use Rattle.nodes.specs.Nodes.{Ty}
 use Rattle.nodes.specs.Lists.{All}
 use Rattle.spelling.specs.declared.Triple.{Triple}
@@ -22,17 +23,17 @@ use Rattle.arms.specs.declared.Arm.{Arm}
 pub record VarsAsk (b : List ℕ) (c : Run) (ls : List Triple) (v : List ℕ) (n : ℕ) (l : List ℕ) : Type 0 where
   pub ready : Ready b c
   pub sound : Sound ls v n
-  pub few : n ≤ 4096
+  pub few : n ≤ mostNodes
   pub rows : 6 * n ≤ length v
-  pub left : 8192 ≤ length l
+  pub left : typeWords ≤ length l
 
 -- what all arms share: the scrutinee's unknown, the tables and scratch, the type of the bodies
 pub record Lent (ls : List Triple) (u : ℕ) (w v l r t : List ℕ) (ta tn : ℕ) : Type 0 where
   pub sheet : Sheet ls
-  pub low : u ≤ 1000
+  pub low : u ≤ mostNumbers
   pub frames : 6 * length ls + 12 ≤ length w
   pub rows : 6 * length ls + 6 ≤ length v
-  pub left : 8192 ≤ length l
+  pub left : typeWords ≤ length l
   pub right : 2 * length ls + 2 ≤ length r
   pub type : ta + 2 * tn ≤ length t
 
@@ -68,7 +69,7 @@ pub record CaseAsk (b : List ℕ) (c : Run) (ls : List Triple) (line n : ℕ) (w
   pub sheet : Sheet ls
   pub frames : 6 * length ls + 12 ≤ length w
   pub rows : 6 * length ls + 6 ≤ length v
-  pub left : 8192 ≤ length l
+  pub left : typeWords ≤ length l
   pub right : 2 * length ls + 2 ≤ length r
   pub type : 2 * tn ≤ length t
   pub within : line ≤ length ls

@@ -9,6 +9,7 @@ use native.Mathlib.Omega.{arith}
 use lib.ListN.{getD}
 use lib.Dec.{eqb}
 use borrow.Author.Tests.{eqb-true, eqb-false, eq-eqb, ne-eqb}
+use Rattle.sizes.specs.Sizes.{boardStride}
 use Rattle.nodes.specs.Nodes.{Node, node, Ty, nodesAt}
 use Rattle.nodes.proofs.ListLaws.{cond-ind}
 use Rattle.spelling.specs.declared.Triple.{Triple}
@@ -70,10 +71,10 @@ var-place ls x w (suc i) =
 
 -- ---- a turn of a walk: entry i - 1, by what the test of its name says, and the entries below it
 abbrev pub nameAt : List ℕ → ℕ → Node
-nameAt w i = node (getD w (8 * i) 0) (getD w (8 * i + 1) 0)
+nameAt w i = node (getD w (boardStride * i) 0) (getD w (boardStride * i + 1) 0)
 
 named : (w : List ℕ) (i : ℕ) → node (word w i 0) (word w i 1) ≡ nameAt w i
-named w i = rw (add-zero (8 * i))
+named w i = rw (add-zero (boardStride * i))
 
 module _ (w : List ℕ) where
   is-tvar-at : (ls : List Triple) (x i : ℕ) → isTVar x (entryAt ls w i) ≡ isNode 17 x (nameAt w i)

@@ -11,6 +11,7 @@ use lib.Seq.{sets, length-sets, take-append-seam, drop-append-seam}
 use lib.Dec.{leb, ltb}
 use borrow.Author.Tests.{leb-true, ltb-true}
 use borrow.Author.Count.{below-more}
+use Rattle.sizes.specs.Sizes.{mostEntries, mostNodes, boardBase, boardUsed, boardSize, boardStride}
 use Rattle.nodes.specs.Nodes.{Ty, words, nodesAt, zeros}
 use Rattle.nodes.proofs.Laws.{length-words, words-append, length-nodesAt, sets-append, getD-sets-below, getD-sets-above, getD-sets-in, nodesAt-same, nodesAt-agree, take-nodesAt, drop-nodesAt}
 use Rattle.spelling.specs.declared.Triple.{Triple}
@@ -60,30 +61,30 @@ nodes-turn w i h = let e : suc (i - 1) ≡ i = omega arith in ap (nodesBelow w) 
 
 -- ---- words that do not change
 abbrev pub Low : List ℕ → List ℕ → ℕ → Type 0
-Low w w' i = (j : ℕ) → j < 8 * i → getD w' j 0 ≡ getD w j 0
+Low w w' i = (j : ℕ) → j < boardStride * i → getD w' j 0 ≡ getD w j 0
 
 abbrev pub High : List ℕ → List ℕ → ℕ → Type 0
-High w w' n = (j : ℕ) → 4096 ≤ j → j < 4096 + 2 * n → getD w' j 0 ≡ getD w j 0
+High w w' n = (j : ℕ) → boardBase ≤ j → j < boardBase + 2 * n → getD w' j 0 ≡ getD w j 0
 
 same-nodes : (w w' : List ℕ) (i : ℕ) → Low w w' i → nodesBelow w' i ≡ nodesBelow w i
 unfolding nodesBelow
 same-nodes w w' zero f = refl
 same-nodes w w' (suc i) f =
-    rw (same-nodes w w' i (λ j l. f j (omega arith)), f (8 * i + 2) (omega arith), f (8 * i + 3) (omega arith))
+    rw (same-nodes w w' i (λ j l. f j (omega arith)), f (boardStride * i + 2) (omega arith), f (boardStride * i + 3) (omega arith))
 
 module _ (w w' : List ℕ) (i : ℕ) (f : Low w w' i) (g : High w w' (nodesBelow w i)) (k : ℕ) (h : k < i) where
   same-size : size w' k ≡ size w k
-  same-size = rw (f (8 * k + 2) (omega arith), f (8 * k + 3) (omega arith))
+  same-size = rw (f (boardStride * k + 2) (omega arith), f (boardStride * k + 3) (omega arith))
 
   same-entry : (ls : List Triple) → entryAt ls w' k ≡ entryAt ls w k
   same-entry ls =
       let m = nodes-within w i k h in
       rw (
         same-nodes w w' k (λ j l. f j (omega arith)),
-        f (8 * k + 0) (omega arith),
-        f (8 * k + 1) (omega arith),
-        f (8 * k + 2) (omega arith),
-        f (8 * k + 3) (omega arith),
+        f (boardStride * k + 0) (omega arith),
+        f (boardStride * k + 1) (omega arith),
+        f (boardStride * k + 2) (omega arith),
+        f (boardStride * k + 3) (omega arith),
         nodesAt-agree w w' (leftAt w k) (word w k 2) (λ j l q. g j (omega arith) (omega arith)),
         nodesAt-agree w w' (leftAt w k + 2 * word w k 2) (word w k 3) (λ j l q. g j (omega arith) (omega arith)),
       )
@@ -109,12 +110,12 @@ pub length-laid : (w : List ℕ) (b : Board) (k n : ℕ) (t u : Ty) → length (
 unfolding laid
 length-laid w b k n t u =
     let s : List ℕ = k ∷ n ∷ length t ∷ length u ∷ [] in
-    length-sets (sets w (8 * b .entries) s) (4096 + 2 * b .nodes) (words (t ++ u)) ∙ length-sets w (8 * b .entries) s
+    length-sets (sets w (boardStride * b .entries) s) (boardBase + 2 * b .nodes) (words (t ++ u)) ∙ length-sets w (boardStride * b .entries) s
 
 -- what the code of `push` leaves: four words, and then the nodes of the two types
-pub laid-by : (w : List ℕ) (b : Board) (k n : ℕ) (l : List ℕ) (la ln : ℕ) (r : List ℕ) (ra rn : ℕ) (w₁ w₂ : List ℕ) → (let i = 8 * b .entries in
-    w₁ ≡ sets (set (set (set (set w i k) (i + 1) n) (i + 2) ln) (i + 3) rn) (4096 + 2 * b .nodes) (words (nodesAt l la ln))
-    → w₂ ≡ sets w₁ (4096 + 2 * b .nodes + 2 * ln) (words (nodesAt r ra rn))
+pub laid-by : (w : List ℕ) (b : Board) (k n : ℕ) (l : List ℕ) (la ln : ℕ) (r : List ℕ) (ra rn : ℕ) (w₁ w₂ : List ℕ) → (let i = boardStride * b .entries in
+    w₁ ≡ sets (set (set (set (set w i k) (i + 1) n) (i + 2) ln) (i + 3) rn) (boardBase + 2 * b .nodes) (words (nodesAt l la ln))
+    → w₂ ≡ sets w₁ (boardBase + 2 * b .nodes + 2 * ln) (words (nodesAt r ra rn))
     → w₂ ≡ laid w b k n (nodesAt l la ln) (nodesAt r ra rn))
 unfolding laid
 laid-by w b k n l la ln r ra rn w₁ w₂ p q =
@@ -122,22 +123,22 @@ laid-by w b k n l la ln r ra rn w₁ w₂ p q =
     let u : Ty = nodesAt r ra rn in
     let tl : length t ≡ ln = length-nodesAt l la ln in
     let ul : length u ≡ rn = length-nodesAt r ra rn in
-    let i : ℕ = 8 * b .entries in
-    let lo : ℕ = 4096 + 2 * b .nodes in
+    let i : ℕ = boardStride * b .entries in
+    let lo : ℕ = boardBase + 2 * b .nodes in
     let v : List ℕ = sets w i (k ∷ n ∷ ln ∷ rn ∷ []) in
     let four : set (set (set (set w i k) (i + 1) n) (i + 2) ln) (i + 3) rn ≡ v = simp towards-suc in
     let e : lo + 2 * ln ≡ lo + length (words t) = omega (arith, length-words t) in
     rw (tl, ul) (q ∙ rw (p, four, e) (sym (ap (sets v lo) (words-append t u) ∙ sets-append v lo (words t) (words u))))
 
-module _ {w : List ℕ} {b : Board} (s : Stacked w b) (k n : ℕ) (t u : Ty) (few : b .entries < 512) (fits : b .nodes + (length t + length u) ≤ 4096) where
+module _ {w : List ℕ} {b : Board} (s : Stacked w b) (k n : ℕ) (t u : Ty) (few : b .entries < mostEntries) (fits : b .nodes + (length t + length u) ≤ mostNodes) where
   abbrev slot : List ℕ
   slot = k ∷ n ∷ length t ∷ length u ∷ []
 
   abbrev lo : ℕ
-  lo = 4096 + 2 * b .nodes
+  lo = boardBase + 2 * b .nodes
 
   abbrev front : List ℕ
-  front = sets w (8 * b .entries) slot
+  front = sets w (boardStride * b .entries) slot
 
   abbrev after : List ℕ
   after = laid w b k n t u
@@ -149,7 +150,7 @@ module _ {w : List ℕ} {b : Board} (s : Stacked w b) (k n : ℕ) (t u : Ty) (fe
   at-slot : (j : ℕ) → j < 4 → word after (b .entries) j ≡ getD slot j 0
   at-slot j l =
       let r = s .room in
-      unchanged (8 * b .entries + j) (omega arith) ∙ getD-sets-in w (8 * b .entries) slot j l (omega arith)
+      unchanged (boardStride * b .entries + j) (omega arith) ∙ getD-sets-in w (boardStride * b .entries) slot j l (omega arith)
 
   kept : (nodesBelow after (b .entries) ≡ nodesBelow w (b .entries))
       × ((ls : List Triple) → entriesOf ls after (b .entries) ≡ entriesOf ls w (b .entries))
@@ -157,15 +158,15 @@ module _ {w : List ℕ} {b : Board} (s : Stacked w b) (k n : ℕ) (t u : Ty) (fe
   kept =
       let e = s .nodes in
       frame w after (b .entries)
-      (λ j l. unchanged j (omega arith) ∙ getD-sets-below w (8 * b .entries) slot j l)
-      (λ j l m. unchanged j (omega arith) ∙ getD-sets-above w (8 * b .entries) slot j (omega arith))
+      (λ j l. unchanged j (omega arith) ∙ getD-sets-below w (boardStride * b .entries) slot j l)
+      (λ j l m. unchanged j (omega arith) ∙ getD-sets-above w (boardStride * b .entries) slot j (omega arith))
 
   both-are : nodesAt after lo (length (t ++ u)) ≡ t ++ u
   unfolding laid
   both-are =
       let r = s .room in
       let a = length-append t u in
-      nodesAt-same (t ++ u) front lo (omega (arith, length-sets w (8 * b .entries) slot))
+      nodesAt-same (t ++ u) front lo (omega (arith, length-sets w (boardStride * b .entries) slot))
 
   left-is : nodesAt after lo (length t) ≡ t
   left-is =
@@ -201,7 +202,7 @@ module _ {w : List ℕ} {b : Board} (s : Stacked w b) (k n : ℕ) (t u : Ty) (fe
         (λ i l ls. kept .2 i l ls (s .counted i l ls)) (λ ls. ap entryNodes (new-entry ls) ∙ sized ls ∙ sym new-size);
   }
 
-pub fits-room : (ls : List Triple) {w : List ℕ} {b : Board} → Stacked w b → (L : Limits) → L .entries ≡ upTo 512 → L .nodes ≡ upTo 4096 → (e : Entry) (m : ℕ) → entryNodes e ≡ m
+pub fits-room : (ls : List Triple) {w : List ℕ} {b : Board} → Stacked w b → (L : Limits) → L .entries ≡ upTo mostEntries → L .nodes ≡ upTo mostNodes → (e : Entry) (m : ℕ) → entryNodes e ≡ m
     → roomFor L e (entriesOf ls w (b .entries)) ≡ fitting b m
 unfolding boardNodes
 fits-room ls {w} {b} s L p q e m z =
@@ -209,10 +210,10 @@ fits-room ls {w} {b} s L p q e m z =
     rw (p, q, z, length-entries ls w (b .entries), nodes-total ls s, g)
 
 -- what `fits` tells
-pub fits-facts : (b : Board) (n : ℕ) → fitting b n ≡ true → (b .entries < 512) × (b .nodes + n ≤ 4096)
+pub fits-facts : (b : Board) (n : ℕ) → fitting b n ≡ true → (b .entries < mostEntries) × (b .nodes + n ≤ mostNodes)
 fits-facts b n e =
-    let q = both (ltb (b .entries) 512) (leb (b .nodes + n) 4096) e in
-    (ltb-true (b .entries) 512 (q .0), leb-true (b .nodes + n) 4096 (q .1))
+    let q = both (ltb (b .entries) mostEntries) (leb (b .nodes + n) mostNodes) e in
+    (ltb-true (b .entries) mostEntries (q .0), leb-true (b .nodes + n) mostNodes (q .1))
 
 -- ---- a pop
 module _ {w : List ℕ} {b : Board} (s : Stacked w b) (h : 0 < b .entries) where
@@ -245,12 +246,12 @@ module _ {w : List ℕ} {b : Board} (s : Stacked w b) (h : 0 < b .entries) where
     counted = λ i l. s .counted i (omega arith);
   }
 
-  pub top-within : topOf w b .at + 2 * (topOf w b .left + topOf w b .right) ≤ 12288
+  pub top-within : topOf w b .at + 2 * (topOf w b .left + topOf w b .right) ≤ boardUsed
   unfolding topOf
   top-within = let f = s .fewNodes in let e = top-size in omega arith
 
 -- ---- no entry
-pub new-stacked : (w : List ℕ) → 12288 ≤ length w → Stacked w (record { entries = 0; nodes = 0 })
+pub new-stacked : (w : List ℕ) → boardUsed ≤ length w → Stacked w (record { entries = 0; nodes = 0 })
 unfolding nodesBelow
 new-stacked w h = record {
   room = h;
@@ -264,6 +265,6 @@ pub no-entries : (ls : List Triple) (w : List ℕ) → entriesOf ls w 0 ≡ []
 unfolding entriesOf
 no-entries ls w = refl
 
-pub cleared-words : boardWords ≡ zeros 16384
+pub cleared-words : boardWords ≡ zeros boardSize
 unfolding boardWords zeros
 cleared-words = refl

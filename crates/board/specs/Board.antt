@@ -2,14 +2,15 @@
 -- Entry i has words 8 i to 8 i + 3: what it is, its number, and how many nodes its two types have. The nodes of all types stand from word 4,096 on, two words each,
 -- entry by entry. Words 12,288 to 16,383 are not used.
 use mathlib.Core.Path.{_≡_}
-use mathlib.Core.Bool.{Bool, true, false, cond, _&&_}
+use mathlib.Core.Bool.{Bool, cond, _&&_}
 use mathlib.Core.Option.{Option, none, some}
 use mathlib.Core.List.{List, [], _∷_, _++_}
 use Prim.Native.Nat.{ℕ, zero, suc, _+_, _*_, _-_, _≤_, _<_}
 use lib.ListN.{length, getD, drop}
 use lib.Seq.{sets}
 use lib.Dec.{eqb, leb, ltb}
-use Rattle.nodes.specs.Nodes.{Node, node, Ty, kind, number, words, nodesAt}
+use Rattle.sizes.specs.Sizes.{mostEntries, mostNodes, boardBase, boardUsed, boardStride}
+use Rattle.nodes.specs.Nodes.{node, Ty, kind, number, words, nodesAt}
 use Rattle.nodes.specs.Parts.{takeParts}
 use Rattle.spelling.specs.declared.Triple.{Triple}
 use Rattle.kinds.specs.Kinds.{partsOf}
@@ -19,7 +20,6 @@ use Rattle.judgment.specs.Board.{Entry, tvar, var, sub, inf, chk, infApp, entry
 use Rattle.judgment.specs.Board.{Board as Entries}
 use Rattle.board.specs.declared.Board.{Board}
 use Rattle.board.specs.declared.Top.{Top}
-use Rattle.board.specs.declared.Place.{Place}
 use Rattle.board.specs.declared.Found.{Found}
 use Rattle.board.specs.declared.Found.the-variants.{At, Nothing}
 
@@ -53,7 +53,7 @@ slotOf (chk e t) = record { kind = 5; number = e .line; left = t; right = [] }
 slotOf (infApp f e t) = record { kind = 6; number = e .line; left = f; right = t }
 
 abbrev pub word : List ℕ → ℕ → ℕ → ℕ
-word w i k = getD w (8 * i + k) 0
+word w i k = getD w (boardStride * i + k) 0
 
 abbrev pub size : List ℕ → ℕ → ℕ
 size w i = word w i 2 + word w i 3
@@ -65,7 +65,7 @@ nodesBelow w (suc i) = nodesBelow w i + size w i
 
 -- where the nodes of entry i's types stand
 abbrev pub leftAt : List ℕ → ℕ → ℕ
-leftAt w i = 4096 + 2 * nodesBelow w i
+leftAt w i = boardBase + 2 * nodesBelow w i
 
 abbrev pub entryAt : List Triple → List ℕ → ℕ → Entry
 entryAt ls w i =
@@ -78,27 +78,27 @@ entriesOf ls w (suc i) = entryAt ls w i ∷ entriesOf ls w i
 
 -- the words of a board: its nodes are those of its entries, and an entry's types are all that it counts
 pub record Stacked (w : List ℕ) (b : Board) : Type 0 where
-  pub room : 12288 ≤ length w
-  pub fewEntries : b .entries ≤ 512
-  pub fewNodes : b .nodes ≤ 4096
+  pub room : boardUsed ≤ length w
+  pub fewEntries : b .entries ≤ mostEntries
+  pub fewNodes : b .nodes ≤ mostNodes
   pub nodes : nodesBelow w (b .entries) ≡ b .nodes
   pub counted : (i : ℕ) → i < b .entries → (ls : List Triple) → entryNodes (entryAt ls w i) ≡ size w i
 
 -- ---- push
 -- one more entry, of n nodes, passes neither limit
 abbrev pub fitting : Board → ℕ → Bool
-fitting b n = ltb (b .entries) 512 && leb (b .nodes + n) 4096
+fitting b n = ltb (b .entries) mostEntries && leb (b .nodes + n) mostNodes
 
 unfoldable pub laid : List ℕ → Board → ℕ → ℕ → Ty → Ty → List ℕ
-laid w b k n t u = sets (sets w (8 * b .entries) (k ∷ n ∷ length t ∷ length u ∷ [])) (4096 + 2 * b .nodes) (words (t ++ u))
+laid w b k n t u = sets (sets w (boardStride * b .entries) (k ∷ n ∷ length t ∷ length u ∷ [])) (boardBase + 2 * b .nodes) (words (t ++ u))
 
 abbrev pub grown : Board → ℕ → Board
 grown b n = record { entries = b .entries + 1; nodes = b .nodes + n }
 
 pub record PushAsk (w : List ℕ) (b : Board) (l : List ℕ) (la ln : ℕ) (r : List ℕ) (ra rn : ℕ) : Type 0 where
-  pub room : 12288 ≤ length w
-  pub few : b .entries < 512
-  pub fits : b .nodes + (ln + rn) ≤ 4096
+  pub room : boardUsed ≤ length w
+  pub few : b .entries < mostEntries
+  pub fits : b .nodes + (ln + rn) ≤ mostNodes
   pub left : la + 2 * ln ≤ length l
   pub right : ra + 2 * rn ≤ length r
 
@@ -111,7 +111,7 @@ topOf w b =
     record {
       kind = word w i 0;
       number = word w i 1;
-      at = 4096 + 2 * n;
+      at = boardBase + 2 * n;
       left = word w i 2;
       right = word w i 3;
       rest = record { entries = i; nodes = n };

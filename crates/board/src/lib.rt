@@ -1,9 +1,10 @@
 // The board (worklist.rs, `Worklist`): entries and their types as words of a lent buffer, newest last.
 ghost use mathlib.Core.Path.{_≡_};
 ghost use mathlib.Core.List.{List};
-ghost use Prim.Native.Nat.{ℕ, _+_, _*_, _≤_, _<_};
+ghost use Prim.Native.Nat.{_+_, _*_, _≤_, _<_};
 ghost use lib.ListN.{length};
 ghost use lib.Seq.{sets};
+ghost use Rattle.sizes.specs.Sizes.{mostEntries, boardUsed, boardSize};
 ghost use Rattle.nodes.specs.Nodes.{nodesAt};
 ghost use Rattle.spelling.specs.declared.Triple.{Triple};
 ghost use Rattle.judgment.specs.Board.{hasTVar, before as isBefore};
@@ -13,6 +14,11 @@ use core_types::is_node;
 use nodes::clear_words;
 use nodes::copy_nodes;
 use nodes::wide;
+use sizes::BOARD_BASE;
+use sizes::BOARD_SIZE;
+use sizes::BOARD_STRIDE;
+use sizes::MOST_ENTRIES;
+use sizes::MOST_NODES;
 
 // How many entries stand on the board, and how many nodes their types have.
 pub struct Board {
@@ -21,9 +27,9 @@ pub struct Board {
 }
 
 impl Board {
-    pub const ENTRIES: usize = 512;
+    pub const ENTRIES: usize = MOST_ENTRIES;
 
-    pub const NODES: usize = 4096;
+    pub const NODES: usize = MOST_NODES;
 
     pub fn new() -> Board
         ensures { λ r. ⌜ r ≡ record { entries = 0; nodes = 0 } ⌝ }
@@ -84,8 +90,8 @@ pub fn push(
     requires { ⌜ PushAsk (now board) b (now l) la ln (now r) ra rn ⌝ }
     ensures { λ p. ⌜ (now (board .exit) ≡ laid (now (board .entry)) b kind number (nodesAt (now (l .entry)) la ln) (nodesAt (now (r .entry)) ra rn)) × (p ≡ grown b (ln + rn)) ⌝ }
 {
-    let slot = 8 * b.entries;
-    let lo = 4096 + 2 * b.nodes;
+    let slot = BOARD_STRIDE * b.entries;
+    let lo = BOARD_BASE + 2 * b.nodes;
     let mid = lo + 2 * ln;
     board[slot] = kind;
     board[slot + 1] = number;
@@ -105,14 +111,14 @@ pub fn pop(board: &[u32], b: Board) -> Top
     ensures { λ r. ⌜ r ≡ topOf (now (board .entry)) b ⌝ }
 {
     let i = b.entries - 1;
-    let slot = 8 * i;
+    let slot = BOARD_STRIDE * i;
     let left = wide(board[slot + 2]);
     let right = wide(board[slot + 3]);
     let n = b.nodes - (left + right);
     Top {
         kind: board[slot],
         number: board[slot + 1],
-        at: 4096 + 2 * n,
+        at: BOARD_BASE + 2 * n,
         left,
         right,
         rest: Board {
@@ -128,10 +134,10 @@ pub fn find_var(board: &[u32], b: Board, name: u32) -> Found
     ensures { λ r. ⌜ r ≡ varPlace name (now (board .entry)) (b .entries) ⌝ }
 {
     let mut i = b.entries;
-    let mut start = 4096 + 2 * b.nodes;
+    let mut start = BOARD_BASE + 2 * b.nodes;
     while 0 < i {
         i -= 1;
-        let slot = 8 * i;
+        let slot = BOARD_STRIDE * i;
         let count = wide(board[slot + 2]);
         start -= 2 * (count + wide(board[slot + 3]));
         if is_node(2, name, board[slot], board[slot + 1]) {
@@ -143,13 +149,13 @@ pub fn find_var(board: &[u32], b: Board, name: u32) -> Found
 
 // A TVar of unknown k stands among the first n entries.
 fn has_tvar(board: &[u32], n: usize, k: u32) -> bool
-    requires { ⌜ (n ≤ 512) × (12288 ≤ length (now board)) ⌝ }
+    requires { ⌜ (n ≤ mostEntries) × (boardUsed ≤ length (now board)) ⌝ }
     ensures { λ r. ⌜ ((ls : List Triple) → r ≡ hasTVar k (entriesOf ls (now (board .entry)) n)) ⌝ }
 {
     let mut i = n;
     while 0 < i {
         i -= 1;
-        let slot = 8 * i;
+        let slot = BOARD_STRIDE * i;
         if is_node(17, k, board[slot], board[slot + 1]) {
             return true;
         }
@@ -165,7 +171,7 @@ pub fn before(board: &[u32], b: Board, x: u32, y: u32) -> bool
     let mut i = b.entries;
     while 0 < i {
         i -= 1;
-        let slot = 8 * i;
+        let slot = BOARD_STRIDE * i;
         let kind = board[slot];
         let number = board[slot + 1];
         if is_node(17, x, kind, number) {
@@ -180,8 +186,8 @@ pub fn before(board: &[u32], b: Board, x: u32, y: u32) -> bool
 
 // Puts 0 into every word of the board.
 pub fn clear_board(board: &mut [u32])
-    requires { ⌜ 16384 ≤ length (now board) ⌝ }
+    requires { ⌜ boardSize ≤ length (now board) ⌝ }
     ensures { λ _. ⌜ now (board .exit) ≡ sets (now (board .entry)) 0 boardWords ⌝ }
 {
-    clear_words(board, 0, 16384);
+    clear_words(board, 0, BOARD_SIZE);
 }

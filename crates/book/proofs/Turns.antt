@@ -1,42 +1,43 @@
 -- A turn of `write_out` on plain values: the write-out of a type by its first node, the number that falls, and how what two calls leave goes together.
 -- Assumes nothing.
 use mathlib.Core.Path.{_≡_, refl, sym, ap, ap₂, _∙_, subst}
-use mathlib.Core.Logic.{_≢_, _⊎_, inl, inr}
+use mathlib.Core.Logic.{_≢_, _⊎_}
 use mathlib.Core.Bool.{Bool, true, false, cond, true≢false}
-use mathlib.Core.List.{List, [], _∷_, _++_, append-nil}
-use Prim.Native.Nat.{ℕ, zero, suc, _+_, _*_, _-_, _≤_, _<_}
+use mathlib.Core.List.{List, [], _∷_, _++_}
+use Prim.Native.Nat.{ℕ, _+_, _*_, _-_, _≤_, _<_}
 use native.Mathlib.Numerals.{add-one}
 use native.Mathlib.Omega.{arith}
 use lib.ListN.{length, getD, set, take, length-append, length-set}
 use lib.Seq.{sets, take-all, take-append-le, take-append-add}
 use lib.Dec.{leb, ltb, eqb}
 use borrow.Author.Tests.{leb-true, leb-false, ltb-true, ltb-false, eqb-true, eqb-false, le-leb, lt-leb}
+use Rattle.sizes.specs.Sizes.{mostNumbers, bookBase}
 use Rattle.nodes.specs.Nodes.{Node, node, Ty, words, nodesAt}
 use Rattle.nodes.specs.Lists.{In}
 use Rattle.nodes.proofs.Laws.{nodesAt-cons, words-append, sets-append, length-words}
 use Rattle.judgment.specs.Types.{unknown}
-use Rattle.judgment.specs.Solutions.{Solution, _≔_, Solutions, writeOut, Free, keys, Fine}
-use Rattle.judgment.proofs.SolutionLaws.{written-append, written-free, solved}
+use Rattle.judgment.specs.Solutions.{_≔_, Solutions, writeOut, solvedUnknowns}
+use Rattle.judgment.specs.Good.{Free}
+use Rattle.judgment.proofs.SolutionLaws.{other-free, written-append, written-free, solved}
 use Rattle.judgment.proofs.Visits.{visits, visits-append, visits-free, visits-solved}
-use Rattle.book.specs.declared.Book.{Book}
 use Rattle.book.specs.declared.Place.{Place}
 use Rattle.book.specs.declared.Found.{Found}
 use Rattle.book.specs.declared.Found.the-variants.{At, Nothing}
 use Rattle.book.specs.declared.Wrote.{Wrote}
 use Rattle.book.specs.declared.Wrote.the-variants.{Fits, Over}
-use Rattle.book.specs.Book.{startOf, countOf, sols, Holds, Booked, placeOf, WriteAsk, wrote, writtenTo}
-use Rattle.book.proofs.Holdings.{found-in, free-of, free-kind}
+use Rattle.book.specs.Book.{startOf, countOf, sols, placeOf, WriteAsk, wrote, writtenTo}
+use Rattle.book.proofs.Holdings.{found-in, free-of}
 
 -- ---- what `find` tells
 pub record Solved (w : List ℕ) (d v : ℕ) (p : Place) : Type 0 where
   pub unknown : d ≡ 17
-  pub small : v < 1000
-  pub high : 2000 ≤ startOf w v
+  pub small : v < mostNumbers
+  pub high : bookBase ≤ startOf w v
   pub start : p .start ≡ startOf w v
   pub count : p .count ≡ countOf w v
 
 abbrev pub Unsolved : List ℕ → ℕ → ℕ → Type 0
-Unsolved w d v = d ≡ 17 → v < 1000 → startOf w v < 2000
+Unsolved w d v = d ≡ 17 → v < mostNumbers → startOf w v < bookBase
 
 abbrev Told : List ℕ → ℕ → ℕ → Found → Type 0
 Told w d v (At p) = Solved w d v p
@@ -46,17 +47,17 @@ told : (w : List ℕ) (d v : ℕ) (r : Found) → r ≡ placeOf w d v → Told w
 unfolding placeOf
 told w d v r e = rw e (go (eqb d 17) refl)
   where
-    go₃ : d ≡ 17 → v < 1000 → (c : Bool) → ltb (startOf w v) 2000 ≡ c → Told w d v (cond c Nothing (At (record { start = startOf w v; count = countOf w v })))
-    go₃ i l true q = λ _ _. ltb-true (startOf w v) 2000 q
-    go₃ i l false q = record { unknown = i; small = l; high = ltb-false (startOf w v) 2000 q; start = refl; count = refl }
+    go₃ : d ≡ 17 → v < mostNumbers → (c : Bool) → ltb (startOf w v) bookBase ≡ c → Told w d v (cond c Nothing (At (record { start = startOf w v; count = countOf w v })))
+    go₃ i l true q = λ _ _. ltb-true (startOf w v) bookBase q
+    go₃ i l false q = record { unknown = i; small = l; high = ltb-false (startOf w v) bookBase q; start = refl; count = refl }
 
-    go₂ : d ≡ 17 → (c : Bool) → ltb v 1000 ≡ c → Told w d v (cond c (cond (ltb (startOf w v) 2000) Nothing (At (record { start = startOf w v; count = countOf w v }))) Nothing)
-    go₂ i true q = go₃ i (ltb-true v 1000 q) (ltb (startOf w v) 2000) refl
-    go₂ i false q = λ _ l. absurd (let m = ltb-false v 1000 q in omega arith)
+    go₂ : d ≡ 17 → (c : Bool) → ltb v mostNumbers ≡ c → Told w d v (cond c (cond (ltb (startOf w v) bookBase) Nothing (At (record { start = startOf w v; count = countOf w v }))) Nothing)
+    go₂ i true q = go₃ i (ltb-true v mostNumbers q) (ltb (startOf w v) bookBase) refl
+    go₂ i false q = λ _ l. absurd (let m = ltb-false v mostNumbers q in omega arith)
 
     go : (c : Bool) → eqb d 17 ≡ c
-        → Told w d v (cond c (cond (ltb v 1000) (cond (ltb (startOf w v) 2000) Nothing (At (record { start = startOf w v; count = countOf w v }))) Nothing) Nothing)
-    go true q = go₂ (eqb-true d 17 q) (ltb v 1000) refl
+        → Told w d v (cond c (cond (ltb v mostNumbers) (cond (ltb (startOf w v) bookBase) Nothing (At (record { start = startOf w v; count = countOf w v }))) Nothing) Nothing)
+    go true q = go₂ (eqb-true d 17 q) (ltb v mostNumbers) refl
     go false q = λ i _. absurd (eqb-false d 17 q i)
 
 pub told-at : (w : List ℕ) (d v : ℕ) {r : Found} {p : Place} → r ≡ placeOf w d v → r ≡ At p → Solved w d v p
@@ -149,12 +150,12 @@ module _ {s : List ℕ} {at left : ℕ} {w o : List ℕ} {n end : ℕ} (ask : Wr
   }
 
   module _ (f : Unsolved w d v) where
-    free : Free (keys σ) (node d v)
+    free : Free (solvedUnknowns σ) (node d v)
     free = go (eqb d 17) refl
       where
-        go : (c : Bool) → eqb d 17 ≡ c → Free (keys σ) (node d v)
+        go : (c : Bool) → eqb d 17 ≡ c → Free (solvedUnknowns σ) (node d v)
         go true q = let i = eqb-true d 17 q in rw i (free-of w (ask .book .0) v (ask .book .1) (f i))
-        go false q = free-kind (keys σ) d v (eqb-false d 17 q)
+        go false q = other-free (solvedUnknowns σ) d v (eqb-false d 17 q)
 
     miss-out : writeOut σ (nodesAt s at left) ≡ (node d v ∷ []) ++ writeOut σ others
     miss-out = ap (writeOut σ) cons ∙ written-append σ (node d v ∷ []) others ∙ ap (λ (t : Ty). t ++ writeOut σ others) (written-free σ (node d v ∷ []) (free, tt))
@@ -179,8 +180,8 @@ module _ {s : List ℕ} {at left : ℕ} {w o : List ℕ} {n end : ℕ} (ask : Wr
     abbrev solution : Ty
     solution = nodesAt w (p .start) (p .count)
 
-    found : In (_≔_ v solution) σ × (0 < p .count) × (p .start + 2 * p .count ≤ 2000 + 2 * ask .book .0 .nodes)
-    found = rw (f .start, f .count) (found-in w (2000 + 2 * ask .book .0 .nodes) 2000 σ v (ask .book .1 .holds) (f .small) (f .high))
+    found : In (_≔_ v solution) σ × (0 < p .count) × (p .start + 2 * p .count ≤ bookBase + 2 * ask .book .0 .nodes)
+    found = rw (f .start, f .count) (found-in w (bookBase + 2 * ask .book .0 .nodes) bookBase σ v (ask .book .1 .holds) (f .small) (f .high))
 
     first : nodesAt s at left ≡ unknown v ++ others
     first = cons ∙ ap (λ (k : ℕ). (node k v ∷ []) ++ others) (f .unknown)

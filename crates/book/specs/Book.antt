@@ -2,27 +2,28 @@
 -- Words 2 k and 2 k + 1 are the start and the node count of unknown k's solution; the nodes stand from word 2,000 on, in order of solving.
 use mathlib.Core.Path.{_≡_}
 use mathlib.Core.Logic.{_≢_}
-use mathlib.Core.Bool.{Bool, true, false, cond, _&&_}
+use mathlib.Core.Bool.{Bool, cond, _&&_}
 use mathlib.Core.Option.{Option, none, some}
 use mathlib.Core.List.{List, [], _∷_, _++_}
 use Prim.Native.Nat.{ℕ, zero, suc, _+_, _*_, _-_, _≤_, _<_}
 use lib.ListN.{length, getD, take}
 use lib.Seq.{sets}
 use lib.Dec.{eqb, leb, ltb}
-use Rattle.nodes.specs.Nodes.{Node, node, Ty, words, nodesAt}
-use Rattle.judgment.specs.Solutions.{Solution, _≔_, Solutions, solutionNodes, Fine}
+use Rattle.sizes.specs.Sizes.{mostNodes, mostNumbers, bookBase, bookSize, bookStride}
+use Rattle.nodes.specs.Nodes.{Ty, words, nodesAt}
+use Rattle.judgment.specs.Solutions.{_≔_, Solutions}
+use Rattle.judgment.specs.Good.{Fine}
 use Rattle.book.specs.declared.Book.{Book}
-use Rattle.book.specs.declared.Place.{Place}
 use Rattle.book.specs.declared.Found.{Found}
 use Rattle.book.specs.declared.Found.the-variants.{At, Nothing}
 use Rattle.book.specs.declared.Wrote.{Wrote}
 use Rattle.book.specs.declared.Wrote.the-variants.{Fits, Over}
 
 abbrev pub startOf : List ℕ → ℕ → ℕ
-startOf w k = getD w (2 * k) 0
+startOf w k = getD w (bookStride * k) 0
 
 abbrev pub countOf : List ℕ → ℕ → ℕ
-countOf w k = getD w (2 * k + 1) 0
+countOf w k = getD w (bookStride * k + 1) 0
 
 -- ---- the solutions that the words hold
 -- the unknown below n whose solution starts at word p
@@ -37,56 +38,56 @@ after (some k) f = f k
 -- the solutions from word p on, n at most, in order of solving
 unfoldable pub solsFrom : List ℕ → ℕ → ℕ → Solutions
 solsFrom w p zero = []
-solsFrom w p (suc n) = after (who w p 1000) (λ k. _≔_ k (nodesAt w p (countOf w k)) ∷ solsFrom w (p + 2 * countOf w k) n)
+solsFrom w p (suc n) = after (who w p mostNumbers) (λ k. _≔_ k (nodesAt w p (countOf w k)) ∷ solsFrom w (p + 2 * countOf w k) n)
 
 unfoldable pub sols : List ℕ → Solutions
-sols w = solsFrom w 2000 4096
+sols w = solsFrom w bookBase mostNodes
 
 -- what the words say of the solution that starts at p
 pub record Head (w : List ℕ) (p k : ℕ) (t : Ty) : Type 0 where
-  pub small : k < 1000
+  pub small : k < mostNumbers
   pub starts : startOf w k ≡ p
   pub counts : countOf w k ≡ length t
   pub nodes : nodesAt w p (length t) ≡ t
   pub some : 0 < length t
-  pub others : (j : ℕ) → j < 1000 → j ≢ k → p ≤ startOf w j → p + 2 * length t ≤ startOf w j
+  pub others : (j : ℕ) → j < mostNumbers → j ≢ k → p ≤ startOf w j → p + 2 * length t ≤ startOf w j
 
 -- the words from p up to e hold these solutions and no others
 unfoldable pub Holds : List ℕ → ℕ → ℕ → Solutions → Type 0
-Holds w e p [] = (p ≡ e) × ((j : ℕ) → j < 1000 → startOf w j < p)
+Holds w e p [] = (p ≡ e) × ((j : ℕ) → j < mostNumbers → startOf w j < p)
 Holds w e p (_≔_ k t ∷ r) = Head w p k t × Holds w e (p + 2 * length t) r
 
 -- The words of a book: what is unsolved and what is not used is 0, and its solutions lead nowhere back.
 pub record Booked (w : List ℕ) (b : Book) : Type 0 where
-  pub room : 10192 ≤ length w
-  pub few : b .nodes ≤ 4096
-  pub holds : Holds w (2000 + 2 * b .nodes) 2000 (sols w)
-  pub unsolved : (j : ℕ) → j < 1000 → startOf w j < 2000 → (startOf w j ≡ 0) × (countOf w j ≡ 0)
-  pub rest : (j : ℕ) → 2000 + 2 * b .nodes ≤ j → j < 10192 → getD w j 0 ≡ 0
+  pub room : bookSize ≤ length w
+  pub few : b .nodes ≤ mostNodes
+  pub holds : Holds w (bookBase + 2 * b .nodes) bookBase (sols w)
+  pub unsolved : (j : ℕ) → j < mostNumbers → startOf w j < bookBase → (startOf w j ≡ 0) × (countOf w j ≡ 0)
+  pub rest : (j : ℕ) → bookBase + 2 * b .nodes ≤ j → j < bookSize → getD w j 0 ≡ 0
   pub fine : Fine (sols w)
 
 -- ---- solve
 -- n nodes more do not pass the limit
 abbrev pub fitting : Book → ℕ → Bool
-fitting b n = leb (b .nodes + n) 4096
+fitting b n = leb (b .nodes + n) mostNodes
 
 unfoldable pub given : List ℕ → Book → ℕ → Ty → List ℕ
-given w b k t = sets (sets w (2 * k) ((2000 + 2 * b .nodes) ∷ length t ∷ [])) (2000 + 2 * b .nodes) (words t)
+given w b k t = sets (sets w (bookStride * k) ((bookBase + 2 * b .nodes) ∷ length t ∷ [])) (bookBase + 2 * b .nodes) (words t)
 
 abbrev pub grown : Book → ℕ → Book
 grown b n = record { nodes = b .nodes + n }
 
 pub record SolveAsk (w : List ℕ) (b : Book) (k : ℕ) (s : List ℕ) («from» n : ℕ) : Type 0 where
-  pub room : 10192 ≤ length w
-  pub small : k < 1000
-  pub fits : b .nodes + n ≤ 4096
+  pub room : bookSize ≤ length w
+  pub small : k < mostNumbers
+  pub fits : b .nodes + n ≤ mostNodes
   pub within : «from» + 2 * n ≤ length s
 
 -- ---- find
 -- where the solution of a node stands, if it is a solved unknown
 unfoldable pub placeOf : List ℕ → ℕ → ℕ → Found
 placeOf w d v =
-    cond (eqb d 17) (cond (ltb v 1000) (cond (ltb (startOf w v) 2000) Nothing (At (record { start = startOf w v; count = countOf w v }))) Nothing) Nothing
+    cond (eqb d 17) (cond (ltb v mostNumbers) (cond (ltb (startOf w v) bookBase) Nothing (At (record { start = startOf w v; count = countOf w v }))) Nothing) Nothing
 
 -- ---- write_out
 pub record WriteAsk (s : List ℕ) (at left : ℕ) (w o : List ℕ) (n end : ℕ) : Type 0 where

@@ -1,9 +1,10 @@
 // The solution book (worklist.rs, `solved_evars`): the solutions of unknowns as words of a lent buffer, and writing out (`zonk`).
 ghost use mathlib.Core.Path.{_≡_};
 ghost use mathlib.Core.List.{[]};
-ghost use Prim.Native.Nat.{ℕ, _+_, _*_, _≤_, _<_};
+ghost use Prim.Native.Nat.{_+_, _*_, _≤_, _<_};
 ghost use lib.ListN.{length};
 ghost use lib.Seq.{sets};
+ghost use Rattle.sizes.specs.Sizes.{bookSize};
 ghost use Rattle.nodes.specs.Nodes.{nodesAt};
 ghost use Rattle.judgment.specs.Solutions.{writeOut};
 ghost use Rattle.judgment.specs.Result.{bookWords};
@@ -11,6 +12,11 @@ ghost use Rattle.book.specs.Book.{sols, fitting, given, grown, SolveAsk,
 use nodes::clear_words;
 use nodes::copy_nodes;
 use nodes::wide;
+use sizes::BOOK_BASE;
+use sizes::BOOK_SIZE;
+use sizes::BOOK_STRIDE;
+use sizes::MOST_NODES;
+use sizes::MOST_NUMBERS;
 
 // How many nodes the solutions have.
 pub struct Book {
@@ -18,9 +24,9 @@ pub struct Book {
 }
 
 impl Book {
-    pub const NUMBERS: usize = 1000;
+    pub const NUMBERS: usize = MOST_NUMBERS;
 
-    pub const NODES: usize = 4096;
+    pub const NODES: usize = MOST_NODES;
 
     pub fn new() -> Book
         ensures { λ r. ⌜ r ≡ record { nodes = 0 } ⌝ }
@@ -60,8 +66,8 @@ pub fn solve(book: &mut [u32], b: Book, k: u32, src: &[u32], from: usize, n: usi
     requires { ⌜ SolveAsk (now book) b k (now src) from n ⌝ }
     ensures { λ r. ⌜ (now (book .exit) ≡ given (now (book .entry)) b k (nodesAt (now (src .entry)) from n)) × (r ≡ grown b n) ⌝ }
 {
-    let at = 2000 + 2 * b.nodes;
-    let pair = 2 * wide(k);
+    let at = BOOK_BASE + 2 * b.nodes;
+    let pair = BOOK_STRIDE * wide(k);
     book[pair] = at as u32;
     book[pair + 1] = n as u32;
     copy_nodes(book, at, src, from, n);
@@ -70,7 +76,7 @@ pub fn solve(book: &mut [u32], b: Book, k: u32, src: &[u32], from: usize, n: usi
 
 // Where the solution of a node stands, if it is a solved unknown.
 pub fn find(book: &[u32], kind: u32, number: u32) -> Found
-    requires { ⌜ 10192 ≤ length (now book) ⌝ }
+    requires { ⌜ bookSize ≤ length (now book) ⌝ }
     ensures { λ r. ⌜ r ≡ placeOf (now (book .entry)) kind number ⌝ }
 {
     if kind != 17 {
@@ -80,9 +86,9 @@ pub fn find(book: &[u32], kind: u32, number: u32) -> Found
     if Book::NUMBERS <= k {
         return Found::Nothing;
     }
-    let pair = 2 * k;
+    let pair = BOOK_STRIDE * k;
     let start = wide(book[pair]);
-    if start < 2000 {
+    if start < BOOK_BASE {
         return Found::Nothing;
     }
     let count = wide(book[pair + 1]);
@@ -139,8 +145,8 @@ pub fn write_out(
 
 // Empties the book.
 pub fn clear_book(book: &mut [u32])
-    requires { ⌜ 10192 ≤ length (now book) ⌝ }
+    requires { ⌜ bookSize ≤ length (now book) ⌝ }
     ensures { λ _. ⌜ now (book .exit) ≡ sets (now (book .entry)) 0 (bookWords []) ⌝ }
 {
-    clear_words(book, 0, 10192);
+    clear_words(book, 0, BOOK_SIZE);
 }

@@ -10,6 +10,7 @@ use lib.Dec.{ltb}
 use lib.ListN.{length, drop}
 use lib.Seq.{sets, sets-eq}
 use borrow.Author.Tests.{lt-ltb, le-ltb, ltb-false}
+use Rattle.sizes.specs.Sizes.{highestCeiling, boardSize, bookSize, reportSize}
 use Rattle.grammar.specs.declared.Check.{Check}
 use Rattle.grammar.specs.declared.Check.the-variants.{Plan, Misspelt, Unfit}
 use Rattle.grammar.specs.Check.{check, checkNumber, checkLine}
@@ -19,7 +20,8 @@ use Rattle.judgment.specs.declared.Answer.{Answer}
 use Rattle.judgment.specs.Result.{Result, Buffers, Called, limits, judge, refusedAt, tooShort, refusedSheet, byCheck, call, boardWords, bookWords, reportWords}
 use Rattle.judgment.proofs.Promised.{promise}
 use Rattle.judgment.proofs.Words.{length-board, length-book, length-report}
-use Rattle.checker.specs.Calling.{Ran, FrontAsk, Fronted, Answered}
+use Rattle.checker.specs.Calling.{Ran, FrontAsk, Fronted}
+use Rattle.checker.specs.Answered.{Answered}
 
 -- ---- fronts
 front : (l e ws : List ℕ) (n : ℕ) → length ws ≡ n → n ≤ length l → e ≡ ws → e ++ drop n l ≡ sets l 0 ws
@@ -27,12 +29,12 @@ front l e ws n h m q =
     rw q (sym (sets-eq ws l 0 (omega arith) ∙ ap (λ (k : ℕ). ws ++ drop k l) (zero-add (length ws) ∙ h)))
 
 pub fronted : {s b k rep : List ℕ} (a : FrontAsk s b k rep) (o : Result) {b' k' rep' : List ℕ} {r : Answer} → Ran o b' k' rep' r
-    → Fronted o b k rep (b' ++ drop 16384 b) (k' ++ drop 10192 k) (rep' ++ drop 4096 rep) r
+    → Fronted o b k rep (b' ++ drop boardSize b) (k' ++ drop bookSize k) (rep' ++ drop reportSize rep) r
 fronted {s} {b} {k} {rep} a o {b'} {k'} {rep'} q = record {
   answer = q .answer;
-  board = front b b' boardWords 16384 length-board (a .board) (q .board);
-  book = front k k' (bookWords (o .solutions)) 10192 (length-book (o .solutions)) (a .book) (q .book);
-  report = front rep rep' (reportWords (o .report)) 4096 (length-report (o .report)) (a .report) (q .report);
+  board = front b b' boardWords boardSize length-board (a .board) (q .board);
+  book = front k k' (bookWords (o .solutions)) bookSize (length-book (o .solutions)) (a .book) (q .book);
+  report = front rep rep' (reportWords (o .report)) reportSize (length-report (o .report)) (a .report) (q .report);
 }
 
 -- ---- the tests
@@ -44,32 +46,32 @@ module _ (s : List ℕ) (c : ℕ) (b : Buffers) where
     promise = promise limits s c;
   }
 
-  pub high-ceiling : {a : Answer} → 10000 < c → a ≡ refusedAt 1 0 → Answered s c b a b
+  pub high-ceiling : {a : Answer} → highestCeiling < c → a ≡ refusedAt 1 0 → Answered s c b a b
   unfolding call
-  high-ceiling h e = called (rw (lt-ltb 10000 c h, e) refl)
+  high-ceiling h e = called (rw (lt-ltb highestCeiling c h, e) refl)
 
-  pub short-buffer : {a : Answer} {x : Bool} → c ≤ 10000 → x ≡ tooShort b → x ≡ true → a ≡ refusedAt 2 0 → Answered s c b a b
+  pub short-buffer : {a : Answer} {x : Bool} → c ≤ highestCeiling → x ≡ tooShort b → x ≡ true → a ≡ refusedAt 2 0 → Answered s c b a b
   unfolding call
-  short-buffer h t q e = called (rw (le-ltb 10000 c h, sym t ∙ q, e) refl)
+  short-buffer h t q e = called (rw (le-ltb highestCeiling c h, sym t ∙ q, e) refl)
 
-  module _ {x : Bool} (h : c ≤ 10000) (t : x ≡ tooShort b) (q : x ≡ false) where
+  module _ {x : Bool} (h : c ≤ highestCeiling) (t : x ≡ tooShort b) (q : x ≡ false) where
     by-check : (v : Check) → check s ≡ v → call s c b ≡ byCheck s c b v
     unfolding call
-    by-check v z = rw (le-ltb 10000 c h, sym t ∙ q, z) refl
+    by-check v z = rw (le-ltb highestCeiling c h, sym t ∙ q, z) refl
 
     -- 3, 4 or 5
     pub refused-by : (k : Check) {a : Answer} → check s ≡ k → byCheck s c b k ≡ refusedSheet k b → a ≡ refusedAt (checkNumber k) (checkLine k) → Answered s c b a b
     refused-by k z p e = called (by-check k z ∙ p ∙ rw e refl)
 
-    long-enough : tooShort b ≡ false → (16384 ≤ length (b .board)) × (10192 ≤ length (b .book)) × (4096 ≤ length (b .report))
-    long-enough = go (ltb (length (b .board)) 16384) (ltb (length (b .book)) 10192) (ltb (length (b .report)) 4096) refl refl refl
+    long-enough : tooShort b ≡ false → (boardSize ≤ length (b .board)) × (bookSize ≤ length (b .book)) × (reportSize ≤ length (b .report))
+    long-enough = go (ltb (length (b .board)) boardSize) (ltb (length (b .book)) bookSize) (ltb (length (b .report)) reportSize) refl refl refl
       where
-        go : (x y z : Bool) → ltb (length (b .board)) 16384 ≡ x → ltb (length (b .book)) 10192 ≡ y → ltb (length (b .report)) 4096 ≡ z → (x || (y || z)) ≡ false
-            → (16384 ≤ length (b .board)) × (10192 ≤ length (b .book)) × (4096 ≤ length (b .report))
+        go : (x y z : Bool) → ltb (length (b .board)) boardSize ≡ x → ltb (length (b .book)) bookSize ≡ y → ltb (length (b .report)) reportSize ≡ z → (x || (y || z)) ≡ false
+            → (boardSize ≤ length (b .board)) × (bookSize ≤ length (b .book)) × (reportSize ≤ length (b .report))
         go true y z p q r e = absurd (let u : _≡_ {A = ℕ} 0 1 = cc in omega arith)
         go false true z p q r e = absurd (let u : _≡_ {A = ℕ} 0 1 = cc in omega arith)
         go false false true p q r e = absurd (let u : _≡_ {A = ℕ} 0 1 = cc in omega arith)
-        go false false false p q r e = (ltb-false (length (b .board)) 16384 p, ltb-false (length (b .book)) 10192 q, ltb-false (length (b .report)) 4096 r)
+        go false false false p q r e = (ltb-false (length (b .board)) boardSize p, ltb-false (length (b .book)) bookSize q, ltb-false (length (b .report)) reportSize r)
 
     pub front-asks : check s ≡ Plan → FrontAsk s (b .board) (b .book) (b .report)
     front-asks z = let l = long-enough (sym t ∙ q) in record { plan = z; board = l .0; book = l .1; report = l .2 }

@@ -1,77 +1,44 @@
 -- Steps to the end of a run: what is left from here is the whole. Assumes nothing.
-use mathlib.Core.Path.{_≡_, refl, sym, ap, ap₂, _∙_, subst, subst⁻¹}
-use mathlib.Core.Bool.{Bool, true, false, cond, _&&_, and-eq-true-iff}
+use mathlib.Core.Path.{_≡_, refl, sym, ap, ap₂, _∙_}
+use mathlib.Core.Bool.{Bool, true, false, _&&_, and-eq-true-iff}
 use mathlib.Core.List.{List, [], _∷_}
 use Prim.Native.Nat.{ℕ, zero, suc, _+_, _*_, _-_, _≤_, _<_}
-use native.Mathlib.Nat.{add-zero, not-suc-le-zero}
-use native.Mathlib.Numerals.{add-one}
+use native.Mathlib.Nat.{not-suc-le-zero}
 use native.Mathlib.Omega.{arith}
 use lib.Dec.{ltb}
-use lib.ListN.{length}
 use borrow.Author.Tests.{ltb-true, ltb-false}
-use Rattle.nodes.specs.Nodes.{nodesAt}
 use Rattle.spelling.specs.declared.Triple.{Triple}
 use Rattle.sheet.specs.Rows.{rows}
 use Rattle.judgment.specs.Solutions.{Solutions}
-use Rattle.judgment.specs.Board.{Entry, Limits, Operation, State, state, Outcome, finished, refused, perform, operations}
-use Rattle.judgment.specs.Board.{Board as Entries}
-use Rattle.judgment.specs.Rules.{Env, rule}
-use Rattle.judgment.specs.Run.{Step, step, End, accepted, ceiling, refusedBy, addStep, onward, runFrom}
-use Rattle.judgment.specs.Run.{Run as Steps, run as steps}
+use Rattle.judgment.specs.Board.{Limits, state, finished}
+use Rattle.judgment.specs.Rules.{Env}
+use Rattle.judgment.specs.Run.{runFrom}
+use Rattle.judgment.specs.Chain.{stepO, Told, told}
 use Rattle.judgment.specs.Result.{limitsWith}
+use Rattle.judgment.proofs.Left.{leftOf, left-turn, left-empty, left-cut}
 use Rattle.board.specs.Board.{entryAt, entriesOf}
 use Rattle.book.specs.Book.{sols}
 use Rattle.operations.specs.declared.Halt.{Halt}
 use Rattle.operations.specs.declared.Run.{Run}
-use Rattle.operations.specs.State.{reported, outcomeBy, outcomeOf, stateOf, going}
+use Rattle.operations.specs.State.{outcomeBy, outcomeOf, stateOf, going}
 use Rattle.applying.specs.Applying.{envOn}
-use Rattle.stepping.specs.Stepping.{stepO, Standing, Stepping}
-use Rattle.checker.specs.Running.{Told, told, endAt, endBy, endOf}
+use Rattle.stepping.specs.Rooms.{Room}
+use Rattle.stepping.specs.Stepping.{Standing, Stepping}
+use Rattle.ending.specs.Ending.{takesMore, endAt, endBy, endOf}
 
--- ---- on the definition
+-- ---- in words
 module _ (L : Limits) (E : Env) (C : ℕ) where
-  -- what is left of a run with ceiling C, m entries having been taken
-  abbrev pub leftOf : ℕ → Outcome → Told
-  leftOf m (finished s) = told m (runFrom L E (C - m) s)
-  leftOf m (refused r ts s) = record { end = refusedBy r ts; taken = m; last = s }
-
-  add-told : (m : ℕ) (t : Step) (R : Steps) → told (m + 1) R ≡ told m (addStep t R)
-  add-told m t (steps ss e s) =
-      let z : m + 1 + length ss ≡ m + suc (length ss) = omega arith in
-      ap (λ (n : ℕ). record { end = e; taken = n; last = s }) z
-
-  onward-told : (m c : ℕ) → C - (m + 1) ≡ c → (s : State) (e : Entry) (os : List Operation) (o : Outcome)
-      → leftOf (m + 1) o ≡ told m (onward L E s e os o (λ x. runFrom L E c x))
-  onward-told m c z s e os (finished s′) = ap (λ (n : ℕ). told (m + 1) (runFrom L E n s′)) z ∙ add-told m (step s e os (finished s′)) (runFrom L E c s′)
-  onward-told m c z s e os (refused r ts s′) = refl
-
-  left-turn : (m : ℕ) → m < C → (e : Entry) (Γ : Entries) (σ : Solutions) (n : ℕ)
-      → leftOf (m + 1) (stepO L E (finished (state (e ∷ Γ) σ n))) ≡ leftOf m (finished (state (e ∷ Γ) σ n))
-  unfolding runFrom
-  left-turn m h e Γ σ n =
-      let z : suc (C - (m + 1)) ≡ C - m = omega arith in
-      onward-told m (C - (m + 1)) refl (state (e ∷ Γ) σ n) e (operations L (rule E e) Γ σ n) (perform L (rule E e) Γ σ n)
-      ∙ ap (λ (c : ℕ). told m (runFrom L E c (state (e ∷ Γ) σ n))) z
-
-  -- ---- in words
   turn-entries : (ls : List Triple) (b : List ℕ) (i : ℕ) → 0 < i → (m : ℕ) → m < C → (σ : Solutions) (n : ℕ)
-      → leftOf (m + 1) (stepO L E (finished (state (entriesOf ls b i) σ n))) ≡ leftOf m (finished (state (entriesOf ls b i) σ n))
+      → leftOf L E C (m + 1) (stepO L E (finished (state (entriesOf ls b i) σ n))) ≡ leftOf L E C m (finished (state (entriesOf ls b i) σ n))
   unfolding entriesOf
   turn-entries ls b zero h m l σ n = absurd (not-suc-le-zero h)
-  turn-entries ls b (suc i) h m l σ n = left-turn m l (entryAt ls b i) (entriesOf ls b i) σ n
+  turn-entries ls b (suc i) h m l σ n = left-turn L E C m l (entryAt ls b i) (entriesOf ls b i) σ n
 
   end-entries : (ls : List Triple) (b : List ℕ) (i m : ℕ) (σ : Solutions) (n : ℕ) → (0 < i → C ≤ m)
-      → leftOf m (finished (state (entriesOf ls b i) σ n)) ≡ record { end = endAt i; taken = m; last = state (entriesOf ls b i) σ n }
-  unfolding runFrom entriesOf
-  end-entries ls b zero m σ n h = go (C - m)
-    where
-      go : (c : ℕ) → told m (runFrom L E c (state [] σ n)) ≡ record { end = accepted; taken = m; last = state [] σ n }
-      go zero = ap (λ (k : ℕ). record { end = accepted; taken = k; last = state [] σ n }) (add-zero m)
-      go (suc c) = ap (λ (k : ℕ). record { end = accepted; taken = k; last = state [] σ n }) (add-zero m)
-  end-entries ls b (suc i) m σ n h =
-      let z : C - m ≡ 0 = (let y = h (omega arith) in omega arith) in
-      let s : State = state (entryAt ls b i ∷ entriesOf ls b i) σ n in
-      ap (λ (c : ℕ). told m (runFrom L E c s)) z ∙ ap (λ (k : ℕ). record { end = ceiling; taken = k; last = s }) (add-zero m)
+      → leftOf L E C m (finished (state (entriesOf ls b i) σ n)) ≡ record { end = endAt i; taken = m; last = state (entriesOf ls b i) σ n }
+  unfolding entriesOf
+  end-entries ls b zero m σ n h = left-empty L E C m σ n
+  end-entries ls b (suc i) m σ n h = left-cut L E C m (h (omega arith)) (entryAt ls b i) (entriesOf ls b i) σ n
 
 -- ---- the loop
 -- T is what the run from the words at its start comes to
@@ -90,16 +57,17 @@ loop-start {m} {s} C {b} {k} {rep} {c} r g = record {
 }
 
 -- what the test tells
-pub more-facts : (c : Run) (C : ℕ) → (going (c .halt) && (ltb 0 (c .board .entries) && ltb (c .taken) C)) ≡ true → (going (c .halt) ≡ true) × (0 < c .board .entries) × (c .taken < C)
+pub more-facts : (c : Run) (C : ℕ) → takesMore c C ≡ true → (going (c .halt) ≡ true) × (0 < c .board .entries) × (c .taken < C)
 more-facts c C e =
     let x = and-eq-true-iff (going (c .halt)) (ltb 0 (c .board .entries) && ltb (c .taken) C) .0 e in
     let y = and-eq-true-iff (ltb 0 (c .board .entries)) (ltb (c .taken) C) .0 (x .1) in
     (x .0, ltb-true 0 (c .board .entries) (y .0), ltb-true (c .taken) C (y .1))
 
-pub loop-turn : {m : ℕ} {s : List ℕ} {C : ℕ} {T : Told} {b k rep : List ℕ} {c : Run} {b' k' rep' : List ℕ} {q : Run} → (going (c .halt) ≡ true) × (0 < c .board .entries) × (c .taken < C)
-    → Loop m s C T b k rep c → Stepping m s b k rep c b' k' rep' q → Loop m s C T b' k' rep' q
-loop-turn {m} {s} {C} {T} {b} {k} {rep} {c} {b'} {k'} {rep'} {q} f h r =
+pub loop-turn : {m : ℕ} {s : List ℕ} {C : ℕ} {T : Told} {b k : List ℕ} {c : Run} {x : Room} {b' k' : List ℕ} {q : Run} {x' : Room} → (going (c .halt) ≡ true) × (0 < c .board .entries) × (c .taken < C)
+    → Loop m s C T b k (x .report) c → Stepping m s b k c x b' k' q x' → Loop m s C T b' k' (x' .report) q
+loop-turn {m} {s} {C} {T} {b} {k} {c} {x} {b'} {k'} {q} {x'} f h r =
     let E = envOn s in
+    let rep = x .report in
     let ls = rows s in
     let g = f .0 in
     let t : leftOf (limitsWith m) E C (c .taken + 1) (stepO (limitsWith m) E (outcomeBy (c .halt) rep (stateOf ls b k c))) ≡ leftOf (limitsWith m) E C (c .taken) (outcomeBy (c .halt) rep (stateOf ls b k c)) =
@@ -123,7 +91,7 @@ ended L E C ls b rep h i m σ n e = by (going h) refl
     by true g = rw g (end-entries L E C ls b i m σ n (λ l. go (ltb 0 i) (ltb m C) refl refl l (sym (ap (λ (x : Bool). x && (ltb 0 i && ltb m C)) g) ∙ e)))
     by false g = rw g refl
 
-pub loop-end : {m : ℕ} {s : List ℕ} {C : ℕ} {T : Told} {b k rep : List ℕ} {c : Run} → Loop m s C T b k rep c → (going (c .halt) && (ltb 0 (c .board .entries) && ltb (c .taken) C)) ≡ false
+pub loop-end : {m : ℕ} {s : List ℕ} {C : ℕ} {T : Told} {b k rep : List ℕ} {c : Run} → Loop m s C T b k rep c → takesMore c C ≡ false
     → T ≡ record { end = endOf rep c; taken = c .taken; last = stateOf (rows s) b k c }
 loop-end {m} {s} {C} {T} {b} {k} {rep} {c} h e =
     sym (h .left) ∙ ended (limitsWith m) (envOn s) C (rows s) b rep (c .halt) (c .board .entries) (c .taken) (sols k) (c .fresh) e

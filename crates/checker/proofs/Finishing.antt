@@ -1,29 +1,28 @@
 -- The seven numbers and the buffers, read off the end of a run. Assumes nothing.
-use mathlib.Core.Path.{_≡_, refl, sym, ap, ap₂, _∙_, subst, subst⁻¹}
+use mathlib.Core.Path.{_≡_, refl, sym, ap, _∙_}
 use mathlib.Core.Bool.{Bool, true, false, cond}
 use mathlib.Core.List.{List, [], _∷_, _++_, append-nil}
 use Prim.Native.Nat.{ℕ, zero, suc, _+_, _*_, _-_, _≤_, _<_}
 use native.Mathlib.Nat.{zero-add}
 use native.Mathlib.Omega.{arith}
-use lib.Dec.{eqb, ltb}
-use lib.ListN.{length, getD, take, drop, replicate, length-append, length-replicate, drop-of-length-le}
+use lib.Dec.{ltb}
+use lib.ListN.{length, getD, take, replicate, length-append, length-replicate, drop-of-length-le}
 use lib.Seq.{sets, length-sets, sets-eq, take-all, length-take-le, getD-take, getD-append-add, ext-getD}
 use lib.ListN.{List·getD-append, getD-replicate}
-use borrow.Author.Tests.{ltb-true, ltb-false, lt-ltb, le-ltb, ne-eqb}
-use Rattle.nodes.specs.Nodes.{Ty, words, nodesAt, zeros}
+use borrow.Author.Tests.{ltb-true, ltb-false}
+use Rattle.sizes.specs.Sizes.{boardSize, bookSize, reportNodes, reportSize}
+use Rattle.nodes.specs.Nodes.{words, nodesAt, zeros}
 use Rattle.nodes.proofs.ListLaws.{cond-ind}
 use Rattle.nodes.proofs.Laws.{length-words, length-nodesAt, getD-sets-below, getD-sets-in}
-use Rattle.spelling.specs.declared.Triple.{Triple}
 use Rattle.sheet.specs.Plan.{isPlain, planOf}
 use Rattle.sheet.specs.Rows.{rows}
 use Rattle.judgment.specs.declared.Answer.{Answer}
-use Rattle.judgment.specs.declared.Details.{Details}
-use Rattle.judgment.specs.declared.TypeError.{TypeError}
 use Rattle.judgment.specs.Solutions.{Solutions}
 use Rattle.judgment.specs.Board.{State, state}
-use Rattle.judgment.specs.Run.{Step, End, runFrom, checkType}
+use Rattle.judgment.specs.Run.{runFrom, checkType}
 use Rattle.judgment.specs.Run.{Run as Steps, run as steps}
-use Rattle.judgment.specs.Result.{Result, endNumber, endDetails, endReport, resultOf, envOf, runOf, judge, limits, padded, bookWords, reportWords, boardWords}
+use Rattle.judgment.specs.Chain.{Told, told}
+use Rattle.judgment.specs.Result.{startOf, Result, endReport, resultOf, runOf, judge, limits, padded, bookWords, reportWords, boardWords}
 use Rattle.judgment.proofs.Words.{length-board}
 use Rattle.book.specs.declared.Book.{Book}
 use Rattle.book.specs.Book.{sols, Booked}
@@ -32,7 +31,7 @@ use Rattle.operations.specs.declared.Halt.{Halt}
 use Rattle.operations.specs.declared.Run.{Run}
 use Rattle.operations.specs.State.{reported, errorOf, going, stateOf, WellFormed}
 use Rattle.applying.specs.Applying.{envOn}
-use Rattle.checker.specs.Running.{startOf, Told, told, endAt, endBy, endOf, reportEnd, answerBy}
+use Rattle.ending.specs.Ending.{endBy, endOf, reportEnd, answerBy}
 use Rattle.checker.specs.Calling.{Ran}
 
 -- ---- the result
@@ -65,29 +64,6 @@ judged s C b k rep c e =
     let p = planOf (rows s) in
     result-told (p .plain) (runFrom limits (envOn s) C (startOf (rows s))) ∙ ap (resultTold (p .plain)) e
 
--- ---- the numbers of an end
-pub going-number : (i : ℕ) → endNumber (endAt i) ≡ cond (eqb i 0) 0 21
-going-number zero = refl
-going-number (suc i) = sym (ap (λ (b : Bool). cond b 0 21) (ne-eqb (suc i) 0 (λ z. omega arith)))
-
-pub going-details : (i : ℕ) → endDetails (endAt i) ≡ (0, 0)
-going-details zero = refl
-going-details (suc i) = refl
-
-pub answer-is : (plain : Bool) (e : End) (taken fresh : ℕ) {n m : ℕ} {d : Details} → n ≡ endNumber e → d ≡ endDetails e → m ≡ cond plain 1 0
-    → record { number = n; line = 0; taken = taken; fresh = fresh; detail1 = d .0; detail2 = d .1; plain = m } ≡ answerBy plain e taken fresh
-answer-is plain e taken fresh p q r = rw (p, q, r) refl
-
-module _ (h : Halt) {e : TypeError} {n : ℕ} (g : going h ≡ false) (p : e ≡ errorOf h) (q : n ≡ reported e) where
-  counted : n ≡ reported (errorOf h)
-  counted = q ∙ ap reported p
-
-  pub refused-fits : n < 2048 → 2 * n ≡ reportEnd h
-  refused-fits l = rw (g, sym counted, lt-ltb n 2048 l) refl
-
-  pub refused-over : 2048 ≤ n → 4096 ≡ reportEnd h
-  refused-over l = rw (g, sym counted, le-ltb n 2048 l) refl
-
 -- ---- the buffers
 -- all words of a buffer of that length
 pub all-set : (l vs : List ℕ) → length l ≡ length vs → sets l 0 vs ≡ vs
@@ -95,16 +71,16 @@ all-set l vs e =
     let z : length l ≤ 0 + length vs = omega arith in
     sets-eq vs l 0 (omega arith) ∙ ap (λ (r : List ℕ). vs ++ r) (drop-of-length-le l z) ∙ append-nil vs
 
-pub whole-board : (b b' : List ℕ) → length b ≡ 16384 → b' ≡ sets b 0 boardWords → b' ≡ boardWords
+pub whole-board : (b b' : List ℕ) → length b ≡ boardSize → b' ≡ sets b 0 boardWords → b' ≡ boardWords
 whole-board b b' l e = e ∙ all-set b boardWords (l ∙ sym length-board)
 
-pub whole-book : {k : List ℕ} {d : Book} → Booked k d → length k ≡ 10192 → k ≡ bookWords (sols k)
-whole-book {k} {d} h e = sym (take-all 10192 k (omega arith)) ∙ book-words k d h
+pub whole-book : {k : List ℕ} {d : Book} → Booked k d → length k ≡ bookSize → k ≡ bookWords (sols k)
+whole-book {k} {d} h e = sym (take-all bookSize k (omega arith)) ∙ book-words k d h
 
 -- the report: n nodes, and then 0
-module _ (rep : List ℕ) (len : length rep ≡ 4096) (n : ℕ) where
+module _ (rep : List ℕ) (len : length rep ≡ reportSize) (n : ℕ) where
   abbrev end : ℕ
-  end = cond (ltb n 2048) (2 * n) 4096
+  end = cond (ltb n reportNodes) (2 * n) reportSize
 
   abbrev W : List ℕ
   W = words (nodesAt rep 0 n)
@@ -113,62 +89,62 @@ module _ (rep : List ℕ) (len : length rep ≡ 4096) (n : ℕ) where
   long = length-words (nodesAt rep 0 n) ∙ ap (λ (m : ℕ). 2 * m) (length-nodesAt rep 0 n)
 
   -- a word of the types
-  in-types : (i : ℕ) → i < 2 * n → getD (W ++ replicate 4096 0) i 0 ≡ getD rep i 0
+  in-types : (i : ℕ) → i < 2 * n → getD (W ++ replicate reportSize 0) i 0 ≡ getD rep i 0
   in-types i h =
       let l = long in
-      List·getD-append W (replicate 4096 0) 0 i (omega arith) ∙ words-at rep 0 n i h ∙ ap (λ (j : ℕ). getD rep j 0) (zero-add i)
+      List·getD-append W (replicate reportSize 0) 0 i (omega arith) ∙ words-at rep 0 n i h ∙ ap (λ (j : ℕ). getD rep j 0) (zero-add i)
 
-  word-is : (i : ℕ) → i < 4096 → (b : Bool) → ltb n 2048 ≡ b → getD (sets rep (cond b (2 * n) 4096) (zeros (4096 - cond b (2 * n) 4096))) i 0 ≡ getD (W ++ replicate 4096 0) i 0
+  word-is : (i : ℕ) → i < reportSize → (b : Bool) → ltb n reportNodes ≡ b → getD (sets rep (cond b (2 * n) reportSize) (zeros (reportSize - cond b (2 * n) reportSize))) i 0 ≡ getD (W ++ replicate reportSize 0) i 0
   unfolding zeros
   word-is i h true e = go (ltb i (2 * n)) refl
     where
-      go : (b : Bool) → ltb i (2 * n) ≡ b → getD (sets rep (2 * n) (replicate (4096 - 2 * n) 0)) i 0 ≡ getD (W ++ replicate 4096 0) i 0
-      go true q = let x = ltb-true i (2 * n) q in getD-sets-below rep (2 * n) (replicate (4096 - 2 * n) 0) i x ∙ sym (in-types i x)
+      go : (b : Bool) → ltb i (2 * n) ≡ b → getD (sets rep (2 * n) (replicate (reportSize - 2 * n) 0)) i 0 ≡ getD (W ++ replicate reportSize 0) i 0
+      go true q = let x = ltb-true i (2 * n) q in getD-sets-below rep (2 * n) (replicate (reportSize - 2 * n) 0) i x ∙ sym (in-types i x)
       go false q =
           let x = ltb-false i (2 * n) q in
-          let y = ltb-true n 2048 e in
+          let y = ltb-true n reportNodes e in
           let l = long in
           let z : 2 * n + (i - 2 * n) ≡ i = omega arith in
           let u : i ≡ length W + (i - 2 * n) = omega arith in
-          let m = length-replicate {A = ℕ} (4096 - 2 * n) 0 in
-          ap (λ (j : ℕ). getD (sets rep (2 * n) (replicate (4096 - 2 * n) 0)) j 0) (sym z)
-          ∙ getD-sets-in rep (2 * n) (replicate (4096 - 2 * n) 0) (i - 2 * n) (omega arith) (omega arith)
-          ∙ getD-replicate (4096 - 2 * n) (i - 2 * n) 0 0 (omega arith)
-          ∙ sym (ap (λ (j : ℕ). getD (W ++ replicate 4096 0) j 0) u ∙ getD-append-add W (replicate 4096 0) (i - 2 * n) 0 ∙ getD-replicate 4096 (i - 2 * n) 0 0 (omega arith))
+          let m = length-replicate {A = ℕ} (reportSize - 2 * n) 0 in
+          ap (λ (j : ℕ). getD (sets rep (2 * n) (replicate (reportSize - 2 * n) 0)) j 0) (sym z)
+          ∙ getD-sets-in rep (2 * n) (replicate (reportSize - 2 * n) 0) (i - 2 * n) (omega arith) (omega arith)
+          ∙ getD-replicate (reportSize - 2 * n) (i - 2 * n) 0 0 (omega arith)
+          ∙ sym (ap (λ (j : ℕ). getD (W ++ replicate reportSize 0) j 0) u ∙ getD-append-add W (replicate reportSize 0) (i - 2 * n) 0 ∙ getD-replicate reportSize (i - 2 * n) 0 0 (omega arith))
   word-is i h false e =
-      let x = ltb-false n 2048 e in
-      getD-sets-below rep 4096 (replicate (4096 - 4096) 0) i h ∙ sym (in-types i (omega arith))
+      let x = ltb-false n reportNodes e in
+      getD-sets-below rep reportSize (replicate (reportSize - reportSize) 0) i h ∙ sym (in-types i (omega arith))
 
-  pub report-is : sets rep end (zeros (4096 - end)) ≡ reportWords (nodesAt rep 0 n)
+  pub report-is : sets rep end (zeros (reportSize - end)) ≡ reportWords (nodesAt rep 0 n)
   unfolding reportWords padded
   report-is =
-      let l = length-append W (replicate 4096 0) in
-      let r = length-replicate {A = ℕ} 4096 0 in
-      let m = length-take-le 4096 (W ++ replicate 4096 0) (omega arith) in
-      let a = length-sets rep end (zeros (4096 - end)) in
-      ext-getD 0 (sets rep end (zeros (4096 - end))) (take 4096 (W ++ replicate 4096 0)) (a ∙ len ∙ sym m)
+      let l = length-append W (replicate reportSize 0) in
+      let r = length-replicate {A = ℕ} reportSize 0 in
+      let m = length-take-le reportSize (W ++ replicate reportSize 0) (omega arith) in
+      let a = length-sets rep end (zeros (reportSize - end)) in
+      ext-getD 0 (sets rep end (zeros (reportSize - end))) (take reportSize (W ++ replicate reportSize 0)) (a ∙ len ∙ sym m)
       (λ i q.
-      let h : i < 4096 = omega arith in
-      word-is i h (ltb n 2048) refl ∙ sym (getD-take 4096 (W ++ replicate 4096 0) i 0 h))
+      let h : i < reportSize = omega arith in
+      word-is i h (ltb n reportNodes) refl ∙ sym (getD-take reportSize (W ++ replicate reportSize 0) i 0 h))
 
 -- at any end
-pub ended-report : (rep : List ℕ) → length rep ≡ 4096 → (h : Halt) (i : ℕ) → sets rep (reportEnd h) (zeros (4096 - reportEnd h)) ≡ reportWords (endReport (endBy h i rep))
+pub ended-report : (rep : List ℕ) → length rep ≡ reportSize → (h : Halt) (i : ℕ) → sets rep (reportEnd h) (zeros (reportSize - reportEnd h)) ≡ reportWords (endReport (endBy h i rep))
 unfolding nodesAt
 ended-report rep len h i = go (going h) refl i
   where
-    go : (g : Bool) → going h ≡ g → (i : ℕ) → sets rep (reportEnd h) (zeros (4096 - reportEnd h)) ≡ reportWords (endReport (endBy h i rep))
+    go : (g : Bool) → going h ≡ g → (i : ℕ) → sets rep (reportEnd h) (zeros (reportSize - reportEnd h)) ≡ reportWords (endReport (endBy h i rep))
     go true g zero = rw g (report-is rep len 0)
     go true g (suc i) = rw g (report-is rep len 0)
     go false g i = rw g (report-is rep len (reported (errorOf h)))
 
-pub end-small : (h : Halt) → reportEnd h ≤ 4096
-end-small h = cond-ind (λ (n : ℕ). n ≤ 4096) (going h) (λ _. omega arith)
-    (λ _. cond-ind (λ (n : ℕ). n ≤ 4096) (ltb (reported (errorOf h)) 2048) (λ q. let x = ltb-true (reported (errorOf h)) 2048 q in omega arith) (λ _. omega arith))
+pub end-small : (h : Halt) → reportEnd h ≤ reportSize
+end-small h = cond-ind (λ (n : ℕ). n ≤ reportSize) (going h) (λ _. omega arith)
+    (λ _. cond-ind (λ (n : ℕ). n ≤ reportSize) (ltb (reported (errorOf h)) reportNodes) (λ q. let x = ltb-true (reported (errorOf h)) reportNodes q in omega arith) (λ _. omega arith))
 
 -- ---- all of it
 pub ran : (s : List ℕ) (C : ℕ) {b k : List ℕ} (rep : List ℕ) (c : Run) {b' rep' : List ℕ} {a : Answer} {plain : Bool} {n : ℕ}
     → WellFormed b k c × (told 0 (runFrom limits (envOn s) C (startOf (rows s))) ≡ record { end = endOf rep c; taken = c .taken; last = stateOf (rows s) b k c })
-    → length k ≡ 10192 → length rep ≡ 4096 → b' ≡ boardWords → n ≡ reportEnd (c .halt) → rep' ≡ sets rep n (zeros (4096 - n))
+    → length k ≡ bookSize → length rep ≡ reportSize → b' ≡ boardWords → n ≡ reportEnd (c .halt) → rep' ≡ sets rep n (zeros (reportSize - n))
     → plain ≡ isPlain (rows s) → ((rep : List ℕ) → a ≡ answerBy plain (endOf rep c) (c .taken) (c .fresh)) → Ran (judge limits C (rows s)) b' k rep' a
 unfolding planOf
 ran s C {b} {k} rep c h lk lr eb en er ep ea =
@@ -177,5 +153,5 @@ ran s C {b} {k} rep c h lk lr eb en er ep ea =
       answer = ea rep ∙ ap (λ (p : Bool). answerBy p (endOf rep c) (c .taken) (c .fresh)) ep ∙ sym (ap (λ (r : Result). r .answer) j);
       board = eb;
       book = whole-book (h .0 .book) lk ∙ sym (ap (λ (r : Result). bookWords (r .solutions)) j);
-      report = er ∙ ap (λ (m : ℕ). sets rep m (zeros (4096 - m))) en ∙ ended-report rep lr (c .halt) (c .board .entries) ∙ sym (ap (λ (r : Result). reportWords (r .report)) j);
+      report = er ∙ ap (λ (m : ℕ). sets rep m (zeros (reportSize - m))) en ∙ ended-report rep lr (c .halt) (c .board .entries) ∙ sym (ap (λ (r : Result). reportWords (r .report)) j);
     }

@@ -5,6 +5,7 @@ use Prim.Native.Nat.{ℕ, _+_, _*_, _/_, _≤_}
 use native.Mathlib.Omega.{arith}
 use lib.ListN.{length, take}
 use lib.Seq.{length-take-le}
+use Rattle.sizes.specs.Sizes.{lineLength}
 use Rattle.spelling.specs.declared.Triple.{Triple}
 use Rattle.grammar.specs.declared.Check.the-variants.{Plan}
 use Rattle.grammar.specs.Check.{check}
@@ -21,16 +22,16 @@ use Rattle.checker.specs.Calling.{RunAsk, RowsAsk, Ran}
 pub was-read : (s : List ℕ) {d : List ℕ} → check s ≡ Plan → (rows d ≡ triples s) × Ended d → Read d
 was-read s h q = record { sheet = s; plan = h; same = q .0; ended = q .1 }
 
-pub case-room : (s : List ℕ) {d r w v : List ℕ} → rows d ≡ triples s → 2 * (length s / 29) + 2 ≤ length r → 6 * (length s / 29) + 12 ≤ length w → 6 * (length s / 29) + 6 ≤ length v → CaseRoom d r w v
+pub case-room : (s : List ℕ) {d r w v : List ℕ} → rows d ≡ triples s → 2 * (length s / lineLength) + 2 ≤ length r → 6 * (length s / lineLength) + 12 ≤ length w → 6 * (length s / lineLength) + 6 ≤ length v → CaseRoom d r w v
 case-room s e x y z =
     let n = length-triples s in
     let m = ap length e in
     record { right = omega arith; frames = omega arith; bound = omega arith }
 
 -- rows and room that are long enough
-pub rows-asks : (d : List ℕ) {s b k rep r w v : List ℕ} → RunAsk s b k rep → 4 * (length s / 29) ≤ length d → 2 * (length s / 29) + 2 ≤ length r → 6 * (length s / 29) + 12 ≤ length w → 6 * (length s / 29) + 6 ≤ length v
-    → RowsAsk s b k rep (take (4 * (length s / 29)) d) r w v
-rows-asks d {s} p h x y z = record { run = p; rows = length-take-le (4 * (length s / 29)) d h; right = x; frames = y; bound = z }
+pub rows-asks : (d : List ℕ) {s b k rep r w v : List ℕ} → RunAsk s b k rep → 4 * (length s / lineLength) ≤ length d → 2 * (length s / lineLength) + 2 ≤ length r → 6 * (length s / lineLength) + 12 ≤ length w → 6 * (length s / lineLength) + 6 ≤ length v
+    → RowsAsk s b k rep (take (4 * (length s / lineLength)) d) r w v
+rows-asks d {s} p h x y z = record { run = p; rows = length-take-le (4 * (length s / lineLength)) d h; right = x; frames = y; bound = z }
 
 pub ran-as : {ls ms : List Triple} (c : ℕ) {b k rep : List ℕ} {a : Answer} → ls ≡ ms → Ran (judge limits c ls) b k rep a → Ran (judge limits c ms) b k rep a
 ran-as c {b} {k} {rep} {a} e r = subst (λ (ls : List Triple). Ran (judge limits c ls) b k rep a) e r

@@ -1,11 +1,12 @@
 -- Where the run of a sheet starts, in words. Assumes nothing.
 use mathlib.Core.Path.{_≡_, refl, sym, ap, ap₂, _∙_, subst, subst⁻¹}
 use mathlib.Core.List.{List, [], _∷_, _++_, append-nil}
-use Prim.Native.Nat.{ℕ, zero, suc, _+_, _*_, _-_, _≤_, _<_}
+use Prim.Native.Nat.{ℕ, _+_, _*_, _-_, _≤_, _<_}
 use native.Mathlib.Nat.{add-zero}
 use native.Mathlib.Omega.{arith}
 use lib.ListN.{length, take, drop}
 use lib.Seq.{sets}
+use Rattle.sizes.specs.Sizes.{mostLines, mostNodes, typeWords, boardUsed, bookSize}
 use Rattle.nodes.specs.Nodes.{Ty, words, nodesAt}
 use Rattle.nodes.specs.Lists.{All}
 use Rattle.nodes.specs.Parts.{takeParts, dropParts}
@@ -13,7 +14,7 @@ use Rattle.nodes.proofs.Laws.{length-nodesAt}
 use Rattle.nodes.proofs.PartLaws.{take-drop}
 use Rattle.spelling.specs.declared.Triple.{Triple}
 use Rattle.kinds.specs.Kinds.{aType, aTerm, partsOf}
-use Rattle.grammar.specs.Grammar.{Item, part as item}
+use Rattle.grammar.specs.Grammar.{part as item}
 use Rattle.sheet.specs.declared.Places.{Places}
 use Rattle.sheet.specs.Plan.{Term, partLine, nodesOf, Narrow, placesOf, planOf}
 use Rattle.sheet.specs.Rows.{rows}
@@ -21,10 +22,10 @@ use Rattle.sheet.specs.Form.{Forms, IsPart}
 use Rattle.sheet.proofs.Forming.{split}
 use Rattle.sheet.proofs.TypeLines.{type-narrow}
 use mathlib.Core.Bool.{Bool, true, false, cond, true≢false}
-use Rattle.judgment.specs.Board.{chk, State, state, Outcome, finished, refused}
+use Rattle.judgment.specs.Board.{State, Outcome, finished, refused}
 use Rattle.judgment.specs.Run.{runFrom}
 use Rattle.judgment.proofs.Promised.{plan-inv}
-use Rattle.judgment.specs.Result.{bookWords, limits}
+use Rattle.judgment.specs.Result.{startOf, bookWords, limits}
 use Rattle.applying.specs.Applying.{envOn}
 use Rattle.board.specs.declared.Board.{Board}
 use Rattle.board.specs.Board.{termAt, entryOf, entriesOf, Stacked, laid, grown, PushAsk}
@@ -37,9 +38,10 @@ use Rattle.inference.proofs.Heads.{part-within}
 use Rattle.inference.proofs.Written.{length-typeOn, copied}
 use Rattle.operations.specs.declared.Halt.{Halt}
 use Rattle.operations.specs.declared.Run.{Run}
-use Rattle.operations.specs.State.{reported, noHalt, errorOf, outcomeBy, outcomeOf, stateOf, WellFormed, going}
+use Rattle.operations.specs.State.{reported, noHalt, errorOf, outcomeOf, stateOf, WellFormed, going}
 use Rattle.stepping.specs.Stepping.{Read, Standing}
-use Rattle.checker.specs.Running.{startOf, told, StartAsk}
+use Rattle.judgment.specs.Chain.{told}
+use Rattle.checker.specs.Calling.{StartAsk}
 use Rattle.stepping.proofs.Judging.{part-stands}
 use Rattle.stepping.proofs.Reading.{read-few, read-formed, read-good, read-whole}
 use Rattle.stepping.proofs.Reaching.{OutcomeOK, of-outcome, bare-inv}
@@ -66,7 +68,7 @@ module _ (s : List ℕ) (h : Read s) where
   expected-part = read-formed h .expected
 
   -- the expected type stands within the sheet
-  pub expected-within : (at ≤ partLine ls at 1) × (partLine ls at 1 ≤ 2000)
+  pub expected-within : (at ≤ partLine ls at 1) × (partLine ls at 1 ≤ mostLines)
   expected-within =
       let l = part-stands aType ls at expected-part in
       let w = part-within ls at 1 (omega arith) in
@@ -74,7 +76,7 @@ module _ (s : List ℕ) (h : Read s) where
       let w1 = w .1 in
       (w .0, omega arith)
 
-  pub copy-start : (t : List ℕ) → 8192 ≤ length t → (let n = partLine ls at 1 - at in (0 + 2 * n ≤ length t) × (at + n ≤ length ls) × All Narrow (take n (drop at ls)))
+  pub copy-start : (t : List ℕ) → typeWords ≤ length t → (let n = partLine ls at 1 - at in (0 + 2 * n ≤ length t) × (at + n ≤ length ls) × All Narrow (take n (drop at ls)))
   copy-start t m =
       let l = part-stands aType ls at expected-part in
       let w = part-within ls at 1 (omega arith) in
@@ -97,7 +99,7 @@ module _ (s : List ℕ) (h : Read s) where
   unfolding planOf termAt
   type-is = ap nodesOf (sym (part-lines ls at))
 
-  module _ (b k t : List ℕ) (lb : 12288 ≤ length b) (lk : 10192 ≤ length k) (n : ℕ) (ln : n ≡ partLine ls at 1 - at) (tn : nodesAt t 0 n ≡ nodesOf (take (partLine ls at 1 - at) (drop at ls))) where
+  module _ (b k t : List ℕ) (lb : boardUsed ≤ length b) (lk : bookSize ≤ length k) (n : ℕ) (ln : n ≡ partLine ls at 1 - at) (tn : nodesAt t 0 n ≡ nodesOf (take (partLine ls at 1 - at) (drop at ls))) where
     abbrev none : Board
     none = record { entries = 0; nodes = 0 }
 
@@ -110,7 +112,7 @@ module _ (s : List ℕ) (h : Read s) where
     abbrev begun : Run
     begun = record { taken = 0; fresh = 0; board = grown none (n + 0); book = record { nodes = 0 }; halt = noHalt }
 
-    few : 0 + (length T + 0) ≤ 4096
+    few : 0 + (length T + 0) ≤ mostNodes
     few =
         let x = length-nodesAt t 0 n in
         let w0 = expected-within .0 in
@@ -200,7 +202,7 @@ start-stands s b k c h q =
     let e = start-is s b k c q in
     let o = of-outcome ⊥ (c .halt) [] (entriesOf (rows s) b (c .board .entries)) (sols k) (c .fresh)
     (subst⁻¹ (OutcomeOK ⊥) (q .2 []) (record { inv = bare-inv (p .plain ≡ true) (plan-inv p (read-good h)); entries = (w .1, tt); solutions = tt })) in
-    (record { plan = h; formed = q .0; inv = o .inv; entries = o .entries; solutions = o .solutions }, e .0)
+    (record { plan = h; formed = q .0; good = o }, e .0)
 
 -- its run is the sheet's
 pub start-told : (s b k : List ℕ) (c : Run) (C : ℕ) → WellFormed b k c × (c .taken ≡ 0) × ((rep : List ℕ) → outcomeOf (rows s) b k rep c ≡ finished (startOf (rows s)))

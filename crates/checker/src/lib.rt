@@ -1,58 +1,54 @@
 // The run (worklist.rs: `solve`, `check_type`), from a sheet to the seven numbers.
 ghost use mathlib.Core.Path.{_≡_};
-ghost use mathlib.Core.Bool.{true, cond, _&&_};
+ghost use mathlib.Core.Bool.{true};
 ghost use mathlib.Core.List.{List};
 ghost use Prim.Native.Nat.{ℕ, _+_, _-_, _*_, _/_, _<_, _≤_};
-ghost use lib.Dec.{ltb};
 ghost use lib.ListN.{length};
+ghost use Rattle.sizes.specs.Sizes.{lineLength, mostNodes};
 ghost use Rattle.sheet.specs.Plan.{triples};
 ghost use Rattle.sheet.specs.Rows.{rows};
 ghost use Rattle.judgment.specs.Run.{runFrom};
-ghost use Rattle.judgment.specs.Result.{endNumber, endDetails, limits, limitsWith, judge, refusedAt, tooShort};
-ghost use Rattle.operations.specs.State.{outcomeOf, stateOf, reported, WellFormed, going};
+ghost use Rattle.judgment.specs.Chain.{told};
+ghost use Rattle.judgment.specs.Result.{limits, limitsWith, startOf, judge, refusedAt, tooShort};
+ghost use Rattle.operations.specs.State.{outcomeOf, stateOf, WellFormed, going};
 ghost use Rattle.applying.specs.Applying.{envOn};
 ghost use Rattle.judgment.specs.Board.{finished};
 ghost use Rattle.stepping.specs.Stepping.{Standing, Lent};
-ghost use Rattle.checker.specs.Running.{startOf, told, endBy, endOf, reportEnd, answerBy, StartAsk};
-ghost use Rattle.checker.specs.Calling.{PlanAsk, RunAsk, RowsAsk, Ran, FrontAsk, Fronted, Answered};
+ghost use Rattle.ending.specs.Ending.{endOf};
+ghost use Rattle.checker.specs.Calling.{shortLines, middleLines, StartAsk, PlanAsk, RunAsk, RowsAsk, Ran, FrontAsk, Fronted};
+ghost use Rattle.checker.specs.Answered.{Answered};
 use board::Board;
 use board::clear_board;
 use book::Book;
 use book::clear_book;
+use ending::answer;
+use ending::report_end;
+use ending::takes_more;
 use grammar::Check;
 use grammar::check_sheet;
 use judgment::Answer;
-use judgment::Details;
-use judgment::TypeError;
-use judgment::error_details;
-use judgment::error_number;
 use nodes::clear_words;
-use nodes::wide;
 use operations::Halt;
 use operations::Run;
 use operations::Zonked;
-use operations::error_of;
-use operations::is_going;
 use sheet::copy_type;
 use sheet::find_places;
 use sheet::is_plain;
 use sheet::part_line;
 use sheet::read_rows;
+use sizes::BOARD_SIZE;
+use sizes::BOOK_SIZE;
+use sizes::HIGHEST_CEILING;
+use sizes::LINE_LENGTH;
+use sizes::MOST_LINES;
+use sizes::REPORT_SIZE;
+use sizes::TYPE_WORDS;
 use stepping::solve_step;
 
-// An entry is to be taken: the run was not refused, one remains, and the ceiling is not reached.
-fn takes_more(c: Run, ceiling: u32) -> bool
-    ensures { λ r. ⌜ r ≡ (going (c .halt) && (ltb 0 (c .board .entries) && ltb (c .taken) ceiling)) ⌝ }
-{
-    let halt = c.halt;
-    if is_going(halt) {
-        let b = c.board;
-        if 0 < b.entries {
-            return c.taken < ceiling;
-        }
-    }
-    false
-}
+// Up to so many lines a sheet is lent less room than the longest one.
+const SHORT_LINES: usize = 64;
+
+const MIDDLE_LINES: usize = 256;
 
 // Takes entries until the board is empty, a rule refuses or the ceiling's number were taken.
 fn solve(
@@ -69,7 +65,7 @@ fn solve(
     w: &mut [usize],
     v: &mut [usize],
 ) -> Run
-    requires { ⌜ Standing (now s) (now board) (now book) c × (going (c .halt) ≡ true) × (limit ≤ 4096) × (4 * limit ≤ length (now report)) × Lent (now s) (now t) (now l) (now r) (now w) (now v) ⌝ }
+    requires { ⌜ Standing (now s) (now board) (now book) c × (going (c .halt) ≡ true) × (limit ≤ mostNodes) × (4 * limit ≤ length (now report)) × Lent (now s) (now t) (now l) (now r) (now w) (now v) ⌝ }
     ensures { λ q. ⌜ WellFormed (now (board .exit)) (now (book .exit)) q × (told (c .taken) (runFrom (limitsWith limit) (envOn (now (s .entry))) (ceiling - c .taken) (stateOf (rows (now (s .entry))) (now (board .entry)) (now (book .entry)) c)) ≡ record { end = endOf (now (report .exit)) q; taken = q .taken; last = stateOf (rows (now (s .entry))) (now (board .exit)) (now (book .exit)) q }) ⌝ }
 {
     let mut run = c;
@@ -99,87 +95,6 @@ fn start(board: &mut [u32], book: &mut [u32], s: &[u64], t: &mut [u32]) -> Run
         board: one,
         book: Book::new(),
         halt: Halt::none(),
-    }
-}
-
-// How many nodes of types an error reports.
-fn reported_nodes(e: TypeError) -> usize
-    ensures { λ r. ⌜ r ≡ reported e ⌝ }
-{
-    match e {
-        TypeError::UnboundVariable(_) => 0,
-        TypeError::UnboundDataConstructor(_) => 0,
-        TypeError::NotAFunction(n) => wide(n),
-        TypeError::ArityMismatch(_, _) => 0,
-        TypeError::SubtypingError(l, r) => wide(l) + wide(r),
-        TypeError::TypeUnificationError => 0,
-        TypeError::InstantiationError(_, n) => wide(n),
-        TypeError::IntrinsicArityMismatch(_) => 0,
-        TypeError::UnknownIntrinsic(_) => 0,
-        TypeError::BoardFull => 0,
-        TypeError::TypeTooLong => 0,
-        TypeError::NoFreshNumber => 0,
-        TypeError::SolutionsFull => 0,
-    }
-}
-
-// The word of the report after its types.
-fn report_end(h: Halt) -> usize
-    ensures { λ r. ⌜ r ≡ reportEnd h ⌝ }
-{
-    if is_going(h) {
-        return 0;
-    }
-    let n = reported_nodes(error_of(h));
-    if n < 2048 { 2 * n } else { 4096 }
-}
-
-// Document 01's number of a run where no more is taken.
-fn end_number(h: Halt, entries: usize) -> u32
-    ensures { λ r. ⌜ ((rep : List ℕ) → r ≡ endNumber (endBy h entries rep)) ⌝ }
-{
-    if is_going(h) {
-        if entries == 0 {
-            return 0;
-        }
-        return 21;
-    }
-    error_number(error_of(h))
-}
-
-fn end_details(h: Halt) -> Details
-    ensures { λ r. ⌜ ((entries : ℕ) (rep : List ℕ) → r ≡ endDetails (endBy h entries rep)) ⌝ }
-{
-    if is_going(h) {
-        return Details(0, 0);
-    }
-    error_details(error_of(h))
-}
-
-// The plain mark as a number.
-fn plain_number(plain: bool) -> u32
-    ensures { λ r. ⌜ r ≡ cond plain 1 0 ⌝ }
-{
-    if plain { 1 } else { 0 }
-}
-
-// The seven numbers of a run where no more is taken.
-fn answer(c: Run, plain: bool) -> Answer
-    ensures { λ r. ⌜ ((rep : List ℕ) → r ≡ answerBy plain (endOf rep c) (c .taken) (c .fresh)) ⌝ }
-{
-    let halt = c.halt;
-    let b = c.board;
-    let end = end_number(halt, b.entries);
-    let details = end_details(halt);
-    let mark = plain_number(plain);
-    Answer {
-        number: end,
-        line: 0,
-        taken: c.taken,
-        fresh: c.fresh,
-        detail1: details.0,
-        detail2: details.1,
-        plain: mark,
     }
 }
 
@@ -217,7 +132,7 @@ fn check_plan(
     clear_board(board);
     let halt = o.halt;
     let end = report_end(halt);
-    clear_words(report, end, 4096 - end);
+    clear_words(report, end, REPORT_SIZE - end);
     answer(o, is_plain(s))
 }
 
@@ -237,12 +152,12 @@ fn run_rows(
     ensures { λ o. ⌜ Ran (judge limits ceiling (triples (now (s .entry)))) (now (board .exit)) (now (book .exit)) (now (report .exit)) o ⌝ }
 {
     read_rows(d, s);
-    let mut t = [0u32; 8192];
-    let mut l = [0u32; 8192];
+    let mut t = [0u32; TYPE_WORDS];
+    let mut l = [0u32; TYPE_WORDS];
     check_plan(d, ceiling, board, book, report, &mut t, &mut l, r, w, v)
 }
 
-// A sheet of at most 64 lines. A room is cleared before it is lent, so it is no larger than the sheet asks.
+// A sheet of at most SHORT_LINES lines. A room is cleared before it is lent, so it is no larger than the sheet asks.
 fn run_short(
     s: &[u8],
     ceiling: u32,
@@ -250,27 +165,27 @@ fn run_short(
     book: &mut [u32],
     report: &mut [u32],
 ) -> Answer
-    requires { ⌜ RunAsk (now s) (now board) (now book) (now report) × (length (now s) / 29 ≤ 64) ⌝ }
+    requires { ⌜ RunAsk (now s) (now board) (now book) (now report) × (length (now s) / lineLength ≤ shortLines) ⌝ }
     ensures { λ o. ⌜ Ran (judge limits ceiling (triples (now (s .entry)))) (now (board .exit)) (now (book .exit)) (now (report .exit)) o ⌝ }
 {
-    let mut d = [0u64; 256];
-    let mut r = [0u32; 130];
-    let mut w = [0usize; 396];
-    let mut v = [0usize; 390];
+    let mut d = [0u64; 4 * SHORT_LINES];
+    let mut r = [0u32; 2 * SHORT_LINES + 2];
+    let mut w = [0usize; 6 * SHORT_LINES + 12];
+    let mut v = [0usize; 6 * SHORT_LINES + 6];
     run_rows(
         s,
         ceiling,
         board,
         book,
         report,
-        &mut d[..4 * (s.len() / 29)],
+        &mut d[..4 * (s.len() / LINE_LENGTH)],
         &mut r,
         &mut w,
         &mut v,
     )
 }
 
-// A sheet of at most 256 lines.
+// A sheet of at most MIDDLE_LINES lines.
 fn run_middle(
     s: &[u8],
     ceiling: u32,
@@ -278,20 +193,20 @@ fn run_middle(
     book: &mut [u32],
     report: &mut [u32],
 ) -> Answer
-    requires { ⌜ RunAsk (now s) (now board) (now book) (now report) × (length (now s) / 29 ≤ 256) ⌝ }
+    requires { ⌜ RunAsk (now s) (now board) (now book) (now report) × (length (now s) / lineLength ≤ middleLines) ⌝ }
     ensures { λ o. ⌜ Ran (judge limits ceiling (triples (now (s .entry)))) (now (board .exit)) (now (book .exit)) (now (report .exit)) o ⌝ }
 {
-    let mut d = [0u64; 1024];
-    let mut r = [0u32; 514];
-    let mut w = [0usize; 1548];
-    let mut v = [0usize; 1542];
+    let mut d = [0u64; 4 * MIDDLE_LINES];
+    let mut r = [0u32; 2 * MIDDLE_LINES + 2];
+    let mut w = [0usize; 6 * MIDDLE_LINES + 12];
+    let mut v = [0usize; 6 * MIDDLE_LINES + 6];
     run_rows(
         s,
         ceiling,
         board,
         book,
         report,
-        &mut d[..4 * (s.len() / 29)],
+        &mut d[..4 * (s.len() / LINE_LENGTH)],
         &mut r,
         &mut w,
         &mut v,
@@ -309,17 +224,17 @@ fn run_long(
     requires { ⌜ RunAsk (now s) (now board) (now book) (now report) ⌝ }
     ensures { λ o. ⌜ Ran (judge limits ceiling (triples (now (s .entry)))) (now (board .exit)) (now (book .exit)) (now (report .exit)) o ⌝ }
 {
-    let mut d = [0u64; 8000];
-    let mut r = [0u32; 4002];
-    let mut w = [0usize; 12012];
-    let mut v = [0usize; 12006];
+    let mut d = [0u64; 4 * MOST_LINES];
+    let mut r = [0u32; 2 * MOST_LINES + 2];
+    let mut w = [0usize; 6 * MOST_LINES + 12];
+    let mut v = [0usize; 6 * MOST_LINES + 6];
     run_rows(
         s,
         ceiling,
         board,
         book,
         report,
-        &mut d[..4 * (s.len() / 29)],
+        &mut d[..4 * (s.len() / LINE_LENGTH)],
         &mut r,
         &mut w,
         &mut v,
@@ -336,10 +251,10 @@ fn run_plan(
     requires { ⌜ RunAsk (now s) (now board) (now book) (now report) ⌝ }
     ensures { λ o. ⌜ Ran (judge limits ceiling (triples (now (s .entry)))) (now (board .exit)) (now (book .exit)) (now (report .exit)) o ⌝ }
 {
-    if s.len() / 29 <= 64 {
+    if s.len() / LINE_LENGTH <= SHORT_LINES {
         return run_short(s, ceiling, board, book, report);
     }
-    if s.len() / 29 <= 256 {
+    if s.len() / LINE_LENGTH <= MIDDLE_LINES {
         return run_middle(s, ceiling, board, book, report);
     }
     run_long(s, ceiling, board, book, report)
@@ -359,9 +274,9 @@ fn run_front(
     run_plan(
         s,
         ceiling,
-        &mut board[..16384],
-        &mut book[..10192],
-        &mut report[..4096],
+        &mut board[..BOARD_SIZE],
+        &mut book[..BOOK_SIZE],
+        &mut report[..REPORT_SIZE],
     )
 }
 
@@ -384,13 +299,13 @@ fn refused(number: u32, line: u32) -> Answer
 fn too_short(board: &[u32], book: &[u32], report: &[u32]) -> bool
     ensures { λ r. ⌜ r ≡ tooShort (record { board = now (board .entry); book = now (book .entry); report = now (report .entry) }) ⌝ }
 {
-    if board.len() < 16384 {
+    if board.len() < BOARD_SIZE {
         return true;
     }
-    if book.len() < 10192 {
+    if book.len() < BOOK_SIZE {
         return true;
     }
-    report.len() < 4096
+    report.len() < REPORT_SIZE
 }
 
 // Checks a plan: refusals 1 to 5 in that order, which write nothing, and then the run. Longer buffers keep their tails.
@@ -403,7 +318,7 @@ pub fn check_type(
 ) -> Answer
     ensures { λ r. ⌜ Answered (now (sheet .entry)) ceiling (record { board = now (board .entry); book = now (book .entry); report = now (report .entry) }) r (record { board = now (board .exit); book = now (book .exit); report = now (report .exit) }) ⌝ }
 {
-    if 10000 < ceiling {
+    if HIGHEST_CEILING < ceiling {
         return refused(1, 0);
     }
     if too_short(board, book, report) {

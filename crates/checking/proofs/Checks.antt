@@ -8,6 +8,7 @@ use Prim.Native.Nat.{ℕ, _+_, _-_, _≤_, _<_}
 use native.Mathlib.Omega.{arith}
 use lib.ListN.{length, getD}
 use borrow.Author.Tests.{eq-eqb, ne-eqb}
+use Rattle.sizes.specs.Sizes.{mostLines}
 use Rattle.nodes.specs.Nodes.{Ty}
 use Rattle.spelling.specs.declared.Triple.{Triple}
 use Rattle.sheet.specs.Plan.{noTriple, partLine, nodesOf, Narrow}
@@ -78,7 +79,7 @@ module _ {b : List ℕ} {c : Run} {s : List ℕ} {line : ℕ} {t : List ℕ} {tn
   pub name-narrow : {h : Triple} → h ≡ lineOf L line → h .kind ≡ 23 → h .value < 4294967296
   name-narrow {h} e k = subst⁻¹ Narrow e (head-narrow s line (a .stands) (a .term) (λ z. (let y = sym (ap (λ (x : Triple). x .kind) e) ∙ k in omega arith)))
 
-  pub bounds : (line + 1 ≤ partLine L (line + 1) 1) × (partLine L (line + 1) 1 ≤ 2000)
+  pub bounds : (line + 1 ≤ partLine L (line + 1) 1) × (partLine L (line + 1) 1 ≤ mostLines)
   bounds =
       let l = a .stands in
       let f = a .few in

@@ -4,6 +4,7 @@ use mathlib.Core.List.{List}
 use Prim.Native.Nat.{ℕ, _*_, _≤_, _<_}
 use lib.ListN.{length}
 use lib.Seq.{sets}
+use Rattle.sizes.specs.Sizes.{mostLines, mostNodes}
 use Rattle.nodes.specs.Nodes.{node, words}
 use Rattle.kinds.specs.Kinds.{aTerm}
 use Rattle.sheet.specs.Rows.{rows, Ended}
@@ -44,8 +45,8 @@ pub record CheckAsk (b : List ℕ) (c : Run) (s : List ℕ) (line : ℕ) (t : Li
   pub board : Stacked b (c .board)
   pub ended : Ended s
   pub stands : line < length (rows s)
-  pub few : length (rows s) ≤ 2000
+  pub few : length (rows s) ≤ mostLines
   pub term : IsPart aTerm (termAt (rows s) line .lines)
   pub within : 2 * tn ≤ length t
-  pub short : tn ≤ 4096
+  pub short : tn ≤ mostNodes
   pub room : 2 * length (rows s) ≤ length out

@@ -14,9 +14,8 @@ use Rattle.spelling.specs.Text.{fieldText}
 use Rattle.spelling.proofs.Fields.{run, field-run, field-reads}
 use Rattle.spelling.proofs.Texts.{length-field}
 use Rattle.judgment.specs.declared.Answer.{Answer}
-use Rattle.judgment.specs.Wall.{numbers}
-use Rattle.judgment.specs.Narrow.{Narrow}
-use Rattle.judgment.specs.Result.{Buffers, call}
+use Rattle.judgment.proofs.Narrow.{Narrow}
+use Rattle.judgment.specs.Result.{numbers, Buffers, call}
 use Rattle.judgment.proofs.Narrow.{narrow}
 use Rattle.columns.specs.Columns.{column, columnsText, answerText, sixes, InSixes}
 

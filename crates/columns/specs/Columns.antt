@@ -11,7 +11,7 @@ use Rattle.spelling.specs.declared.Field.the-variants.{Blank, Number}
 use Rattle.spelling.specs.Spelling.{fieldFrom}
 use Rattle.spelling.specs.Text.{fieldText}
 use Rattle.judgment.specs.declared.Answer.{Answer}
-use Rattle.judgment.specs.Wall.{numbers}
+use Rattle.judgment.specs.Result.{numbers}
 
 -- the columns of a number of 32 bits: 6, or more for more digits
 abbrev pub width : ℕ → ℕ

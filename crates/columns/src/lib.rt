@@ -3,6 +3,7 @@ ghost use mathlib.Core.Path.{_≡_};
 ghost use Prim.Native.Nat.{_+_, _≤_};
 ghost use lib.ListN.{length};
 ghost use lib.Seq.{sets};
+ghost use Rattle.sizes.specs.Sizes.{lineLength};
 ghost use Rattle.spelling.specs.Text.{last, front, fieldText, lineText};
 ghost use Rattle.columns.specs.Columns.{width, Written, answerText};
 use judgment::Answer;
@@ -55,7 +56,7 @@ pub fn write_field(out: &mut [u8], at: usize, w: usize, f: Field)
 
 // A line of a sheet: kind in 3 columns, value in 20, count in 5, LF.
 pub fn write_line(out: &mut [u8], at: usize, t: Triple)
-    requires { ⌜ at + 29 ≤ length (now out) ⌝ }
+    requires { ⌜ at + lineLength ≤ length (now out) ⌝ }
     ensures { λ _. ⌜ now (out .exit) ≡ sets (now (out .entry)) at (lineText t) ⌝ }
 {
     write_field(out, at, 3, Field::Number(false, t.kind));

@@ -7,21 +7,19 @@ use native.Mathlib.Omega.{arith}
 use lib.Dec.{ltb}
 use borrow.Author.Tests.{ltb-true}
 use lib.ListN.{length}
-use Rattle.nodes.specs.Nodes.{node, nodesAt}
+use Rattle.sizes.specs.Sizes.{mostNumbers}
+use Rattle.nodes.specs.Nodes.{node}
 use Rattle.nodes.proofs.ListLaws.{cond-ind}
 use Rattle.spelling.specs.declared.Triple.{Triple}
 use Rattle.judgment.specs.Types.{Renaming}
-use Rattle.judgment.specs.Solutions.{Solutions}
-use Rattle.judgment.specs.Board.{tvar, Limits, Rule, done, fresh, push, State, state, Outcome, finished}
-use Rattle.judgment.specs.Board.{Board as Entries}
+use Rattle.judgment.specs.Board.{tvar, Rule, done, fresh, push}
 use Rattle.judgment.specs.Rules.{openNames}
 use Rattle.core_types.specs.Names.{pairs}
-use Rattle.board.specs.Board.{entryOf, entriesOf, Stacked}
+use Rattle.board.specs.Board.{entryOf, Stacked}
 use Rattle.board.specs.Board.{fitting as fitsBoard}
 use Rattle.board.proofs.Stacks.{laid-stacked, fits-facts}
-use Rattle.book.specs.Book.{sols}
 use Rattle.operations.specs.declared.Run.{Run}
-use Rattle.operations.specs.State.{reported, outcomeBy, stateOf, cameTo, performC, WellFormed, Performs, going, freshRun, pushRun, pushWords, Pushes}
+use Rattle.operations.specs.State.{cameTo, performC, WellFormed, Performs, going, freshRun, pushRun, pushWords, Pushes}
 use Rattle.operations.proofs.Then.{same-going, fresh-is, fresh-made}
 use Rattle.constructors.specs.Opening.{namedRun, namedWords, Named}
 
@@ -32,13 +30,13 @@ Follows c r = (r .taken ≡ c .taken) × (going (r .halt) ≡ true → going (c 
 fresh-follows : (c : Run) → Follows c (freshRun c) × (freshRun c .board ≡ c .board)
 fresh-follows c =
     cond-ind (λ (r : Run). Follows c r × (r .board ≡ c .board)) (going (c .halt))
-    (λ g. cond-ind (λ (r : Run). Follows c r × (r .board ≡ c .board)) (ltb (c .fresh) 1000) (λ _. ((refl, λ _. g), refl)) (λ _. ((refl, λ _. g), refl)))
+    (λ g. cond-ind (λ (r : Run). Follows c r × (r .board ≡ c .board)) (ltb (c .fresh) mostNumbers) (λ _. ((refl, λ _. g), refl)) (λ _. ((refl, λ _. g), refl)))
     (λ _. ((refl, λ z. z), refl))
 
-fresh-numbers : (c : Run) → c .fresh ≤ 1000 → freshRun c .fresh ≤ 1000
+fresh-numbers : (c : Run) → c .fresh ≤ mostNumbers → freshRun c .fresh ≤ mostNumbers
 fresh-numbers c l =
-    cond-ind (λ (r : Run). r .fresh ≤ 1000) (going (c .halt))
-    (λ _. cond-ind (λ (r : Run). r .fresh ≤ 1000) (ltb (c .fresh) 1000) (λ h. omega (arith, ltb-true (c .fresh) 1000 h)) (λ _. l))
+    cond-ind (λ (r : Run). r .fresh ≤ mostNumbers) (going (c .halt))
+    (λ _. cond-ind (λ (r : Run). r .fresh ≤ mostNumbers) (ltb (c .fresh) mostNumbers) (λ h. omega (arith, ltb-true (c .fresh) mostNumbers h)) (λ _. l))
     (λ _. l)
 
 push-follows : (c : Run) (n : ℕ) → Follows c (pushRun c n) × (pushRun c n .fresh ≡ c .fresh)
@@ -117,7 +115,7 @@ module _ {b b₂ : List ℕ} {c c₁ c₂ : Run} (d : (c₁ ≡ freshRun c) × P
       run = g .run ∙ rw (p .0, d .0);
       words = g .words ∙ rw (p .1, p .0, d .0);
       stacked = g .stacked;
-      numbers = λ l. g .numbers (let z : c₁ .fresh ≤ 1000 = subst⁻¹ (λ (r : Run). r .fresh ≤ 1000) (d .0) (fresh-numbers c l) in rw (then-follows .1) z);
+      numbers = λ l. g .numbers (let z : c₁ .fresh ≤ mostNumbers = subst⁻¹ (λ (r : Run). r .fresh ≤ mostNumbers) (d .0) (fresh-numbers c l) in rw (then-follows .1) z);
       taken = g .taken ∙ then-follows .0 .0 ∙ first-follows .0 .0;
       alive = λ z. first-follows .0 .1 (then-follows .0 .1 (g .alive z));
       made = λ z. let i = g .made z in let j = next (g .alive z) in omega arith;

@@ -5,6 +5,7 @@ use mathlib.Core.List.{List, []}
 use Prim.Native.Nat.{ℕ, zero, suc, _+_, _*_, _-_, _≤_}
 use lib.ListN.{length, take, drop}
 use lib.Seq.{sets}
+use Rattle.sizes.specs.Sizes.{mostNodes, mostNumbers}
 use Rattle.nodes.specs.Nodes.{Ty, words, nodesAt}
 use Rattle.nodes.specs.Lists.{All}
 use Rattle.spelling.specs.declared.Triple.{Triple}
@@ -32,7 +33,7 @@ pub record Named (b : List ℕ) (c : Run) (n : ℕ) (b' : List ℕ) (r : Run) : 
   pub run : r ≡ namedRun n c
   pub words : b' ≡ namedWords n b c
   pub stacked : Stacked b' (r .board)
-  pub numbers : c .fresh ≤ 1000 → r .fresh ≤ 1000
+  pub numbers : c .fresh ≤ mostNumbers → r .fresh ≤ mostNumbers
   pub taken : r .taken ≡ c .taken
   pub alive : going (r .halt) ≡ true → going (c .halt) ≡ true
   pub made : going (r .halt) ≡ true → r .fresh ≡ c .fresh + n
@@ -43,9 +44,9 @@ pub record Named (b : List ℕ) (c : Run) (n : ℕ) (b' : List ℕ) (r : Run) : 
 -- ---- a type, opened
 pub record OpenAsk (b : List ℕ) (c : Run) (ls : List Triple) (first n : ℕ) (o : List ℕ) : Type 0 where
   pub board : Stacked b (c .board)
-  pub numbers : c .fresh ≤ 1000
+  pub numbers : c .fresh ≤ mostNumbers
   pub room : 2 * n ≤ length o
-  pub few : n ≤ 4096
+  pub few : n ≤ mostNodes
   pub lines : first + n ≤ length ls
   pub narrow : All Narrow (take n (drop first ls))
 

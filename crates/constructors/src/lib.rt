@@ -3,6 +3,7 @@ ghost use mathlib.Core.Path.{_≡_};
 ghost use mathlib.Core.Option.{some};
 ghost use Prim.Native.Nat.{ℕ, _+_, _*_, _≤_};
 ghost use lib.ListN.{length, take, drop};
+ghost use Rattle.sizes.specs.Sizes.{mostNodes, mostNumbers};
 ghost use Rattle.nodes.specs.Nodes.{nodesAt};
 ghost use Rattle.sheet.specs.Plan.{nodesOf};
 ghost use Rattle.sheet.specs.Rows.{rows};
@@ -39,7 +40,7 @@ fn open_names(board: &mut [u32], c: Run, n: usize) -> Run
 // Copies the type of n lines from line `first` on to the front of `out`, with the unknowns from `base` on for the names that the quantifiers at its front bind. They stay
 // in front; the answer is how many there are.
 pub fn copy_opened(out: &mut [u32], s: &[u64], first: usize, n: usize, base: u32) -> usize
-    requires { ⌜ (2 * n ≤ length (now out)) × (n ≤ 4096) × (base ≤ 1000) × (first + n ≤ length (rows (now s))) × All Narrow (take n (drop first (rows (now s)))) ⌝ }
+    requires { ⌜ (2 * n ≤ length (now out)) × (n ≤ mostNodes) × (base ≤ mostNumbers) × (first + n ≤ length (rows (now s))) × All Narrow (take n (drop first (rows (now s)))) ⌝ }
     ensures { λ q. ⌜ Copied (nodesOf (take n (drop first (rows (now (s .entry)))))) n base (now (out .entry)) (now (out .exit)) q ⌝ }
 {
     copy_type(out, 0, s, first, n);

@@ -3,6 +3,7 @@ ghost use mathlib.Core.Path.{_≡_};
 ghost use Prim.Native.Nat.{ℕ, _+_, _*_, _-_, _≤_, _<_};
 ghost use lib.ListN.{length};
 ghost use lib.Seq.{sets};
+ghost use Rattle.sizes.specs.Sizes.{mostNodes, mostNumbers};
 ghost use Rattle.nodes.specs.Nodes.{node, nodeParts};
 ghost use Rattle.judgment.specs.Types.{isNode as nodeIs, eqTy, first, occurs as occursIn, isMonotype, substitute as substituted, frontNames, renameNode};
 ghost use Rattle.nodes.specs.Nodes.{words, nodesAt};
@@ -101,7 +102,7 @@ pub fn same_type(l: &[u32], la: usize, ln: usize, r: &[u32], ra: usize, rn: usiz
 
 // How many of the n nodes at word `at` of src the first type has.
 pub fn first_part(src: &[u32], at: usize, n: usize) -> usize
-    requires { ⌜ (at + 2 * n ≤ length (now src)) × (n ≤ 4096) ⌝ }
+    requires { ⌜ (at + 2 * n ≤ length (now src)) × (n ≤ mostNodes) ⌝ }
     ensures { λ r. ⌜ r ≡ length (first (nodesAt (now (src .entry)) at n)) ⌝ }
 {
     let mut pending: usize = 1;
@@ -140,7 +141,7 @@ fn substitute_node(t: &mut [u32], p: usize, name: u32, kind: u32, number: u32, s
 
 // Puts a node for each free variable `name` of the n nodes at word `at`, in place. It leaves the body of a Forall of that name alone.
 pub fn substitute_type(t: &mut [u32], at: usize, n: usize, name: u32, kind: u32, number: u32)
-    requires { ⌜ (at + 2 * n ≤ length (now t)) × (n ≤ 4096) ⌝ }
+    requires { ⌜ (at + 2 * n ≤ length (now t)) × (n ≤ mostNodes) ⌝ }
     ensures { λ _. ⌜ now (t .exit) ≡ sets (now (t .entry)) at (words (substituted name (node kind number) (nodesAt (now (t .entry)) at n))) ⌝ }
 {
     let mut skip: usize = 0;
@@ -185,7 +186,7 @@ fn name_index(t: &[u32], n: usize, name: u32) -> usize
 
 // One node of a renaming.
 fn rename_node(t: &mut [u32], n: usize, p: usize, base: u32)
-    requires { ⌜ (2 * n ≤ p) × (p + 2 ≤ length (now t)) × (n ≤ 4096) × (base ≤ 1000) ⌝ }
+    requires { ⌜ (2 * n ≤ p) × (p + 2 ≤ length (now t)) × (n ≤ mostNodes) × (base ≤ mostNumbers) ⌝ }
     ensures { λ _. ⌜ (namesAt (now (t .exit)) 0 n ≡ namesAt (now (t .entry)) 0 n) × ((left : ℕ) → 0 < left → renaming (pairs (namesAt (now (t .entry)) 0 n) base []) (now (t .entry)) p left ≡ renaming (pairs (namesAt (now (t .entry)) 0 n) base []) (now (t .exit)) (p + 2) (left - 1)) ⌝ }
 {
     if t[p] != 11 {
@@ -202,7 +203,7 @@ fn rename_node(t: &mut [u32], n: usize, p: usize, base: u32)
 
 // Puts the unknowns from `base` on for the names of the n quantifiers at the front, in all nodes after those.
 pub fn apply_type_substitutions(t: &mut [u32], n: usize, total: usize, base: u32)
-    requires { ⌜ (n ≤ total) × (2 * total ≤ length (now t)) × (n ≤ 4096) × (base ≤ 1000) ⌝ }
+    requires { ⌜ (n ≤ total) × (2 * total ≤ length (now t)) × (n ≤ mostNodes) × (base ≤ mostNumbers) ⌝ }
     ensures { λ _. ⌜ now (t .exit) ≡ renaming (pairs (namesAt (now (t .entry)) 0 n) base []) (now (t .entry)) (2 * n) (total - n) ⌝ }
 {
     let mut p = 2 * n;

@@ -3,9 +3,8 @@ use mathlib.Core.Path.{_≡_, ap}
 use mathlib.Core.List.{List}
 use Prim.Native.Nat.{ℕ}
 use Rattle.judgment.specs.declared.Answer.{Answer}
-use Rattle.judgment.specs.Result.{Buffers, call}
-use Rattle.judgment.specs.Wall.{numbers}
-use Rattle.checker.specs.Calling.{Answered}
+use Rattle.judgment.specs.Result.{numbers, Buffers, call}
+use Rattle.checker.specs.Answered.{Answered}
 
 pub returned : (s : List ℕ) (c : ℕ) (b : Buffers) {d : Buffers} {a : Answer} → Answered s c b a d
     → (a .number ≡ call s c b .answer .number) × (numbers a ≡ numbers (call s c b .answer)) × (d ≡ call s c b .after)

@@ -7,6 +7,7 @@ use native.Mathlib.Omega.{arith}
 use lib.Dec.{ltb, leb, eqb}
 use lib.ListN.{length}
 use borrow.Author.Tests.{leb-true, eqb-true}
+use Rattle.sizes.specs.Sizes.{lineLength, sheetBytes, highestCeiling, boardSize, bookSize, reportSize}
 use Rattle.nodes.specs.Nodes.{Ty}
 use Rattle.grammar.specs.declared.Check.{Check}
 use Rattle.grammar.specs.declared.Check.the-variants.{Plan, Length, Misspelt, Unfit}
@@ -19,17 +20,20 @@ use Rattle.judgment.specs.Board.{state}
 use Rattle.judgment.specs.Run.{End, accepted, ceiling, refusedBy, Run, run}
 use Rattle.judgment.specs.Result.{errorNumber, endNumber, resultOf, runOf, judge, limits, Buffers, boardWords, bookWords, reportWords, refusedAt, tooShort, byCheck, call}
 use Rattle.judgment.proofs.Words.{length-board, length-book, length-report}
-use Rattle.exports.specs.Interface.{boardSize, bookSize, reportSize, Least, Highest, Longest, OneLine}
+use Rattle.exports.specs.Interface.{Least, Highest, Longest, OneLine}
 
 -- ---- the buffers
-pub board-words : (16384 ≡ length boardWords) × Least 16384 bookSize reportSize
-board-words = (sym length-board, λ b. rw (length-book [], length-report []) refl)
+least : Least boardSize bookSize reportSize
+least b = refl
 
-pub book-words : ((σ : Solutions) → 10192 ≡ length (bookWords σ)) × Least boardSize 10192 reportSize
-book-words = (λ σ. sym (length-book σ), λ b. rw (length-board, length-report []) refl)
+pub board-words : (boardSize ≡ length boardWords) × Least boardSize bookSize reportSize
+board-words = (sym length-board, least)
 
-pub report-words : ((t : Ty) → 4096 ≡ length (reportWords t)) × Least boardSize bookSize 4096
-report-words = (λ t. sym (length-report t), λ b. rw (length-board, length-book []) refl)
+pub book-words : ((σ : Solutions) → bookSize ≡ length (bookWords σ)) × Least boardSize bookSize reportSize
+book-words = (λ σ. sym (length-book σ), least)
+
+pub report-words : ((t : Ty) → reportSize ≡ length (reportWords t)) × Least boardSize bookSize reportSize
+report-words = (λ t. sym (length-report t), least)
 
 -- ---- the ceiling
 refused-not-1 : (e : TypeError) → eqb (errorNumber e) 1 ≡ false
@@ -64,9 +68,9 @@ module _ (s : List ℕ) (c : ℕ) (b : Buffers) where
   check-not-1 (Misspelt l) = refl
   check-not-1 (Unfit l) = refl
 
-pub highest : Highest 10000
+pub highest : Highest highestCeiling
 unfolding call
-highest s c b = go (ltb 10000 c) (tooShort b)
+highest s c b = go (ltb highestCeiling c) (tooShort b)
   where
     go : (x y : Bool)
         → eqb (cond x (record { answer = refusedAt 1 0; after = b }) (cond y (record { answer = refusedAt 2 0; after = b }) (byCheck s c b (check s))) .answer .number) 1 ≡ x
@@ -76,17 +80,17 @@ highest s c b = go (ltb 10000 c) (tooShort b)
 
 -- ---- the sheet
 module _ (n : ℕ) where
-  fits : lengthOk n ≡ true → (n ≤ 58000) × (n % 29 ≡ 0)
-  fits = go (ltb 0 n) (leb n 58000) (eqb (n % 29) 0) refl refl
+  fits : lengthOk n ≡ true → (n ≤ sheetBytes) × (n % lineLength ≡ 0)
+  fits = go (ltb 0 n) (leb n sheetBytes) (eqb (n % lineLength) 0) refl refl
     where
-      go : (a b d : Bool) → leb n 58000 ≡ b → eqb (n % 29) 0 ≡ d → (a && (b && d)) ≡ true → (n ≤ 58000) × (n % 29 ≡ 0)
-      go true true true h k e = (leb-true n 58000 h, eqb-true (n % 29) 0 k)
+      go : (a b d : Bool) → leb n sheetBytes ≡ b → eqb (n % lineLength) 0 ≡ d → (a && (b && d)) ≡ true → (n ≤ sheetBytes) × (n % lineLength ≡ 0)
+      go true true true h k e = (leb-true n sheetBytes h, eqb-true (n % lineLength) 0 k)
       go true true false h k e = absurd (let z : _≡_ {A = ℕ} 0 1 = cc in omega arith)
       go true false d h k e = absurd (let z : _≡_ {A = ℕ} 0 1 = cc in omega arith)
       go false b d h k e = absurd (let z : _≡_ {A = ℕ} 0 1 = cc in omega arith)
 
-pub longest : Longest 58000
+pub longest : Longest sheetBytes
 longest = (refl, λ m e. fits m e .0)
 
-pub one-line : OneLine 29
+pub one-line : OneLine lineLength
 one-line = (refl, λ m e. fits m e .1)

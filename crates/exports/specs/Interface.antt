@@ -7,7 +7,7 @@ use lib.Dec.{ltb, eqb}
 use lib.ListN.{length}
 use Rattle.grammar.specs.Grammar.{subTerm}
 use Rattle.grammar.specs.Check.{lengthOk}
-use Rattle.judgment.specs.Result.{Buffers, boardWords, bookWords, reportWords, tooShort, call}
+use Rattle.judgment.specs.Result.{Buffers, tooShort, call}
 
 -- the lines of the term that starts at a line; lines are numbered from 1
 abbrev pub termOn : List ℕ → ℕ → List ℕ
@@ -16,16 +16,6 @@ termOn s line = cond (eqb line 0) [] (subTerm s (line - 1))
 -- the number of the interface; it rises with every change that a caller has to follow
 abbrev pub version : ℕ
 version = 1
-
--- words of board, book and report after a run; for book and report they do not hang on what these hold
-abbrev pub boardSize : ℕ
-boardSize = length boardWords
-
-abbrev pub bookSize : ℕ
-bookSize = length (bookWords [])
-
-abbrev pub reportSize : ℕ
-reportSize = length (reportWords [])
 
 -- refusal 2 is for buffers of which one has fewer words than these
 abbrev pub Least : ℕ → ℕ → ℕ → Type 0

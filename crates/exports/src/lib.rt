@@ -3,14 +3,20 @@ use checker::check_type;
 use grammar::Check;
 use grammar::check_sheet;
 use reading::term_of_sheet;
+use sizes::BOARD_SIZE;
+use sizes::BOOK_SIZE;
+use sizes::HIGHEST_CEILING;
+use sizes::LINE_LENGTH;
+use sizes::REPORT_SIZE;
+use sizes::SHEET_BYTES;
 ghost use mathlib.Core.Path.{_≡_};
 ghost use lib.ListN.{length};
+ghost use Rattle.sizes.specs.Sizes.{boardSize, bookSize, reportSize};
 ghost use Rattle.grammar.specs.Check.{check, checkNumber, checkLine};
 ghost use Rattle.nodes.specs.Nodes.{Ty};
 ghost use Rattle.judgment.specs.Solutions.{Solutions};
-ghost use Rattle.judgment.specs.Result.{call, boardWords, bookWords, reportWords};
-ghost use Rattle.judgment.specs.Wall.{numbers};
-ghost use Rattle.exports.specs.Interface.{termOn, version, boardSize, bookSize, reportSize, Least, Highest, Longest, OneLine};
+ghost use Rattle.judgment.specs.Result.{numbers, call, boardWords, bookWords, reportWords};
+ghost use Rattle.exports.specs.Interface.{termOn, version, Least, Highest, Longest, OneLine};
 
 // Document 01's number of a sheet, 0, 3, 4 or 5, and its line.
 #[no_mangle]
@@ -88,7 +94,7 @@ pub extern "C" fn kirvoghus_version() -> u32
 pub extern "C" fn kirvoghus_board_words() -> usize
     ensures { λ r. ⌜ (r ≡ length boardWords) × Least r bookSize reportSize ⌝ }
 {
-    16384
+    BOARD_SIZE
 }
 
 // The words of the book, the same.
@@ -96,7 +102,7 @@ pub extern "C" fn kirvoghus_board_words() -> usize
 pub extern "C" fn kirvoghus_book_words() -> usize
     ensures { λ r. ⌜ ((σ : Solutions) → r ≡ length (bookWords σ)) × Least boardSize r reportSize ⌝ }
 {
-    10192
+    BOOK_SIZE
 }
 
 // The words of the report, the same.
@@ -104,7 +110,7 @@ pub extern "C" fn kirvoghus_book_words() -> usize
 pub extern "C" fn kirvoghus_report_words() -> usize
     ensures { λ r. ⌜ ((t : Ty) → r ≡ length (reportWords t)) × Least boardSize bookSize r ⌝ }
 {
-    4096
+    REPORT_SIZE
 }
 
 // The highest ceiling that a call takes.
@@ -112,7 +118,7 @@ pub extern "C" fn kirvoghus_report_words() -> usize
 pub extern "C" fn kirvoghus_ceiling() -> u32
     ensures { λ r. ⌜ Highest r ⌝ }
 {
-    10000
+    HIGHEST_CEILING
 }
 
 // The bytes of the longest sheet.
@@ -120,7 +126,7 @@ pub extern "C" fn kirvoghus_ceiling() -> u32
 pub extern "C" fn kirvoghus_sheet_bytes() -> usize
     ensures { λ r. ⌜ Longest r ⌝ }
 {
-    58000
+    SHEET_BYTES
 }
 
 // The bytes of a sheet's line, with its LF.
@@ -128,5 +134,5 @@ pub extern "C" fn kirvoghus_sheet_bytes() -> usize
 pub extern "C" fn kirvoghus_line_bytes() -> usize
     ensures { λ r. ⌜ OneLine r ⌝ }
 {
-    29
+    LINE_LENGTH
 }

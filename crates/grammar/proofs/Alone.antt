@@ -1,21 +1,19 @@
 -- Lines that were read as one whole type, term or pattern read the same by themselves, cut out of the sheet. Assumes nothing.
 use mathlib.Core.Path.{_≡_, refl, sym, ap, _∙_}
-use mathlib.Core.Bool.{Bool, true, false, cond}
 use mathlib.Core.List.{List, [], _∷_, _++_}
 use Prim.Native.Nat.{ℕ, zero, suc, _+_, _-_, _*_, _/_, _≤_, _<_}
 use native.Mathlib.Omega.{arith}
 use native.Mathlib.Nat.{add-assoc, add-zero, zero-add}
 use lib.ListN.{length, getD, take, drop, length-take, length-drop}
 use lib.Seq.{getD-take, getD-drop}
+use Rattle.sizes.specs.Sizes.{lineLength}
 use Rattle.spelling.specs.declared.Field.{Field}
 use Rattle.spelling.specs.declared.Field.the-variants.{Blank}
-use Rattle.spelling.specs.declared.Line.{Line}
-use Rattle.spelling.specs.Spelling.{fieldFrom, step, lineAt, linesFrom, linesOf}
+use Rattle.spelling.specs.Spelling.{fieldFrom, step, lineAt, linesFrom}
 use Rattle.kinds.specs.Kinds.{aTerm}
-use Rattle.grammar.specs.declared.Got.{Got}
-use Rattle.grammar.specs.declared.Got.the-variants.{Next, Refused}
-use Rattle.grammar.specs.Grammar.{Item, part, ok, due, read, readAt, readBytes, subTerm}
-use Rattle.grammar.proofs.Laws.{nothing, one, no-line, bounds, within}
+use Rattle.grammar.specs.declared.Got.the-variants.{Next}
+use Rattle.grammar.specs.Grammar.{Item, part, due, read, readAt, subTerm}
+use Rattle.grammar.proofs.Laws.{nothing, one, bounds, within}
 
 -- ---- m lines cut out of a sheet, from line a on, are those lines
 module _ (s : List ℕ) (a m : ℕ) where
@@ -33,21 +31,21 @@ module _ (s : List ℕ) (a m : ℕ) where
 
 module _ (s : List ℕ) (a m : ℕ) where
   abbrev lines : List ℕ
-  lines = take (29 * m) (drop (29 * a) s)
+  lines = take (lineLength * m) (drop (lineLength * a) s)
 
   line : (i : ℕ) → i < m → lineAt lines i ≡ lineAt s (a + i)
   unfolding lineAt
   line i h =
-      let k : 29 * (a + i) ≡ 29 * a + 29 * i = omega arith in
+      let k : lineLength * (a + i) ≡ lineLength * a + lineLength * i = omega arith in
       rw (
         k,
-        field s (29 * a) (29 * m) 3 (29 * i) Blank (omega arith),
-        field s (29 * a) (29 * m) 20 (29 * i + 3) Blank (omega arith),
-        field s (29 * a) (29 * m) 5 (29 * i + 23) Blank (omega arith),
-        byte s (29 * a) (29 * m) (29 * i + 28) (omega arith),
-        add-assoc (29 * a) (29 * i) 3,
-        add-assoc (29 * a) (29 * i) 23,
-        add-assoc (29 * a) (29 * i) 28,
+        field s (lineLength * a) (lineLength * m) 3 (lineLength * i) Blank (omega arith),
+        field s (lineLength * a) (lineLength * m) 20 (lineLength * i + 3) Blank (omega arith),
+        field s (lineLength * a) (lineLength * m) 5 (lineLength * i + 23) Blank (omega arith),
+        byte s (lineLength * a) (lineLength * m) (lineLength * i + 28) (omega arith),
+        add-assoc (lineLength * a) (lineLength * i) 3,
+        add-assoc (lineLength * a) (lineLength * i) 23,
+        add-assoc (lineLength * a) (lineLength * i) 28,
       )
 
   pub lines-cut : (n i : ℕ) → i + n ≤ m → linesFrom lines i n ≡ linesFrom s (a + i) n
@@ -75,21 +73,21 @@ module _ (s : List ℕ) where
       rw (o .0, i₂) (shorter n (due x (lineAt s at) ++ ahead) (at + 1) (b + 1) m (o .1 ∙ ap Next i₁))
 
 -- the lines from a up to k, where a whole x was read, are a whole x
-pub alone : (s : List ℕ) (x : Item) (a k : ℕ) → a ≤ length s / 29 → readAt s (x ∷ []) a ≡ Next k → readAt (take (29 * (k - a)) (drop (29 * a) s)) (x ∷ []) 0 ≡ Next (k - a)
+pub alone : (s : List ℕ) (x : Item) (a k : ℕ) → a ≤ length s / lineLength → readAt s (x ∷ []) a ≡ Next k → readAt (take (lineLength * (k - a)) (drop (lineLength * a) s)) (x ∷ []) 0 ≡ Next (k - a)
 unfolding readAt
 alone s x a k h e =
     let w = within s (x ∷ []) a k h e in
     let m : ℕ = k - a in
     let up : a + m ≡ k = omega arith in
-    let len : length (lines s a m) ≡ 29 * m = simp (length-take, length-drop) (omega arith) in
-    let n : length (lines s a m) / 29 - 0 ≡ m = rw len (omega arith) in
+    let len : length (lines s a m) ≡ lineLength * m = simp (length-take, length-drop) (omega arith) in
+    let n : length (lines s a m) / lineLength - 0 ≡ m = rw len (omega arith) in
     rw (n, lines-cut s a m m 0 (omega arith), add-zero) (shorter s _ (x ∷ []) a 0 m (e ∙ ap Next (sym up)) ∙ ap Next (zero-add m))
 
 -- What `sub_term` returns for a term that was read reads as that term by itself, and has no line more.
-pub sub-term-alone : (s : List ℕ) (a k : ℕ) → a ≤ length s / 29 → readAt s (part aTerm ∷ []) a ≡ Next k
-    → (readAt (subTerm s a) (part aTerm ∷ []) 0 ≡ Next (k - a)) × (length (subTerm s a) ≡ 29 * (k - a))
+pub sub-term-alone : (s : List ℕ) (a k : ℕ) → a ≤ length s / lineLength → readAt s (part aTerm ∷ []) a ≡ Next k
+    → (readAt (subTerm s a) (part aTerm ∷ []) 0 ≡ Next (k - a)) × (length (subTerm s a) ≡ lineLength * (k - a))
 unfolding subTerm
 sub-term-alone s a k h e =
     let w = within s (part aTerm ∷ []) a k h e in
-    let d : 29 * k - 29 * a ≡ 29 * (k - a) = omega arith in
+    let d : lineLength * k - lineLength * a ≡ lineLength * (k - a) = omega arith in
     (rw (e, d) (alone s (part aTerm) a k h e), rw (e, d) (simp (length-take, length-drop) (omega arith)))

@@ -1,11 +1,11 @@
 -- Laws of `read` and `readAt`, which stay shut elsewhere. Assumes nothing.
-use mathlib.Core.Path.{_≡_, refl, sym, ap, _∙_}
+use mathlib.Core.Path.{_≡_, refl, ap, _∙_}
 use mathlib.Core.Bool.{Bool, true, false, cond}
 use mathlib.Core.List.{List, [], _∷_, _++_, append-assoc}
 use Prim.Native.Nat.{ℕ, zero, suc, _+_, _-_, _/_, _≤_, _<_}
-use native.Mathlib.Nat.{add-zero}
 use native.Mathlib.Omega.{arith}
-use lib.ListN.{length, drop}
+use lib.ListN.{length}
+use Rattle.sizes.specs.Sizes.{lineLength}
 use Rattle.spelling.specs.declared.Line.{Line}
 use Rattle.spelling.specs.declared.Line.the-variants.{Spelt, Misspelt}
 use Rattle.spelling.specs.Spelling.{lineAt, linesFrom, firstMisspelt}
@@ -82,14 +82,14 @@ module _ (s : List ℕ) where
   unfolding readAt
   done at = nothing _ at
 
-  pub lacking : (x : Item) (ahead : List Item) (at : ℕ) → length s / 29 ≤ at → readAt s (x ∷ ahead) at ≡ Refused (at + 1)
+  pub lacking : (x : Item) (ahead : List Item) (at : ℕ) → length s / lineLength ≤ at → readAt s (x ∷ ahead) at ≡ Refused (at + 1)
   unfolding readAt read
-  lacking x ahead at h = rw (lines-nil s at (length s / 29) h)
+  lacking x ahead at h = rw (lines-nil s at (length s / lineLength) h)
 
-  here : (x : Item) (ahead : List Item) (at : ℕ) → at < length s / 29
+  here : (x : Item) (ahead : List Item) (at : ℕ) → at < length s / lineLength
       → readAt s (x ∷ ahead) at ≡ cond (ok x (lineAt s at)) (readAt s (due x (lineAt s at) ++ ahead) (at + 1)) (Refused (at + 1))
   unfolding readAt read
-  here x ahead at h = rw (lines-cons s at (length s / 29) h)
+  here x ahead at h = rw (lines-cons s at (length s / lineLength) h)
 
   -- no item is met past the last line
   past : (x : Item) → ok x Misspelt ≡ false
@@ -97,19 +97,19 @@ module _ (s : List ℕ) where
   past (entries k n) = refl
   past goal = refl
 
-  pub inside : (x : Item) (at : ℕ) → ok x (lineAt s at) ≡ true → at < length s / 29
-  inside x at e = go (lib.Dec.ltb at (length s / 29)) refl
+  pub inside : (x : Item) (at : ℕ) → ok x (lineAt s at) ≡ true → at < length s / lineLength
+  inside x at e = go (lib.Dec.ltb at (length s / lineLength)) refl
     where
-      go : (b : Bool) → lib.Dec.ltb at (length s / 29) ≡ b → at < length s / 29
+      go : (b : Bool) → lib.Dec.ltb at (length s / lineLength) ≡ b → at < length s / lineLength
       go true h = borrow.Author.Tests.ltb-true at _ h
       go false h =
           let p : ok x (lineAt s at) ≡ false = rw (past-end s at (borrow.Author.Tests.ltb-false at _ h)) (past x) in
           absurd (let z : _≡_ {A = ℕ} 0 1 = cc in omega arith)
 
   pub refused : (x : Item) (ahead : List Item) (at : ℕ) → ok x (lineAt s at) ≡ false → readAt s (x ∷ ahead) at ≡ Refused (at + 1)
-  refused x ahead at e = go (lib.Dec.ltb at (length s / 29)) refl
+  refused x ahead at e = go (lib.Dec.ltb at (length s / lineLength)) refl
     where
-      go : (b : Bool) → lib.Dec.ltb at (length s / 29) ≡ b → readAt s (x ∷ ahead) at ≡ Refused (at + 1)
+      go : (b : Bool) → lib.Dec.ltb at (length s / lineLength) ≡ b → readAt s (x ∷ ahead) at ≡ Refused (at + 1)
       go true h = here x ahead at (borrow.Author.Tests.ltb-true at _ h) ∙ rw e
       go false h = lacking x ahead at (borrow.Author.Tests.ltb-false at _ h)
 
@@ -118,17 +118,17 @@ module _ (s : List ℕ) where
 
   pub follow : (a b : List Item) (at k : ℕ) → readAt s a at ≡ Next k → readAt s (a ++ b) at ≡ readAt s b k
   unfolding readAt
-  follow a b at k e = appended (length s / 29) _ a b at refl ∙ rw e
+  follow a b at k e = appended (length s / lineLength) _ a b at refl ∙ rw e
 
   pub stops : (a b : List Item) (at l : ℕ) → readAt s a at ≡ Refused l → readAt s (a ++ b) at ≡ Refused l
   unfolding readAt
-  stops a b at l e = appended (length s / 29) _ a b at refl ∙ rw e
+  stops a b at l e = appended (length s / lineLength) _ a b at refl ∙ rw e
 
-  pub within : (ahead : List Item) (at k : ℕ) → at ≤ length s / 29 → readAt s ahead at ≡ Next k → (at ≤ k) × (k ≤ length s / 29)
+  pub within : (ahead : List Item) (at k : ℕ) → at ≤ length s / lineLength → readAt s ahead at ≡ Next k → (at ≤ k) × (k ≤ length s / lineLength)
   unfolding readAt
   within ahead at k h e =
-      let b = bounds (linesFrom s at (length s / 29 - at)) ahead at k e in
-      let n = length-lines s at (length s / 29 - at) in
+      let b = bounds (linesFrom s at (length s / lineLength - at)) ahead at k e in
+      let n = length-lines s at (length s / lineLength - at) in
       omega arith
 
   pub beyond : (x : Item) (ahead : List Item) (at k : ℕ) → readAt s (x ∷ ahead) at ≡ Next k → at < k

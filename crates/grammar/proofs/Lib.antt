@@ -1,4 +1,5 @@
 pub mod Laws
 pub mod Lines
 pub mod Alone
+pub mod Lengths
 mod Steps

@@ -1,10 +1,11 @@
 -- What each way out of the readers shows, on values alone: r and its equations are what a call gave.
 -- Assumes nothing.
-use mathlib.Core.Path.{_≡_, refl, sym, ap, _∙_}
+use mathlib.Core.Path.{_≡_, refl, sym, _∙_}
 use mathlib.Core.List.{List, [], _∷_, _++_, append-nil}
 use Prim.Native.Nat.{ℕ, zero, suc, _+_, _-_, _/_, _≤_, _<_}
 use native.Mathlib.Omega.{arith}
 use lib.ListN.{length, replicate}
+use Rattle.sizes.specs.Sizes.{lineLength}
 use Rattle.spelling.specs.Spelling.{lineAt}
 use Rattle.kinds.specs.declared.Head.{Head}
 use Rattle.kinds.specs.declared.Head.the-variants.{Parts, No}
@@ -13,7 +14,7 @@ use Rattle.grammar.specs.declared.Got.the-variants.{Next, Refused}
 use mathlib.Core.Bool.{Bool, true, false}
 use Rattle.grammar.specs.declared.Declared.{Declared}
 use Rattle.grammar.specs.declared.Declared.the-variants.{Named, Expected, Not}
-use Rattle.grammar.specs.Grammar.{Item, part, entries, goal, arms, repeated, following, headIn, declaredIn, goalIn, ok, due, readAt}
+use Rattle.grammar.specs.Grammar.{Item, part, entries, goal, arms, repeated, following, headIn, declaredIn, goalIn, readAt}
 use Rattle.kinds.specs.Kinds.{aType, aTerm, aPattern}
 use Rattle.grammar.proofs.Laws.{done, inside, refused, goes-on, follow, stops, within}
 
@@ -58,7 +59,7 @@ module _ (s : List ℕ) where
   pub no-part : (x at : ℕ) (hd : Head) → hd ≡ headIn x (lineAt s at) → hd ≡ No → Refused (at + 1) ≡ readAt s (part x ∷ []) at
   no-part x at hd e f = sym (refused s (part x) [] at (rw (sym e ∙ f)))
 
-  pub part-inside : (x at ty te e n : ℕ) (hd : Head) → hd ≡ headIn x (lineAt s at) → hd ≡ Parts ty te e n → at < length s / 29
+  pub part-inside : (x at ty te e n : ℕ) (hd : Head) → hd ≡ headIn x (lineAt s at) → hd ≡ Parts ty te e n → at < length s / lineLength
   part-inside x at ty te e n hd p q = inside s (part x) at (rw (sym p ∙ q))
 
   pub parted : (x at ty te e n : ℕ) (hd : Head) (r : Got) → hd ≡ headIn x (lineAt s at) → hd ≡ Parts ty te e n
@@ -82,7 +83,7 @@ module _ (s : List ℕ) where
   pub goal-no : (at : ℕ) (b : Bool) → b ≡ goalIn (lineAt s at) → b ≡ false → Refused (at + 1) ≡ readAt s (goal ∷ []) at
   goal-no at b e f = sym (refused s goal [] at (sym e ∙ f))
 
-  pub goal-inside : (at : ℕ) (b : Bool) → b ≡ goalIn (lineAt s at) → b ≡ true → at < length s / 29
+  pub goal-inside : (at : ℕ) (b : Bool) → b ≡ goalIn (lineAt s at) → b ≡ true → at < length s / lineLength
   goal-inside at b e f = inside s goal at (sym e ∙ f)
 
   pub goal-yes : (at : ℕ) (b : Bool) (r : Got) → b ≡ goalIn (lineAt s at) → b ≡ true → r ≡ readAt s (part aTerm ∷ []) (at + 1) → r ≡ readAt s (goal ∷ []) at
@@ -92,10 +93,10 @@ module _ (s : List ℕ) where
     pub not-entry : d ≡ Not → Refused (at + 1) ≡ readAt s (entries k last ∷ []) at
     not-entry q = sym (refused s (entries k last) [] at (rw (sym p ∙ q)))
 
-    pub named-inside : (kd nm : ℕ) → d ≡ Named kd nm → at < length s / 29
+    pub named-inside : (kd nm : ℕ) → d ≡ Named kd nm → at < length s / lineLength
     named-inside kd nm q = inside s (entries k last) at (rw (sym p ∙ q))
 
-    pub expected-inside : d ≡ Expected → at < length s / 29
+    pub expected-inside : d ≡ Expected → at < length s / lineLength
     expected-inside q = inside s (entries k last) at (rw (sym p ∙ q))
 
     pub named : (kd nm : ℕ) → d ≡ Named kd nm → readAt s (entries k last ∷ []) at ≡ readAt s (part aType ∷ entries kd nm ∷ []) (at + 1)
@@ -112,5 +113,5 @@ module _ (s : List ℕ) where
     entry-more j q f g = g ∙ sym (head ∙ follow s (part aType ∷ []) (y ∷ []) (at + 1) j (sym e ∙ f))
 
   -- what was read lies within the sheet
-  pub read-within : (x : Item) (at k : ℕ) (r : Got) → at < length s / 29 → r ≡ readAt s (x ∷ []) at → r ≡ Next k → (at ≤ k) × (k ≤ length s / 29)
+  pub read-within : (x : Item) (at k : ℕ) (r : Got) → at < length s / lineLength → r ≡ readAt s (x ∷ []) at → r ≡ Next k → (at ≤ k) × (k ≤ length s / lineLength)
   read-within x at k r h e f = within s (x ∷ []) at k (omega arith) (sym e ∙ f)

@@ -4,6 +4,7 @@ use mathlib.Core.List.{List, [], _∷_}
 use Prim.Native.Nat.{ℕ, _+_, _/_, _%_}
 use lib.ListN.{length}
 use lib.Dec.{ltb, leb, eqb}
+use Rattle.sizes.specs.Sizes.{lineLength, sheetBytes}
 use Rattle.spelling.specs.Spelling.{linesOf, firstMisspelt}
 use Rattle.grammar.specs.declared.Got.{Got}
 use Rattle.grammar.specs.declared.Got.the-variants.{Next, Refused}
@@ -13,7 +14,7 @@ use Rattle.grammar.specs.Grammar.{entries, readAt}
 
 -- 3: length 0, over 58,000 or no multiple of 29
 abbrev pub lengthOk : ℕ → Bool
-lengthOk n = ltb 0 n && (leb n 58000 && eqb (n % 29) 0)
+lengthOk n = ltb 0 n && (leb n sheetBytes && eqb (n % lineLength) 0)
 
 -- no line comes after the term
 abbrev pub endOf : ℕ → Got → Got
@@ -22,7 +23,7 @@ endOf n (Refused l) = Refused l
 
 -- entries of kind 1, entries of kind 2, the expected type, the term, and nothing after it
 unfoldable pub readSheet : List ℕ → Got
-readSheet s = endOf (length s / 29) (readAt s (entries 1 0 ∷ []) 0)
+readSheet s = endOf (length s / lineLength) (readAt s (entries 1 0 ∷ []) 0)
 
 abbrev pub fitting : Got → Check
 fitting (Next k) = Plan
@@ -30,7 +31,7 @@ fitting (Refused l) = Unfit l
 
 -- 4 over all lines, and then x
 abbrev pub misspeltFirst : List ℕ → Check → Check
-misspeltFirst s x = cond (ltb (firstMisspelt (linesOf s)) (length s / 29)) (Misspelt (firstMisspelt (linesOf s) + 1)) x
+misspeltFirst s x = cond (ltb (firstMisspelt (linesOf s)) (length s / lineLength)) (Misspelt (firstMisspelt (linesOf s) + 1)) x
 
 -- what a sheet that has a length, and is no plan from line l on, is refused for
 abbrev pub refusal : List ℕ → ℕ → Check

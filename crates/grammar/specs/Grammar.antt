@@ -4,6 +4,7 @@ use mathlib.Core.List.{List, [], _∷_, _++_}
 use Prim.Native.Nat.{ℕ, zero, suc, _+_, _*_, _-_, _/_}
 use lib.ListN.{length, replicate, take, drop}
 use lib.Dec.{ltb, leb, eqb}
+use Rattle.sizes.specs.Sizes.{lineLength}
 use Rattle.spelling.specs.declared.Triple.{Triple}
 use Rattle.spelling.specs.declared.Line.{Line}
 use Rattle.spelling.specs.declared.Line.the-variants.{Spelt, Misspelt}
@@ -109,11 +110,11 @@ read (l ∷ ls) (x ∷ ahead) at = let r = read ls (due x l ++ ahead) (at + 1) i
 
 -- the same in a sheet, from the line at `at` on
 unfoldable pub readAt : List ℕ → List Item → ℕ → Got
-readAt s ahead at = read (linesFrom s at (length s / 29 - at)) ahead at
+readAt s ahead at = read (linesFrom s at (length s / lineLength - at)) ahead at
 
 -- the bytes of the lines that were read, from the line at `at` on
 abbrev pub readBytes : List ℕ → ℕ → Got → List ℕ
-readBytes s at (Next k) = take (29 * k - 29 * at) (drop (29 * at) s)
+readBytes s at (Next k) = take (lineLength * k - lineLength * at) (drop (lineLength * at) s)
 readBytes s at (Refused l) = []
 
 -- the lines of the term that starts at the line at `at`

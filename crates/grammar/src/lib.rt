@@ -5,14 +5,17 @@ use kinds::PATTERN;
 use kinds::TERM;
 use kinds::TYPE;
 use kinds::head_of;
+use sizes::LINE_LENGTH;
+use sizes::SHEET_BYTES;
 use spelling::Line;
 use spelling::Triple;
 use spelling::first_misspelt;
 use spelling::line_at;
 ghost use mathlib.Core.Path.{_≡_};
 ghost use mathlib.Core.List.{[], _∷_};
-ghost use Prim.Native.Nat.{ℕ, _+_, _*_, _-_, _/_, _≤_, _<_};
+ghost use Prim.Native.Nat.{_+_, _*_, _-_, _/_, _≤_, _<_};
 ghost use lib.ListN.{length, replicate};
+ghost use Rattle.sizes.specs.Sizes.{lineLength};
 ghost use Rattle.spelling.specs.Spelling.{lineAt};
 ghost use Rattle.kinds.specs.Kinds.{aType, aTerm, aPattern};
 ghost use Rattle.grammar.specs.Grammar.{part, entries, goal, headIn, named as namedBy, declaredBy, declaredIn, isGoal, goalIn, arms, following, readAt, subTerm};
@@ -35,7 +38,7 @@ fn head_at(s: &[u8], at: usize, sort: u64) -> Head
 
 // One whole type.
 fn read_type(s: &[u8], at: usize) -> Got
-    requires { ⌜ at ≤ length (now s) / 29 ⌝ }
+    requires { ⌜ at ≤ length (now s) / lineLength ⌝ }
     ensures { λ r. ⌜ r ≡ readAt (now (s .entry)) (part aType ∷ []) at ⌝ }
 {
     match head_at(s, at, TYPE) {
@@ -51,7 +54,7 @@ fn read_type(s: &[u8], at: usize) -> Got
 
 // One whole term.
 fn read_term(s: &[u8], at: usize) -> Got
-    requires { ⌜ at ≤ length (now s) / 29 ⌝ }
+    requires { ⌜ at ≤ length (now s) / lineLength ⌝ }
     ensures { λ r. ⌜ r ≡ readAt (now (s .entry)) (part aTerm ∷ []) at ⌝ }
 {
     match head_at(s, at, TERM) {
@@ -67,7 +70,7 @@ fn read_term(s: &[u8], at: usize) -> Got
 
 // One whole pattern.
 fn read_pattern(s: &[u8], at: usize) -> Got
-    requires { ⌜ at ≤ length (now s) / 29 ⌝ }
+    requires { ⌜ at ≤ length (now s) / lineLength ⌝ }
     ensures { λ r. ⌜ r ≡ readAt (now (s .entry)) (part aPattern ∷ []) at ⌝ }
 {
     match head_at(s, at, PATTERN) {
@@ -83,7 +86,7 @@ fn read_pattern(s: &[u8], at: usize) -> Got
 
 // As many types as count says.
 fn read_types(s: &[u8], at: usize, count: u64) -> Got
-    requires { ⌜ at ≤ length (now s) / 29 ⌝ }
+    requires { ⌜ at ≤ length (now s) / lineLength ⌝ }
     ensures { λ r. ⌜ r ≡ readAt (now (s .entry)) (replicate count (part aType)) at ⌝ }
 {
     if count == 0 {
@@ -97,7 +100,7 @@ fn read_types(s: &[u8], at: usize, count: u64) -> Got
 
 // As many terms as count says.
 fn read_terms(s: &[u8], at: usize, count: u64) -> Got
-    requires { ⌜ at ≤ length (now s) / 29 ⌝ }
+    requires { ⌜ at ≤ length (now s) / lineLength ⌝ }
     ensures { λ r. ⌜ r ≡ readAt (now (s .entry)) (replicate count (part aTerm)) at ⌝ }
 {
     if count == 0 {
@@ -111,7 +114,7 @@ fn read_terms(s: &[u8], at: usize, count: u64) -> Got
 
 // As many patterns as count says.
 fn read_patterns(s: &[u8], at: usize, count: u64) -> Got
-    requires { ⌜ at ≤ length (now s) / 29 ⌝ }
+    requires { ⌜ at ≤ length (now s) / lineLength ⌝ }
     ensures { λ r. ⌜ r ≡ readAt (now (s .entry)) (replicate count (part aPattern)) at ⌝ }
 {
     if count == 0 {
@@ -125,7 +128,7 @@ fn read_patterns(s: &[u8], at: usize, count: u64) -> Got
 
 // As many arms as count says, each a pattern and a term.
 fn read_arms(s: &[u8], at: usize, count: u64) -> Got
-    requires { ⌜ at ≤ length (now s) / 29 ⌝ }
+    requires { ⌜ at ≤ length (now s) / lineLength ⌝ }
     ensures { λ r. ⌜ r ≡ readAt (now (s .entry)) (arms count) at ⌝ }
 {
     if count == 0 {
@@ -143,7 +146,7 @@ fn read_arms(s: &[u8], at: usize, count: u64) -> Got
 
 // The parts that follow a line: types, then terms, then count times each.
 fn read_follow(s: &[u8], at: usize, types: u64, terms: u64, each: u64, count: u64) -> Got
-    requires { ⌜ at ≤ length (now s) / 29 ⌝ }
+    requires { ⌜ at ≤ length (now s) / lineLength ⌝ }
     ensures { λ r. ⌜ r ≡ readAt (now (s .entry)) (following types terms each count) at ⌝ }
 {
     let k = match read_types(s, at, types) {
@@ -243,7 +246,7 @@ fn goal_at(s: &[u8], at: usize) -> bool
 
 // The line of kind 4 and the term.
 fn read_goal(s: &[u8], at: usize) -> Got
-    requires { ⌜ at ≤ length (now s) / 29 ⌝ }
+    requires { ⌜ at ≤ length (now s) / lineLength ⌝ }
     ensures { λ r. ⌜ r ≡ readAt (now (s .entry)) (goal ∷ []) at ⌝ }
 {
     if goal_at(s, at) {
@@ -255,7 +258,7 @@ fn read_goal(s: &[u8], at: usize) -> Got
 
 // The rest of a plan, after an entry of kind k and the name last.
 fn read_entries(s: &[u8], at: usize, k: u64, last: u64) -> Got
-    requires { ⌜ at ≤ length (now s) / 29 ⌝ }
+    requires { ⌜ at ≤ length (now s) / lineLength ⌝ }
     ensures { λ r. ⌜ r ≡ readAt (now (s .entry)) (entries k last ∷ []) at ⌝ }
 {
     match declared_at(s, at, k, last) {
@@ -277,7 +280,7 @@ fn read_sheet(s: &[u8]) -> Got
 {
     match read_entries(s, 0, 1, 0) {
         Got::Next(k) => {
-            if k == s.len() / 29 {
+            if k == s.len() / LINE_LENGTH {
                 Got::Next(k)
             } else {
                 Got::Refused(k + 1)
@@ -291,9 +294,9 @@ fn read_sheet(s: &[u8]) -> Got
 pub fn sub_term(s: &[u8], at: usize) -> &[u8]
     ensures { λ r. ⌜ now r ≡ subTerm (now (s .entry)) at ⌝ }
 {
-    if at < s.len() / 29 {
+    if at < s.len() / LINE_LENGTH {
         match read_term(s, at) {
-            Got::Next(k) => &s[29 * at..29 * k],
+            Got::Next(k) => &s[LINE_LENGTH * at..LINE_LENGTH * k],
             Got::Refused(_) => &s[..0],
         }
     } else {
@@ -317,7 +320,7 @@ fn refused_at(s: &[u8], l: usize) -> Check
     ensures { λ r. ⌜ r ≡ refusal (now (s .entry)) l ⌝ }
 {
     let i = first_misspelt(s);
-    if i < s.len() / 29 {
+    if i < s.len() / LINE_LENGTH {
         return Check::Misspelt(i + 1);
     }
     Check::Unfit(l)
@@ -328,8 +331,8 @@ pub fn check_sheet(s: &[u8]) -> Check
     ensures { λ r. ⌜ r ≡ check (now (s .entry)) ⌝ }
 {
     if 0 < s.len() {
-        if s.len() <= 58000 {
-            if s.len() % 29 == 0 {
+        if s.len() <= SHEET_BYTES {
+            if s.len() % LINE_LENGTH == 0 {
                 return match read_sheet(s) {
                     Got::Next(_) => Check::Plan,
                     Got::Refused(l) => refused_at(s, l),

@@ -6,6 +6,7 @@ use Prim.Native.Nat.{ℕ, _+_, _<_}
 use native.Mathlib.Omega.{arith}
 use lib.Dec.{ltb}
 use lib.ListN.{length}
+use Rattle.sizes.specs.Sizes.{mostNumbers}
 use Rattle.nodes.specs.Nodes.{node, Ty}
 use Rattle.nodes.proofs.ListLaws.{cond-ind}
 use Rattle.spelling.specs.declared.Triple.{Triple}
@@ -25,7 +26,7 @@ pub fresh-keeps : {b : List ℕ} (c : Run) {r : Run} → Stacked b (c .board) �
 fresh-keeps {b} c s e =
     rw e
     (cond-ind (λ (d : Run). Stacked b (d .board)) (going (c .halt))
-    (λ _. cond-ind (λ (d : Run). Stacked b (d .board)) (ltb (c .fresh) 1000) (λ _. s) (λ _. s)) (λ _. s))
+    (λ _. cond-ind (λ (d : Run). Stacked b (d .board)) (ltb (c .fresh) mostNumbers) (λ _. s) (λ _. s)) (λ _. s))
 
 -- an entry whose types are all that it counts
 module _ (b : List ℕ) (c : Run) (kind number : ℕ) (t u : Ty) (counts : (ls : List Triple) → entryNodes (entryOf ls kind number t u) ≡ length t + length u) where

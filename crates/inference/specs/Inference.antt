@@ -9,7 +9,8 @@ use Rattle.nodes.specs.Lists.{All}
 use Rattle.sheet.specs.Plan.{nodesOf, Narrow}
 use Rattle.sheet.specs.Rows.{rows}
 use Rattle.judgment.specs.Terms.{Lambda}
-use Rattle.judgment.specs.Solutions.{Free, keys}
+use Rattle.judgment.specs.Solutions.{solvedUnknowns}
+use Rattle.judgment.specs.Good.{Free}
 use Rattle.board.specs.Board.{termAt}
 use Rattle.book.specs.Book.{sols}
 use Rattle.operations.specs.declared.Run.{Run}
@@ -30,4 +31,4 @@ pub record LinesAsk (s : List ℕ) (at n : ℕ) : Type 0 where
 
 -- an unknown that was made and is not solved, in a run that goes on
 abbrev pub Open : List ℕ → Run → ℕ → Type 0
-Open k c x = going (c .halt) ≡ true → (x < c .fresh) × Free (keys (sols k)) (node 17 x)
+Open k c x = going (c .halt) ≡ true → (x < c .fresh) × Free (solvedUnknowns (sols k)) (node 17 x)

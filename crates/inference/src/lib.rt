@@ -9,6 +9,7 @@ ghost use Prim.Native.Nat.{ℕ, _+_, _*_, _≤_};
 ghost use lib.Dec.{leb};
 ghost use lib.ListN.{length};
 ghost use lib.Seq.{sets};
+ghost use Rattle.sizes.specs.Sizes.{mostNodes};
 ghost use Rattle.nodes.specs.Nodes.{node, Ty, words, nodesAt};
 ghost use Rattle.spelling.specs.declared.Triple.{Triple};
 ghost use Rattle.sheet.specs.Rows.{rows};
@@ -225,7 +226,7 @@ pub fn check_forall(
     at: usize,
     n: usize,
 ) -> Run
-    requires { ⌜ Stacked (now board) (c .board) × (at + 2 * n ≤ length (now t)) × (n ≤ 4096) × Bookable (now board) c ⌝ }
+    requires { ⌜ Stacked (now board) (c .board) × (at + 2 * n ≤ length (now t)) × (n ≤ mostNodes) × Bookable (now board) c ⌝ }
     ensures { λ r. ⌜ (now (t .exit) ≡ sets (now (t .entry)) at (words (substitute name (node 18 (c .fresh)) (nodesAt (now (t .entry)) at n)))) × ((E : Env) (T : Ty) → PerformsOnBoard (now (board .entry)) c (λ ls. checkBy E (termAt ls line) T (isForall name (nodesAt (now (t .entry)) at n))) (now (board .exit)) r) ⌝ }
 {
     let u = c.fresh;
@@ -267,7 +268,7 @@ pub fn apply_forall(
     ct: usize,
     cn: usize,
 ) -> Run
-    requires { ⌜ Stacked (now board) (c .board) × (at + 2 * n ≤ length (now t)) × (n ≤ 4096) × (ct + 2 * cn ≤ length (now t)) × ((ct + 2 * cn ≤ at) ⊎ (at + 2 * n ≤ ct)) × Bookable (now board) c ⌝ }
+    requires { ⌜ Stacked (now board) (c .board) × (at + 2 * n ≤ length (now t)) × (n ≤ mostNodes) × (ct + 2 * cn ≤ length (now t)) × ((ct + 2 * cn ≤ at) ⊎ (at + 2 * n ≤ ct)) × Bookable (now board) c ⌝ }
     ensures { λ r. ⌜ (now (t .exit) ≡ sets (now (t .entry)) at (words (substitute name (node 17 (c .fresh)) (nodesAt (now (t .entry)) at n)))) × ((E : Env) (F : Ty) → PerformsOnBoard (now (board .entry)) c (λ ls. applyBy E F (termAt ls line) (nodesAt (now (t .entry)) ct cn) (isForall name (nodesAt (now (t .entry)) at n))) (now (board .exit)) r) ⌝ }
 {
     let a = c.fresh;

@@ -3,6 +3,7 @@ use mathlib.Core.Path.{_≡_}
 use mathlib.Core.List.{List}
 use Prim.Native.Nat.{ℕ, _+_, _*_, _≤_, _<_}
 use lib.ListN.{length, getD}
+use Rattle.sizes.specs.Sizes.{mostLines, typeWords}
 use Rattle.nodes.specs.Nodes.{nodesAt}
 use Rattle.kinds.specs.Kinds.{aTerm}
 use Rattle.sheet.specs.Plan.{noTriple}
@@ -22,11 +23,11 @@ pub record InferAsk (b : List ℕ) (c : Run) (s : List ℕ) (line : ℕ) (t : Li
   pub ready : Ready b c
   pub sheet : Formed (rows s)
   pub ended : Ended s
-  pub few : length (rows s) ≤ 2000
+  pub few : length (rows s) ≤ mostLines
   pub stands : line < length (rows s)
   pub term : IsPart aTerm (termAt (rows s) line .lines)
   pub within : 2 * tn ≤ length t
-  pub left : 8192 ≤ length l
+  pub left : typeWords ≤ length l
 
 -- room for a second type, and for the frames and bindings of a Case's patterns
 pub record CaseRoom (s r w v : List ℕ) : Type 0 where
@@ -44,7 +45,7 @@ pub record TermAsk (k : ℕ) (b : List ℕ) (c : Run) (s : List ℕ) (at : ℕ) 
   pub ready : Ready b c
   pub sheet : Formed (rows s)
   pub ended : Ended s
-  pub few : length (rows s) ≤ 2000
+  pub few : length (rows s) ≤ mostLines
   pub stands : at < length (rows s)
   pub term : IsPart aTerm (termAt (rows s) at .lines)
   pub within : 2 * tn ≤ length t

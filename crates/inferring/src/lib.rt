@@ -4,6 +4,7 @@ ghost use mathlib.Core.Path.{_≡_};
 ghost use mathlib.Core.List.{List};
 ghost use Prim.Native.Nat.{ℕ, _+_, _≤_, _<_};
 ghost use lib.ListN.{length, getD};
+ghost use Rattle.sizes.specs.Sizes.{mostLines, typeWords};
 ghost use Rattle.nodes.specs.Nodes.{nodesAt};
 ghost use Rattle.sheet.specs.Plan.{noTriple, partLine, findEntry};
 ghost use Rattle.sheet.specs.Rows.{rows, Ended};
@@ -43,7 +44,7 @@ fn value_at(s: &[u64], at: usize) -> u32
 
 // The line at which part i of the term at line `at` starts.
 fn part_at(s: &[u64], at: usize, i: usize) -> u32
-    requires { ⌜ (at < length (rows (now s))) × (length (rows (now s)) ≤ 2000) × Ended (now s) ⌝ }
+    requires { ⌜ (at < length (rows (now s))) × (length (rows (now s)) ≤ mostLines) × Ended (now s) ⌝ }
     ensures { λ r. ⌜ r ≡ partLine (rows (now (s .entry))) (at + 1) i ⌝ }
 {
     part_line(s, at + 1, i) as u32
@@ -59,7 +60,7 @@ fn variable_term(
     tn: usize,
     l: &mut [u32],
 ) -> Run
-    requires { ⌜ TermAsk 21 (now board) c (now s) at (now t) tn × (8192 ≤ length (now l)) ⌝ }
+    requires { ⌜ TermAsk 21 (now board) c (now s) at (now t) tn × (typeWords ≤ length (now l)) ⌝ }
     ensures { λ o. ⌜ Infers (now (board .entry)) c (now (s .entry)) at (now (t .entry)) tn (now (board .exit)) o × (now (l .exit) ≡ variableOut (now (board .entry)) c (now (s .entry)) (getD (rows (now (s .entry))) at noTriple .value) (now (l .entry))) ⌝ }
 {
     let name = value_at(s, at);
@@ -76,7 +77,7 @@ fn lambda_term(
     tn: usize,
     l: &mut [u32],
 ) -> Run
-    requires { ⌜ TermAsk 23 (now board) c (now s) at (now t) tn × (8192 ≤ length (now l)) ⌝ }
+    requires { ⌜ TermAsk 23 (now board) c (now s) at (now t) tn × (typeWords ≤ length (now l)) ⌝ }
     ensures { λ o. ⌜ Infers (now (board .entry)) c (now (s .entry)) at (now (t .entry)) tn (now (board .exit)) o × (now (l .exit) ≡ lambdaOut c (now (s .entry)) at (now (l .entry))) ⌝ }
 {
     let name = value_at(s, at);
@@ -116,7 +117,7 @@ fn constructor_term(
     tn: usize,
     l: &mut [u32],
 ) -> Run
-    requires { ⌜ TermAsk 26 (now board) c (now s) at (now t) tn × (8192 ≤ length (now l)) ⌝ }
+    requires { ⌜ TermAsk 26 (now board) c (now s) at (now t) tn × (typeWords ≤ length (now l)) ⌝ }
     ensures { λ o. ⌜ Infers (now (board .entry)) c (now (s .entry)) at (now (t .entry)) tn (now (board .exit)) o × (now (l .exit) ≡ constructorOut c (rows (now (s .entry))) (now (l .entry)) (findEntry 1 (getD (rows (now (s .entry))) at noTriple .value) (rows (now (s .entry))))) ⌝ }
 {
     let name = value_at(s, at);

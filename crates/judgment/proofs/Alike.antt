@@ -4,7 +4,6 @@ use mathlib.Core.Path.{_≡_, refl, ap, ap₂, subst}
 use mathlib.Core.Bool.{Bool, true, false, cond}
 use mathlib.Core.Option.{Option, none, some}
 use mathlib.Core.List.{[], _∷_, _++_}
-use lib.Dec.{leb, ltb}
 use lib.ListN.{length}
 use Rattle.nodes.proofs.ListLaws.{cond-ind}
 use Rattle.nodes.specs.Nodes.{Ty}

@@ -6,7 +6,7 @@ use mathlib.Core.Path.{_≡_, refl, sym, _∙_, ap, ap₂}
 use mathlib.Core.Bool.{Bool, true, false, cond, _&&_}
 use mathlib.Core.Option.{Option, none, some}
 use mathlib.Core.List.{List, [], _∷_, _++_}
-use lib.Dec.{eqb, leb}
+use lib.Dec.{eqb}
 use lib.ListN.{length}
 use borrow.Author.Tests.{leb-true, le-leb}
 use Rattle.nodes.proofs.ListLaws.{cond-ind}
@@ -17,11 +17,11 @@ use Rattle.judgment.specs.declared.TypeError.the-variants.{BoardFull, Ar
 use Rattle.judgment.specs.Types.{unknown, View, isArrow, isApp, isForall, isUnknown, isOther, view, Renaming, rename, frontNames, afterFront}
 use Rattle.judgment.specs.Terms.{Term, part, afterParts, TermView, isVar, isLitInt, isLambda, isApply, isTypeLambda, isConstructor, isCase, isBinOp, isIf, isIntrinsic, isNone, termView, PatternView, isWildcard, isPatternVar, isPatternConstructor, patternView}
 use Rattle.judgment.specs.Solutions.{Solutions}
-use Rattle.judgment.specs.Board.{Limit, upTo, unlimited, below, within, Entry, tvar, var, sub, inf, chk, infApp, Board, boardNodes, findVar, Limits, Rule, refuse, Operation, State, state, Outcome, refused, roomFor, perform}
+use Rattle.judgment.specs.Board.{Limit, upTo, unlimited, within, Entry, tvar, var, sub, inf, chk, infApp, Board, boardNodes, findVar, Limits, Rule, refuse, Operation, State, state, Outcome, refused, roomFor, perform}
 use Rattle.judgment.specs.Rules.{Env, subtype, openNames, signatureBy, signatureFrom, insert, pushVars, patternParts, patternConstructor, patternBy, checkPatterns, checkArms, variable, constructor, inferBy, checkBy, inferApp, rule}
 use Rattle.judgment.specs.Run.{Step, End, Run, run, addStep, onward, runFrom, checkType}
 use Rattle.judgment.specs.Result.{resultOf, envOf, runOf, judge}
-use Rattle.judgment.specs.AnyOrder.{Distinct, Reordered, Order, Reorders, checkArmsIn, inferByIn, ruleIn, runFromIn, runOfIn, judgeIn}
+use Rattle.judgment.proofs.OtherOrders.{Distinct, Reordered, Order, Reorders, checkArmsIn, inferByIn, ruleIn, runFromIn, runOfIn, judgeIn}
 use Rattle.judgment.proofs.TypeLaws.{both}
 use Rattle.judgment.proofs.Alike.{Alike, empty, entry, vars, Near, alike-length, Agree, finish, stop, Steady, Parallel, done-parallel, refuse-parallel, fresh-parallel, push-parallel, steady-parallel, subtype-steady, variable-steady, checkBy-steady, inferApp-steady}
 use Rattle.judgment.proofs.Reordered.{total, onto, reordered-length, reordered-total, onto-near, Rising, rising-distinct, insert-rising}

@@ -5,17 +5,15 @@ use mathlib.Core.Path.{_≡_, refl, sym, _∙_, ap, subst}
 use mathlib.Core.Bool.{Bool, true}
 use mathlib.Core.List.{List, [], _∷_, _++_}
 use Rattle.nodes.specs.Lists.{All}
-use Rattle.nodes.specs.Nodes.{Ty}
-use Rattle.judgment.specs.declared.TypeError.{TypeError}
 use Rattle.judgment.specs.Solutions.{Solutions}
 use Rattle.judgment.specs.Board.{Entry, Board, Limits, Operation, State, state, Outcome, finished, refused, perform, operations}
 use Rattle.judgment.specs.Rules.{Env, rule}
 use Rattle.judgment.specs.Run.{Step, step, End, accepted, ceiling, refusedBy, Run, run, steps, end, final, addStep, onto, onward, runFrom}
 use Rattle.judgment.specs.Promise.{events, NotMet, Promise}
-use Rattle.judgment.proofs.Invariant.{Inv}
+use Rattle.judgment.specs.Good.{Inv}
 use Rattle.judgment.proofs.RuleLaws.{EnvOK}
-use Rattle.judgment.proofs.Events.{Adds, AddsAt, onto-adds, onto-unmet, run-adds, run-unmet}
-use Rattle.judgment.proofs.Runs.{FactsOf, FactsAt, Facts, run-facts, before-facts}
+use Rattle.judgment.proofs.Events.{AddsAt, onto-adds, onto-unmet, run-adds, run-unmet}
+use Rattle.judgment.proofs.Runs.{FactsOf, FactsAt, run-facts, before-facts}
 use Rattle.judgment.proofs.Promised.{claim}
 
 -- ---- cut and carried on

@@ -5,7 +5,6 @@ use mathlib.Core.Path.{_≡_, refl, sym, _∙_, ap, subst⁻¹}
 use mathlib.Core.Bool.{Bool, true, false, cond}
 use mathlib.Core.Option.{Option, none, some}
 use mathlib.Core.List.{List, [], _∷_, _++_, append-nil, append-assoc}
-use lib.Dec.{leb, ltb}
 use lib.ListN.{length}
 use Rattle.nodes.specs.Nodes.{Ty}
 use Rattle.nodes.specs.Lists.{All, count}
@@ -13,13 +12,14 @@ use Rattle.nodes.proofs.ListLaws.{cond-ind, all-append, count-append}
 use Rattle.judgment.specs.declared.TypeError.{TypeError}
 use Rattle.judgment.specs.declared.TypeError.the-variants.{TypeUnificationError}
 use Rattle.judgment.specs.Types.{canUnify}
-use Rattle.judgment.specs.Solutions.{Solution, _≔_, Solutions, find, writeOut, solutionNodes}
+use Rattle.judgment.specs.Solutions.{_≔_, Solutions, find, writeOut, solutionNodes}
 use Rattle.judgment.specs.Board.{below, within, Entry, Board, Limits, Rule, done, refuse, fresh, push, solve, zonk, look, Operation, made, pushed, gave, met, State, state, Outcome, finished, refused, roomFor, solving, perform, operations}
 use Rattle.judgment.specs.Rules.{Env, rule}
 use Rattle.judgment.specs.Run.{Step, step, End, refusedBy, Run, run, steps, final, addStep, onto, onward, runFrom}
 use Rattle.judgment.specs.Promise.{taken, events, pushes, given, NotMet, board, solutions}
+use Rattle.judgment.specs.Good.{Inv}
 use Rattle.judgment.proofs.SolutionLaws.{find-none}
-use Rattle.judgment.proofs.Invariant.{Inv, Good, Kept, inv-fresh, inv-push, inv-solve, perform-kept}
+use Rattle.judgment.proofs.Invariant.{Good, Kept, inv-fresh, inv-push, inv-solve, perform-kept}
 use Rattle.judgment.proofs.RuleLaws.{EnvOK, Explains, rule-good}
 
 abbrev pub stateOf : Outcome → State

@@ -1,19 +1,19 @@
 -- Writing out in full, as document 01 says it, is what the rules use: `in-full` and `full-is`. Assumes nothing.
 use Prim.Native.Nat.{ℕ, zero, suc}
-use mathlib.Core.Path.{_≡_, refl, sym, _∙_, ap, ap₂, subst, subst⁻¹}
+use mathlib.Core.Path.{_≡_, refl, sym, _∙_, ap, subst, subst⁻¹}
 use mathlib.Core.Logic.{_≢_, _⊎_, inl, inr}
-use mathlib.Core.Bool.{Bool, true, false, cond, true≢false}
-use mathlib.Core.List.{List, [], _∷_, _++_, append-assoc}
-use lib.Dec.{eqb}
+use mathlib.Core.Bool.{Bool, true, false, true≢false}
+use mathlib.Core.List.{[], _∷_, _++_}
 use lib.ListN.{length}
 use Rattle.nodes.specs.Nodes.{Node, node, Ty}
-use Rattle.nodes.specs.Lists.{All, In}
-use Rattle.nodes.proofs.ListLaws.{all-map, all-of, all-in}
+use Rattle.nodes.specs.Lists.{In}
+use Rattle.nodes.proofs.ListLaws.{all-map}
 use Rattle.judgment.specs.Types.{unknown, isNode}
-use Rattle.judgment.specs.Solutions.{Solution, _≔_, Solutions, key, value, link, links, writeOut, Avoids, Free, keysAfter, keys, Fine}
-use Rattle.judgment.specs.Promise.{Distinct, solvedUnknowns, Replaced, none, one, Unsolved, InFull}
-use Rattle.judgment.proofs.TypeLaws.{eqb-same, isNode-true}
-use Rattle.judgment.proofs.SolutionLaws.{keys-keep, find-some, by-solved, link-solved, link-unsolved, times, written-times, written-append, written-free, written-is-free, solved}
+use Rattle.judgment.specs.Solutions.{Solution, _≔_, Solutions, link, links, writeOut, solvedUnknowns}
+use Rattle.judgment.specs.Promise.{solvedUnknowns, Replaced, none, one, Unsolved, InFull}
+use Rattle.judgment.specs.Good.{Avoids, Free, Fine}
+use Rattle.judgment.proofs.TypeLaws.{isNode-true}
+use Rattle.judgment.proofs.SolutionLaws.{in-avoids, find-some, by-solved, link-solved, link-unsolved, times, written-times, written-append, written-free, written-is-free, solved}
 
 module _ {σ : Solutions} where
   chain : {t u v : Ty} → Replaced σ t u → Replaced σ u v → Replaced σ t v
@@ -44,14 +44,9 @@ module _ {σ : Solutions} where
   writes τ f zero t = none
   writes τ f (suc n) t = chain (linked τ f t) (writes τ f n (links τ t))
 
--- ---- unsolved, by nodes and by keys
-avoided : (ks : List ℕ) (σ : Solutions) (k : ℕ) (s : Ty) (n : Node) → In (_≔_ k s) σ → Free (keysAfter ks σ) n → Avoids k n
-avoided ks [] k s n m f = absurd m
-avoided ks (_≔_ j r ∷ σ) k s n (inl e) f = subst⁻¹ (λ (x : Solution). Avoids (key x) n) e (keys-keep (j ∷ ks) σ n f .0)
-avoided ks (_≔_ j r ∷ σ) k s n (inr m) f = avoided (j ∷ ks) σ k s n m f
-
-free-unsolved : (σ : Solutions) (n : Node) → Free (keys σ) n → Unsolved σ n
-free-unsolved σ n f k s m e = true≢false (sym (eqb-same k) ∙ subst (λ x. isNode 17 k x ≡ false) e (avoided [] σ k s n m f))
+-- ---- unsolved, by nodes and by the unknowns solved
+free-unsolved : (σ : Solutions) (n : Node) → Free (solvedUnknowns σ) n → Unsolved σ n
+free-unsolved σ n f k s m e = in-avoids σ (_≔_ k s) m (subst (Free (solvedUnknowns σ)) e f)
 
 not-node : (k : ℕ) (n : Node) → n ≢ node 17 k → Avoids k n
 not-node k n h = go (isNode 17 k n) refl
@@ -60,9 +55,9 @@ not-node k n h = go (isNode 17 k n) refl
     go true e = absurd (h (isNode-true 17 k n e))
     go false e = refl
 
-unsolved-free : (ks : List ℕ) (σ : Solutions) (n : Node) → Free ks n → ((k : ℕ) (s : Ty) → In (_≔_ k s) σ → n ≢ node 17 k) → Free (keysAfter ks σ) n
-unsolved-free ks [] n f h = f
-unsolved-free ks (_≔_ k s ∷ σ) n f h = unsolved-free (k ∷ ks) σ n (not-node k n (h k s (inl refl)), f) (λ j r m. h j r (inr m))
+unsolved-free : (σ : Solutions) (n : Node) → Unsolved σ n → Free (solvedUnknowns σ) n
+unsolved-free [] n h = tt
+unsolved-free (_≔_ k s ∷ σ) n h = (not-node k n (h k s (inl refl)), unsolved-free σ n (λ j r m. h j r (inr m)))
 
 -- ---- a replacement leaves what is written out
 module _ (σ : Solutions) (f : Fine σ) where
@@ -81,7 +76,4 @@ module _ (σ : Solutions) (f : Fine σ) where
   }
 
   pub full-is : (t u : Ty) → InFull σ t u → u ≡ writeOut σ t
-  full-is t u h = sym (replaced-same (h .replaced) ∙ written-free σ u (all-map (λ n g. unsolved-free [] σ n tt g) u (h .unsolved)))
-
-pub distinct-solved : (σ : Solutions) → Fine σ → Distinct (solvedUnknowns σ)
-distinct-solved σ f = f .once
+  full-is t u h = sym (replaced-same (h .replaced) ∙ written-free σ u (all-map (unsolved-free σ) u (h .unsolved)))

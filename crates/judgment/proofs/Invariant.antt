@@ -1,32 +1,26 @@
 -- What every state of a run has, and what a rule must show to keep it.
 -- Assumes nothing.
-use Prim.Native.Nat.{ℕ, zero, suc, _+_, _≤_, _<_}
-use native.Mathlib.Nat.{le-refl, le-trans}
+use Prim.Native.Nat.{ℕ, suc, _+_, _≤_, _<_}
+use native.Mathlib.Nat.{le-trans}
 use native.Mathlib.Omega.{arith}
-use mathlib.Core.Path.{_≡_, refl, sym, _∙_, ap, ap₂, subst, subst⁻¹}
-use mathlib.Core.Logic.{_≢_, _⊎_, inl, inr}
-use mathlib.Core.Bool.{Bool, true, false, cond, not, _&&_, _||_}
+use mathlib.Core.Path.{_≡_, refl, sym, _∙_, subst, subst⁻¹}
+use mathlib.Core.Logic.{_≢_, _⊎_}
+use mathlib.Core.Bool.{cond, _&&_, _||_}
 use mathlib.Core.Option.{Option, none, some}
-use mathlib.Core.List.{List, [], _∷_, _++_, append-nil, append-assoc}
-use lib.Dec.{T, eqb, leb, ltb}
+use mathlib.Core.List.{[], _∷_, _++_, append-nil, append-assoc}
 use lib.ListN.{length}
 use Rattle.nodes.specs.Lists.{All}
 use Rattle.nodes.proofs.ListLaws.{cond-ind, all-map, all-append}
-use Rattle.nodes.specs.Nodes.{Node, node, Ty, kind, number}
-use Rattle.judgment.specs.Types.{unknown, arrow, isNode, canUnify}
-use Rattle.judgment.proofs.TypeLaws.{eqb-false, Lines}
-use Rattle.spelling.specs.declared.Triple.{Triple}
+use Rattle.nodes.specs.Nodes.{Node, node, Ty}
+use Rattle.judgment.specs.Types.{canUnify}
 use Rattle.sheet.specs.Plan.{lineNode}
 use Rattle.judgment.specs.Terms.{Term}
 use Rattle.judgment.specs.declared.TypeError.{TypeError}
 use Rattle.judgment.specs.declared.TypeError.the-variants.{UnboundVariable, UnboundDataConstructor, NotAFunction, ArityMismatch, SubtypingError, TypeUnificationError, InstantiationError, IntrinsicArityMismatch, UnknownIntrinsic, BoardFull, TypeTooLong, NoFreshNumber, SolutionsFull}
-use Rattle.judgment.specs.Solutions.{Solution, _≔_, Solutions, key, value, find, writeOut, solutionNodes, Avoids, Free, keysAfter, keys, Fine}
+use Rattle.judgment.specs.Solutions.{Solution, _≔_, Solutions, value, find, writeOut, solutionNodes, solvedUnknowns}
 use Rattle.judgment.proofs.SolutionLaws.{fine-snoc, find-none}
-use Rattle.judgment.specs.Board.{below, within, Entry, tvar, var, sub, inf, chk, infApp, Board, Limits, Rule, done, refuse, fresh, push, solve, zonk, look, State, state, Outcome, finished, refused, perform, roomFor, solving}
-
--- no quantifier
-abbrev pub Mono : Node → Type 0
-Mono x = kind x ≢ 14
+use Rattle.judgment.specs.Board.{below, within, Entry, tvar, var, sub, inf, chk, infApp, Board, Limits, Rule, done, refuse, fresh, push, solve, zonk, look, state, Outcome, finished, refused, perform, roomFor, solving}
+use Rattle.judgment.specs.Good.{Free, Lines, Mono, OK, EntryOK, SolutionOK, Inv}
 
 -- the refusal that no run meets
 abbrev pub NotClash : TypeError → Type 0
@@ -44,31 +38,18 @@ NotClash TypeTooLong = Unit {0}
 NotClash NoFreshNumber = Unit {0}
 NotClash SolutionsFull = Unit {0}
 
--- Plain: what is to hold of a plan for its run to have no quantifier
 module _ (Plain : Type 0) where
-  -- a node whose unknown was made before the number n; in a plain run, no quantifier and no type abstraction
-  abbrev pub OK : ℕ → Node → Type 0
-  OK n x = (kind x ≡ 17 → number x < n) × (Plain → (kind x ≢ 14) × (kind x ≢ 25))
-
-  abbrev pub EntryOK : ℕ → Entry → Type 0
-  EntryOK n (tvar x) = Unit {0}
-  EntryOK n (var x t) = All (OK n) t
-  EntryOK n (sub s t) = All (OK n) s × All (OK n) t
-  EntryOK n (inf e t) = Lines (OK n) e × All (OK n) t
-  EntryOK n (chk e t) = Lines (OK n) e × All (OK n) t
-  EntryOK n (infApp f e t) = All (OK n) f × Lines (OK n) e × All (OK n) t
-
   -- a later number
-  pub ok-later : {m n : ℕ} → m ≤ n → (x : Node) → OK m x → OK n x
+  pub ok-later : {m n : ℕ} → m ≤ n → (x : Node) → OK Plain m x → OK Plain n x
   ok-later l x h = (λ e. le-trans (h .0 e) l, h .1)
 
-  pub all-later : {m n : ℕ} → m ≤ n → (t : Ty) → All (OK m) t → All (OK n) t
+  pub all-later : {m n : ℕ} → m ≤ n → (t : Ty) → All (OK Plain m) t → All (OK Plain n) t
   all-later l t h = all-map (ok-later l) t h
 
-  pub lines-later : {m n : ℕ} → m ≤ n → (e : Term) → Lines (OK m) e → Lines (OK n) e
+  pub lines-later : {m n : ℕ} → m ≤ n → (e : Term) → Lines (OK Plain m) e → Lines (OK Plain n) e
   lines-later l e h = all-map (λ x. ok-later l (lineNode x)) (e .lines) h
 
-  entry-later : {m n : ℕ} → m ≤ n → (e : Entry) → EntryOK m e → EntryOK n e
+  entry-later : {m n : ℕ} → m ≤ n → (e : Entry) → EntryOK Plain m e → EntryOK Plain n e
   entry-later l (tvar x) h = tt
   entry-later l (var x t) h = all-later l t h
   entry-later l (sub s t) h = (all-later l s (h .0), all-later l t (h .1))
@@ -76,23 +57,15 @@ module _ (Plain : Type 0) where
   entry-later l (chk e t) h = (lines-later l e (h .0), all-later l t (h .1))
   entry-later l (infApp f e t) h = (all-later l f (h .0), lines-later l e (h .1), all-later l t (h .2))
 
-  abbrev pub SolutionOK : ℕ → Solution → Type 0
-  SolutionOK n x = (key x < n) × All (OK n) (value x) × All Mono (value x)
-
-  solution-later : {m n : ℕ} → m ≤ n → (x : Solution) → SolutionOK m x → SolutionOK n x
+  solution-later : {m n : ℕ} → m ≤ n → (x : Solution) → SolutionOK Plain m x → SolutionOK Plain n x
   solution-later l x h = (le-trans (h .0) l, all-later l (value x) (h .1), h .2)
-
-  pub record Inv (Γ : Board) (σ : Solutions) (n : ℕ) : Type 0 where
-    pub entries : All (EntryOK n) Γ
-    pub fine : Fine σ
-    pub solutions : All (SolutionOK n) σ
 
   -- what a rule must show of a solution that it gives
   pub record SolveOK (σ : Solutions) (n k : ℕ) (s : Ty) : Type 0 where
-    pub unsolved : Free (keys σ) (node 17 k)
+    pub unsolved : Free (solvedUnknowns σ) (node 17 k)
     pub made : k < n
-    pub free : All (Free (k ∷ keys σ)) s
-    pub ok : All (OK n) s
+    pub free : All (Free (k ∷ solvedUnknowns σ)) s
+    pub ok : All (OK Plain n) s
     pub mono : All Mono s
 
   -- A rule keeps the invariant, and where it finishes Q holds of the state that it leaves.
@@ -100,34 +73,34 @@ module _ (Plain : Type 0) where
   Good done Γ σ n Q = Q Γ σ n
   Good (refuse r ts) Γ σ n Q = NotClash r
   Good (fresh f) Γ σ n Q = Good (f n) Γ σ (suc n) Q
-  Good (push e p) Γ σ n Q = EntryOK n e × Good p (e ∷ Γ) σ n Q
+  Good (push e p) Γ σ n Q = EntryOK Plain n e × Good p (e ∷ Γ) σ n Q
   Good (solve k s p) Γ σ n Q = SolveOK σ n k s × Good p Γ (σ ++ (_≔_ k s ∷ [])) n Q
   Good (zonk t f) Γ σ n Q = Good (f (writeOut σ t)) Γ σ n Q
   Good (look f) Γ σ n Q = Good (f Γ) Γ σ n Q
 
   abbrev pub Kept : (Board → Solutions → ℕ → Type 0) → Outcome → Type 0
-  Kept Q (finished (state Γ σ n)) = Inv Γ σ n × Q Γ σ n
-  Kept Q (refused r ts (state Γ σ n)) = Inv Γ σ n × NotClash r
+  Kept Q (finished (state Γ σ n)) = Inv Plain Γ σ n × Q Γ σ n
+  Kept Q (refused r ts (state Γ σ n)) = Inv Plain Γ σ n × NotClash r
 
-  pub inv-fresh : {Γ : Board} {σ : Solutions} {n : ℕ} → Inv Γ σ n → Inv Γ σ (suc n)
+  pub inv-fresh : {Γ : Board} {σ : Solutions} {n : ℕ} → Inv Plain Γ σ n → Inv Plain Γ σ (suc n)
   inv-fresh {Γ} {σ} {n} i = record {
     entries = all-map (entry-later {m = n} (omega arith)) Γ (i .entries);
     fine = i .fine;
     solutions = all-map (solution-later {m = n} (omega arith)) σ (i .solutions);
   }
 
-  pub inv-push : {Γ : Board} {σ : Solutions} {n : ℕ} (e : Entry) → EntryOK n e → Inv Γ σ n → Inv (e ∷ Γ) σ n
+  pub inv-push : {Γ : Board} {σ : Solutions} {n : ℕ} (e : Entry) → EntryOK Plain n e → Inv Plain Γ σ n → Inv Plain (e ∷ Γ) σ n
   inv-push e h i = record { entries = (h, i .entries); fine = i .fine; solutions = i .solutions }
 
-  pub inv-solve : {Γ : Board} {σ : Solutions} {n : ℕ} (k : ℕ) (s : Ty) → SolveOK σ n k s → Inv Γ σ n → Inv Γ (σ ++ (_≔_ k s ∷ [])) n
+  pub inv-solve : {Γ : Board} {σ : Solutions} {n : ℕ} (k : ℕ) (s : Ty) → SolveOK σ n k s → Inv Plain Γ σ n → Inv Plain Γ (σ ++ (_≔_ k s ∷ [])) n
   inv-solve {σ = σ} {n = n} k s h i = record {
     entries = i .entries;
     fine = fine-snoc σ k s (i .fine) (h .unsolved) (h .free);
-    solutions = all-append (SolutionOK n) σ (_≔_ k s ∷ []) (i .solutions) ((h .made, h .ok, h .mono), tt);
+    solutions = all-append (SolutionOK Plain n) σ (_≔_ k s ∷ []) (i .solutions) ((h .made, h .ok, h .mono), tt);
   }
 
   module _ (L : Limits) (Q : Board → Solutions → ℕ → Type 0) where
-    pub perform-kept : (p : Rule) (Γ : Board) (σ : Solutions) (n : ℕ) → Inv Γ σ n → Good p Γ σ n Q → Kept Q (perform L p Γ σ n)
+    pub perform-kept : (p : Rule) (Γ : Board) (σ : Solutions) (n : ℕ) → Inv Plain Γ σ n → Good p Γ σ n Q → Kept Q (perform L p Γ σ n)
     unfolding perform
     perform-kept done Γ σ n i g = (i, g)
     perform-kept (refuse r ts) Γ σ n i g = (i, g)

@@ -1,5 +1,12 @@
+pub mod Wall
+pub mod Telling
+pub mod AtLimits
+pub mod Calls
+pub mod Following
 pub mod TypeLaws
 pub mod SolutionLaws
+pub mod Chained
+pub mod Performed
 pub mod Invariant
 pub mod RuleLaws
 pub mod Zonk
@@ -7,6 +14,8 @@ pub mod Runs
 pub mod Events
 pub mod Full
 pub mod Promised
+pub mod Carried
+pub mod Left
 pub mod Rounds
 pub mod Words
 pub mod WholeTypes
@@ -15,7 +24,7 @@ pub mod WholeTerms
 pub mod WholeRun
 pub mod Orders
 pub mod Narrow
+pub mod OtherOrders
 pub mod Alike
 pub mod Reordered
 pub mod AnyOrder
-pub mod Carried

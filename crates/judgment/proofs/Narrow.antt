@@ -9,6 +9,7 @@ use mathlib.Core.List.{List, [], _∷_, _++_}
 use lib.Dec.{eqb, leb, ltb}
 use lib.ListN.{length, take, drop, length-append, length-take, length-drop}
 use borrow.Author.Tests.{ltb-true, ltb-false, leb-true}
+use Rattle.sizes.specs.Sizes.{mostLines, highestCeiling, mostNodes, mostNumbers, mostWritten}
 use Rattle.nodes.specs.Nodes.{Node, node, Ty}
 use Rattle.nodes.specs.Lists.{All}
 use Rattle.nodes.proofs.ListLaws.{cond-ind, all-take, all-drop}
@@ -20,6 +21,7 @@ use Rattle.grammar.specs.Check.{check, checkLine}
 use Rattle.grammar.proofs.Lines.{line-small}
 use Rattle.sheet.specs.Plan.{triples, nodesOf, Declaration, declarations, Binding, _∶_, Bindings, bindingsIn, lookup, Plan as PlanOf, planOf}
 use Rattle.sheet.proofs.Ranges.{InRange, part-in-range, plan-few}
+use Rattle.judgment.specs.declared.Answer.{Answer}
 use Rattle.judgment.specs.declared.TypeError.{TypeError}
 use Rattle.judgment.specs.Types.{eqTy, View, isArrow, isApp, isForall, isUnknown, isOther, view, occurs, isMonotype, substitute, Renaming, rename, frontNames, afterFront}
 use Rattle.judgment.specs.Terms.{Term, part, afterParts, Lambda, lambdaOf, TermView, isVar, isLitInt, isLambda, isApply, isTypeLambda, isConstructor, isCase, isBinOp, isIf, isIntrinsic, isNone, viewBy, termView, PatternView, patternView}
@@ -28,18 +30,28 @@ use Rattle.judgment.specs.Board.{Entry, tvar, var, sub, inf, chk, infApp
 use Rattle.judgment.specs.Rules.{Env, Side, left, right, openBody, solveMonotype, instantiateBy, instantiateFrom, mismatch, unknownRight, unknownLeft, subtypeBy, subtype, openNames, instantiateConstructor, signatureBy, signatureFrom, insert, pushVars, patternParts, patternConstructor, patternBy, checkPatterns, checkArms, variable, constructor, inferBy, checkArrow, checkBy, applyBy, inferApp, rule}
 use Rattle.judgment.specs.Run.{Step, step, End, accepted, ceiling, refusedBy, Run, run, addStep, onward, runFrom, checkType}
 use Rattle.judgment.specs.Result.{errorNumber, errorDetails, endNumber, endDetails, envOf, runOf, resultOf, judge, limits, Buffers, Called, refusedAt, byCheck, tooShort, call}
-use Rattle.judgment.specs.Narrow.{Narrow}
+use Rattle.judgment.specs.Good.{EntryWhole, OK, EntryOK, Inv}
 use Rattle.judgment.proofs.TypeLaws.{eqb-true, Shows, view-shows}
-use Rattle.judgment.proofs.Invariant.{OK, EntryOK, Inv, Kept, perform-kept}
+use Rattle.judgment.proofs.Invariant.{Kept, perform-kept}
 use Rattle.judgment.proofs.RuleLaws.{EnvOK, Explains, rule-good, written-ok}
 use Rattle.judgment.proofs.Promised.{plan-env, plan-inv, sheet-plan}
 use Rattle.judgment.proofs.Rounds.{substitute-length}
-use Rattle.judgment.proofs.WholeRun.{EntryWhole, EnvWhole, StateWhole, OutcomeWhole, solving-ind, perform-whole, rule-whole, plan-whole}
+use Rattle.judgment.proofs.WholeRun.{EnvWhole, StateWhole, OutcomeWhole, solving-ind, perform-whole, rule-whole, plan-whole}
+
+-- How large the seven numbers of an answer are. The details are names, nodes of a written-out type, parameters of a constructor, unknowns and counts.
+pub record Narrow (a : Answer) : Type 0 where
+  pub number : a .number ≤ 25
+  pub line : a .line ≤ mostLines + 1
+  pub taken : a .taken ≤ highestCeiling
+  pub fresh : a .fresh ≤ mostNumbers
+  pub detail1 : a .detail1 ≤ 9999
+  pub detail2 : a .detail2 ≤ mostWritten
+  pub plain : a .plain ≤ 1
 
 ---------------------------------------------------------------- what a rule must show
 -- a refusal's number and details
 abbrev Small : TypeError → Type 0
-Small r = (errorNumber r ≤ 25) × (errorDetails r .0 ≤ 9999) × (errorDetails r .1 ≤ 1024)
+Small r = (errorNumber r ≤ 25) × (errorDetails r .0 ≤ 9999) × (errorDetails r .1 ≤ mostWritten)
 
 -- every refusal is small, whatever is fresh, pushed and solved; a type that is written out has few nodes
 abbrev Brief : Solutions → Rule → Type 0
@@ -48,30 +60,30 @@ Brief σ (refuse r ts) = Small r
 Brief σ (fresh f) = (n : ℕ) → Brief σ (f n)
 Brief σ (push e p) = Brief σ p
 Brief σ (solve k s p) = (τ : Solutions) → Brief τ p
-Brief σ (zonk t f) = length (writeOut σ t) ≤ 1024 → Brief σ (f (writeOut σ t))
+Brief σ (zonk t f) = length (writeOut σ t) ≤ mostWritten → Brief σ (f (writeOut σ t))
 Brief σ (look f) = (Γ : Board) → Brief σ (f Γ)
 
 abbrev OutcomeNarrow : Outcome → Type 0
-OutcomeNarrow (finished (state Γ σ n)) = n ≤ 1000
-OutcomeNarrow (refused r ts (state Γ σ n)) = (n ≤ 1000) × Small r
+OutcomeNarrow (finished (state Γ σ n)) = n ≤ mostNumbers
+OutcomeNarrow (refused r ts (state Γ σ n)) = (n ≤ mostNumbers) × Small r
 
-perform-narrow : (p : Rule) (Γ : Board) (σ : Solutions) (n : ℕ) → n ≤ 1000 → Brief σ p → OutcomeNarrow (perform limits p Γ σ n)
+perform-narrow : (p : Rule) (Γ : Board) (σ : Solutions) (n : ℕ) → n ≤ mostNumbers → Brief σ p → OutcomeNarrow (perform limits p Γ σ n)
 unfolding perform
 perform-narrow done Γ σ n h g = h
 perform-narrow (refuse r ts) Γ σ n h g = (h, g)
 perform-narrow (fresh f) Γ σ n h g =
-    cond-ind OutcomeNarrow (ltb n 1000) (λ e. perform-narrow (f n) Γ σ (suc n) (ltb-true n 1000 e) (g n)) (λ _. (h, omega arith))
+    cond-ind OutcomeNarrow (ltb n mostNumbers) (λ e. perform-narrow (f n) Γ σ (suc n) (ltb-true n mostNumbers e) (g n)) (λ _. (h, omega arith))
 perform-narrow (push e p) Γ σ n h g =
     cond-ind OutcomeNarrow (roomFor limits e Γ) (λ _. perform-narrow p (e ∷ Γ) σ n h g) (λ _. (h, omega arith))
 perform-narrow (solve k s p) Γ σ n h g =
     solving-ind OutcomeNarrow (find k σ) s
-    (cond-ind OutcomeNarrow (leb (solutionNodes σ + length s) 4096)
+    (cond-ind OutcomeNarrow (leb (solutionNodes σ + length s) mostNodes)
     (λ _. perform-narrow p Γ (σ ++ (_≔_ k s ∷ [])) n h (g (σ ++ (_≔_ k s ∷ [])))) (λ _. (h, omega arith)))
     (perform-narrow p Γ σ n h (g σ))
     (h, omega arith)
 perform-narrow (zonk t f) Γ σ n h g =
-    cond-ind OutcomeNarrow (leb (length (writeOut σ t)) 1024)
-    (λ e. perform-narrow (f (writeOut σ t)) Γ σ n h (g (leb-true (length (writeOut σ t)) 1024 e))) (λ _. (h, omega arith))
+    cond-ind OutcomeNarrow (leb (length (writeOut σ t)) mostWritten)
+    (λ e. perform-narrow (f (writeOut σ t)) Γ σ n h (g (leb-true (length (writeOut σ t)) mostWritten e))) (λ _. (h, omega arith))
 perform-narrow (look f) Γ σ n h g = perform-narrow (f Γ) Γ σ n h (g Γ)
 
 ---------------------------------------------------------------- instantiation
@@ -84,7 +96,7 @@ Below (isUnknown k) = k ≤ 9999
 Below isOther = Unit {0}
 
 -- unknowns are below the counter
-shown-below : (Plain : Type 0) (n : ℕ) (t : Ty) (v : View) → Shows v t → n ≤ 1000 → All (OK Plain n) t → Below v
+shown-below : (Plain : Type 0) (n : ℕ) (t : Ty) (v : View) → Shows v t → n ≤ mostNumbers → All (OK Plain n) t → Below v
 shown-below Plain n t (isArrow a b) s l h = tt
 shown-below Plain n t (isApp a b) s l h = tt
 shown-below Plain n t (isForall x b) s l h = tt
@@ -97,25 +109,25 @@ module _ (σ : Solutions) where
   openBody-brief left x b f c = λ u. c (substitute x (node 18 u) b) (substitute-length x (node 18 u) b 0)
   openBody-brief right x b f c = λ a. c (substitute x (node 17 a) b) (substitute-length x (node 17 a) b 0)
 
-  monotype-brief : (k : ℕ) (t : Ty) → k ≤ 9999 → length t ≤ 1024 → Brief σ (solveMonotype k t)
+  monotype-brief : (k : ℕ) (t : Ty) → k ≤ 9999 → length t ≤ mostWritten → Brief σ (solveMonotype k t)
   monotype-brief k t hk ht = cond-ind (Brief σ) (isMonotype t) (λ _ τ. tt) (λ _. omega arith)
 
-  instantiateBy-brief : (d : Side) (k : ℕ) (t : Ty) (again : Ty → Rule) (v : View) → Shows v t → k ≤ 9999 → length t ≤ 1024
-      → ((u : Ty) → length u ≤ 1024 → Brief σ (again u)) → Brief σ (instantiateBy d k t again v)
+  instantiateBy-brief : (d : Side) (k : ℕ) (t : Ty) (again : Ty → Rule) (v : View) → Shows v t → k ≤ 9999 → length t ≤ mostWritten
+      → ((u : Ty) → length u ≤ mostWritten → Brief σ (again u)) → Brief σ (instantiateBy d k t again v)
   instantiateBy-brief d k t again (isUnknown b) s hk ht c = λ Γ. cond-ind (Brief σ) (before k b Γ) (λ _ τ. tt) (λ _. monotype-brief k t hk ht)
   instantiateBy-brief d k t again (isArrow t₁ t₂) s hk ht c = λ a b τ. tt
   instantiateBy-brief d k t again (isApp t₁ t₂) s hk ht c = λ a b τ. tt
   instantiateBy-brief d k t again (isForall x b) s hk ht c = openBody-brief d x b again (λ u e. c u (omega (arith, ap length s)))
   instantiateBy-brief d k t again isOther s hk ht c = monotype-brief k t hk ht
 
-  instantiateFrom-brief : (m : ℕ) (d : Side) (k : ℕ) (t : Ty) → k ≤ 9999 → length t ≤ 1024 → Brief σ (instantiateFrom m d k t)
+  instantiateFrom-brief : (m : ℕ) (d : Side) (k : ℕ) (t : Ty) → k ≤ 9999 → length t ≤ mostWritten → Brief σ (instantiateFrom m d k t)
   unfolding instantiateFrom
   instantiateFrom-brief zero d k t hk ht = omega arith
   instantiateFrom-brief (suc m) d k t hk ht =
       instantiateBy-brief d k t (λ u. instantiateFrom m d k u) (view t) (view-shows t) hk ht (λ u hu. instantiateFrom-brief m d k u hk hu)
 
   -------------------------------------------------------------- comparisons
-  module _ (l r : Ty) (hl : length l ≤ 1024) (hr : length r ≤ 1024) where
+  module _ (l r : Ty) (hl : length l ≤ mostWritten) (hr : length r ≤ mostWritten) where
     mismatch-brief : Brief σ (mismatch l r)
     mismatch-brief = omega arith
 
@@ -176,11 +188,11 @@ afterFront-length (node k v ∷ t) = go (eqb k 14) (afterFront-length t)
 
 -- a type that a plan declares has at most as many nodes as a sheet has lines
 abbrev Short : Binding → Type 0
-Short (_∶_ x t) = length t ≤ 2000
+Short (_∶_ x t) = length t ≤ mostLines
 
 abbrev FoundShort : Option Ty → Type 0
 FoundShort none = Unit {0}
-FoundShort (some t) = length t ≤ 2000
+FoundShort (some t) = length t ≤ mostLines
 
 lookup-short : (x : ℕ) (bs : Bindings) → All Short bs → FoundShort (lookup x bs)
 unfolding lookup
@@ -228,7 +240,7 @@ module _ (σ : Solutions) where
     patternConstructor-brief x c t again none hx hc hk f = omega arith
     patternConstructor-brief x c t again (some k) hx hc hk f =
         instantiateConstructor-brief k (λ u. signatureFrom (length u) [] u (patternParts E c t again)) (λ u l.
-        signatureFrom-brief (length u) 2000 [] u (patternParts E c t again) (omega arith) (λ ps res m.
+        signatureFrom-brief (length u) mostLines [] u (patternParts E c t again) (omega arith) (λ ps res m.
         cond-ind (Brief σ) (eqb c (length ps)) (λ _. f ps) (λ _. omega arith)))
 
     patternBy-brief : (l : Triple) (t : Ty) (bs : Bindings) (again : List Ty → Bindings → Rule) → InRange l
@@ -331,7 +343,7 @@ module _ (σ : Solutions) (E : Env) (hE : All Short (E .constructors)) where
   checkBy-brief e t (isUnknown k) = λ u. tt
   checkBy-brief e t isOther = λ u. tt
 
-  applyBy-brief : (f : Ty) (e : Term) (c : Ty) (v : View) → length f ≤ 1024 → Brief σ (applyBy E f e c v)
+  applyBy-brief : (f : Ty) (e : Term) (c : Ty) (v : View) → length f ≤ mostWritten → Brief σ (applyBy E f e c v)
   applyBy-brief f e c (isArrow a b) h = tt
   applyBy-brief f e c (isForall x b) h = λ a. tt
   applyBy-brief f e c (isUnknown k) h = λ a b τ. tt
@@ -346,13 +358,13 @@ EndNarrow (refusedBy r ts) = Small r
 
 -- at most c entries taken
 abbrev RunNarrow : ℕ → Run → Type 0
-RunNarrow c (run ss d (state Γ σ n)) = (length ss ≤ c) × EndNarrow d × (n ≤ 1000)
+RunNarrow c (run ss d (state Γ σ n)) = (length ss ≤ c) × EndNarrow d × (n ≤ mostNumbers)
 
 add-narrow : (c : ℕ) (t : Step) (R : Run) → RunNarrow c R → RunNarrow (suc c) (addStep t R)
 add-narrow c t (run ss d (state Γ σ n)) h = (omega (arith, h .0), h .1, h .2)
 
 module _ (Plain : Type 0) (E : Env) (hE : EnvOK Plain E) (wE : EnvWhole E) (sE : All Short (E .constructors)) where
-  rule-brief : (Γ : Board) (σ : Solutions) (n : ℕ) → Inv Plain Γ σ n → n ≤ 1000 → (e : Entry) → EntryOK Plain n e → EntryWhole e → Brief σ (rule E e)
+  rule-brief : (Γ : Board) (σ : Solutions) (n : ℕ) → Inv Plain Γ σ n → n ≤ mostNumbers → (e : Entry) → EntryOK Plain n e → EntryWhole e → Brief σ (rule E e)
   unfolding inferApp
   rule-brief Γ σ n i l (tvar x) h w = tt
   rule-brief Γ σ n i l (var x t) h w = tt
@@ -366,13 +378,13 @@ module _ (Plain : Type 0) (E : Env) (hE : EnvOK Plain E) (wE : EnvWhole E) (sE :
 
   onward-narrow : (c : ℕ) (Q : Board → Solutions → ℕ → Type 0) (s : State) (e : Entry) (os : List Operation) (o : Outcome) (again : State → Run)
       → Kept Plain Q o → OutcomeWhole o → OutcomeNarrow o
-      → ((Γ₁ : Board) (σ₁ : Solutions) (n₁ : ℕ) → Inv Plain Γ₁ σ₁ n₁ → StateWhole (state Γ₁ σ₁ n₁) → n₁ ≤ 1000 → RunNarrow c (again (state Γ₁ σ₁ n₁)))
+      → ((Γ₁ : Board) (σ₁ : Solutions) (n₁ : ℕ) → Inv Plain Γ₁ σ₁ n₁ → StateWhole (state Γ₁ σ₁ n₁) → n₁ ≤ mostNumbers → RunNarrow c (again (state Γ₁ σ₁ n₁)))
       → RunNarrow (suc c) (onward limits E s e os o again)
   onward-narrow c Q s e os (finished (state Γ₁ σ₁ n₁)) again k w g f =
       add-narrow c (step s e os (finished (state Γ₁ σ₁ n₁))) (again (state Γ₁ σ₁ n₁)) (f Γ₁ σ₁ n₁ (k .0) w g)
   onward-narrow c Q s e os (refused r ts (state Γ₁ σ₁ n₁)) again k w g f = (omega arith, g .1, g .0)
 
-  run-narrow : (c : ℕ) (Γ : Board) (σ : Solutions) (n : ℕ) → Inv Plain Γ σ n → StateWhole (state Γ σ n) → n ≤ 1000
+  run-narrow : (c : ℕ) (Γ : Board) (σ : Solutions) (n : ℕ) → Inv Plain Γ σ n → StateWhole (state Γ σ n) → n ≤ mostNumbers
       → RunNarrow c (runFrom limits E c (state Γ σ n))
   unfolding runFrom
   run-narrow zero [] σ n i w l = (omega arith, tt, l)
@@ -387,12 +399,12 @@ module _ (Plain : Type 0) (E : Env) (hE : EnvOK Plain E) (wE : EnvWhole E) (sE :
       (λ Γ₁ σ₁ n₁ i₁ w₁ l₁. run-narrow c Γ₁ σ₁ n₁ i₁ w₁ l₁)
 
 ---------------------------------------------------------------- a plan
-end-small : (d : End) → EndNarrow d → (endNumber d ≤ 25) × (endDetails d .0 ≤ 9999) × (endDetails d .1 ≤ 1024)
+end-small : (d : End) → EndNarrow d → (endNumber d ≤ 25) × (endDetails d .0 ≤ 9999) × (endDetails d .1 ≤ mostWritten)
 end-small accepted h = omega arith
 end-small ceiling h = omega arith
 end-small (refusedBy r ts) h = h
 
-result-narrow : (c : ℕ) (plain : Bool) → c ≤ 10000 → (R : Run) → RunNarrow c R → Narrow (resultOf plain R .answer)
+result-narrow : (c : ℕ) (plain : Bool) → c ≤ highestCeiling → (R : Run) → RunNarrow c R → Narrow (resultOf plain R .answer)
 unfolding resultOf
 result-narrow c plain l (run ss d (state Γ σ n)) h =
     let e = end-small d (h .1) in
@@ -410,7 +422,7 @@ nodes-length : (ls : List Triple) → length (nodesOf ls) ≡ length ls
 nodes-length [] = refl
 nodes-length (l ∷ ls) = ap suc (nodes-length ls)
 
-bindings-short : (k : ℕ) (ls : List Triple) (es : List Declaration) → length ls ≤ 2000 → All Short (bindingsIn k ls es)
+bindings-short : (k : ℕ) (ls : List Triple) (es : List Declaration) → length ls ≤ mostLines → All Short (bindingsIn k ls es)
 unfolding bindingsIn
 bindings-short k ls [] h = tt
 bindings-short k ls (e ∷ es) h =
@@ -419,11 +431,11 @@ bindings-short k ls (e ∷ es) h =
     (λ _. (omega (arith, nodes-length t, length-take (e .count) (drop (e .line) ls), length-drop (e .line) ls), bindings-short k ls es h))
     (λ _. bindings-short k ls es h)
 
-plan-short : (ls : List Triple) → length ls ≤ 2000 → All Short (planOf ls .constructors)
+plan-short : (ls : List Triple) → length ls ≤ mostLines → All Short (planOf ls .constructors)
 unfolding planOf
 plan-short ls h = bindings-short 1 ls (declarations ls 0 0) h
 
-judge-narrow : (s : List ℕ) (c : ℕ) → c ≤ 10000 → check s ≡ Plan → Narrow (judge limits c (triples s) .answer)
+judge-narrow : (s : List ℕ) (c : ℕ) → c ≤ highestCeiling → check s ≡ Plan → Narrow (judge limits c (triples s) .answer)
 unfolding judge runOf checkType
 judge-narrow s c l e =
     let p : PlanOf = planOf (triples s) in
@@ -434,11 +446,11 @@ judge-narrow s c l e =
     (run-narrow (p .plain ≡ true) (envOf p) (plan-env p g) (w .0) (plan-short (triples s) (plan-few s e)) c first [] 0 (plan-inv p g) ((w .1, tt), tt) (omega arith))
 
 ---------------------------------------------------------------- a whole call
-before-run : (number line : ℕ) → number ≤ 25 → line ≤ 2001 → Narrow (refusedAt number line)
+before-run : (number line : ℕ) → number ≤ 25 → line ≤ mostLines + 1 → Narrow (refusedAt number line)
 before-run number line h k =
     record { number = h; line = k; taken = omega arith; fresh = omega arith; detail1 = omega arith; detail2 = omega arith; plain = omega arith }
 
-check-narrow : (s : List ℕ) (c : ℕ) (b : Buffers) → c ≤ 10000 → (k : Check) → check s ≡ k → checkLine k ≤ 2001 → Narrow (byCheck s c b k .answer)
+check-narrow : (s : List ℕ) (c : ℕ) (b : Buffers) → c ≤ highestCeiling → (k : Check) → check s ≡ k → checkLine k ≤ mostLines + 1 → Narrow (byCheck s c b k .answer)
 check-narrow s c b l Plan e h = judge-narrow s c l e
 check-narrow s c b l Length e h = before-run 3 0 (omega arith) (omega arith)
 check-narrow s c b l (Misspelt i) e h = before-run 4 i (omega arith) h
@@ -449,6 +461,6 @@ pub narrow : (s : List ℕ) (c : ℕ) (b : Buffers) → Narrow (call s c b .answ
 unfolding call
 narrow s c b =
     let N : Called → Type 0 = λ k. Narrow (k .answer) in
-    cond-ind N (ltb 10000 c) (λ _. before-run 1 0 (omega arith) (omega arith))
+    cond-ind N (ltb highestCeiling c) (λ _. before-run 1 0 (omega arith) (omega arith))
     (λ e. cond-ind N (tooShort b) (λ _. before-run 2 0 (omega arith) (omega arith))
-    (λ _. check-narrow s c b (ltb-false 10000 c e) (check s) refl (line-small s)))
+    (λ _. check-narrow s c b (ltb-false highestCeiling c e) (check s) refl (line-small s)))

@@ -1,14 +1,13 @@
 -- Two types written out one after the other, as Sub and InfApp do: which comes first shows nowhere. Assumes nothing.
 use mathlib.Core.Path.{_≡_, refl}
 use mathlib.Core.Bool.{Bool, true, false, cond}
-use mathlib.Core.List.{List, []}
+use mathlib.Core.List.{[]}
 use Prim.Native.Nat.{ℕ}
-use lib.Dec.{leb}
 use lib.ListN.{length}
 use Rattle.nodes.specs.Nodes.{Ty}
 use Rattle.judgment.specs.declared.TypeError.the-variants.{TypeTooLong}
 use Rattle.judgment.specs.Solutions.{Solutions, writeOut}
-use Rattle.judgment.specs.Board.{below, within, Board, Limits, Rule, zonk, Outcome, refused, state, Operation, perform, operations}
+use Rattle.judgment.specs.Board.{within, Board, Limits, Rule, zonk, refused, state, perform, operations}
 
 either-way : {A : Type 0} (a b : Bool) (x y : A) → cond a (cond b x y) y ≡ cond b (cond a x y) y
 either-way true b x y = refl

@@ -1,14 +1,14 @@
 -- The promise, proved: of any good start under any limits (`start-promise`), of a plan (`plan-promise`), and of every sheet that passes
 -- refusals 3 to 5 (`promise`). And raising the ceiling changes no result but 21 (`raise`). Assumes nothing.
-use Prim.Native.Nat.{ℕ, zero, suc, _+_, _≤_}
+use Prim.Native.Nat.{ℕ, _+_, _≤_}
 use native.Mathlib.Omega.{arith}
 use mathlib.Core.Path.{_≡_, refl, sym, _∙_, ap, subst, subst⁻¹}
 use mathlib.Core.Logic.{_≢_}
-use mathlib.Core.Bool.{Bool, true, false, cond}
+use mathlib.Core.Bool.{Bool, true}
 use mathlib.Core.List.{List, [], _∷_, _++_}
-use lib.ListN.{length, take, drop}
+use lib.ListN.{take, drop}
 use lib.Dec.{eqb}
-use Rattle.nodes.specs.Nodes.{Node, node, Ty, kind}
+use Rattle.nodes.specs.Nodes.{Node, Ty, kind}
 use Rattle.nodes.specs.Lists.{All, count}
 use Rattle.nodes.specs.Parts.{takeParts}
 use Rattle.nodes.proofs.ListLaws.{cond-ind, all-map, all-take, all-of-take, all-of-drop, count-append}
@@ -16,22 +16,20 @@ use Rattle.spelling.specs.declared.Triple.{Triple}
 use Rattle.kinds.specs.Kinds.{partsOf}
 use Rattle.grammar.specs.declared.Check.the-variants.{Plan}
 use Rattle.grammar.specs.Check.{check}
-use Rattle.sheet.specs.Plan.{triples, lineNode, nodesOf, Declaration, declarations, Binding, _∶_, Bindings, bindingsIn, placesOf, isPlain, Plan as PlanOf, planOf}
+use Rattle.sheet.specs.Plan.{triples, lineNode, Declaration, declarations, Binding, _∶_, Bindings, bindingsIn, placesOf, Plan as PlanOf, planOf}
 use Rattle.sheet.proofs.LineKinds.{no-unknown, plain-kinds}
-use Rattle.judgment.specs.declared.TypeError.the-variants.{TypeUnificationError}
-use Rattle.judgment.specs.Terms.{Term}
-use Rattle.judgment.specs.Solutions.{Solution, _≔_, Solutions, key, value, writeOut, Fine}
+use Rattle.judgment.specs.Solutions.{_≔_, Solutions, value, writeOut}
 use Rattle.judgment.specs.Board.{Entry, tvar, var, sub, inf, chk, infApp, Board, Limits, State, state}
 use Rattle.judgment.specs.Rules.{Env}
-use Rattle.judgment.specs.Run.{Step, End, accepted, ceiling, refusedBy, Run, run, steps, end, final, runFrom, checkType}
-use Rattle.judgment.specs.Result.{Result, endNumber, envOf, runOf, resultOf, judge, limits}
-use Rattle.judgment.specs.Promise.{taken, events, pushes, given, Follows, Quantifierless, Same, InFull, Promise}
-use Rattle.judgment.proofs.TypeLaws.{Lines, all-nodes}
+use Rattle.judgment.specs.Run.{End, ceiling, Run, run, steps, end, runFrom, checkType}
+use Rattle.judgment.specs.Result.{endNumber, envOf, runOf, resultOf, judge}
+use Rattle.judgment.specs.Promise.{taken, events, pushes, NotMet, Quantifierless, Same, InFull, Promise}
+use Rattle.judgment.specs.Good.{Fine, Lines, Mono, OK, Inv}
+use Rattle.judgment.proofs.TypeLaws.{all-nodes}
 use Rattle.judgment.proofs.SolutionLaws.{no-fine, ends, never-back, all-written}
-use Rattle.judgment.proofs.Invariant.{Mono, OK, Inv}
 use Rattle.judgment.proofs.RuleLaws.{Equal, BindingOK, EnvOK}
 use Rattle.judgment.proofs.Events.{Adds, run-adds, run-unmet}
-use Rattle.judgment.proofs.Full.{in-full, full-is, distinct-solved}
+use Rattle.judgment.proofs.Full.{in-full, full-is}
 use Rattle.judgment.proofs.Runs.{Empties, Accepted, FactsOf, run-facts, raise-ceiling}
 
 -- ---- any good start
@@ -44,14 +42,14 @@ same-types σ f (chk e t) h = tt
 same-types σ f (infApp g e t) h = tt
 
 module _ (plain : Bool) where
-  pub claim : (Γ₀ : Board) (σ₀ : Solutions) (n₀ : ℕ) (R : Run) → FactsOf (plain ≡ true) Γ₀ σ₀ R → Adds Γ₀ σ₀ R → All Rattle.judgment.specs.Promise.NotMet (events (steps R)) → Promise (state Γ₀ σ₀ n₀) plain R
+  pub claim : (Γ₀ : Board) (σ₀ : Solutions) (n₀ : ℕ) (R : Run) → FactsOf (plain ≡ true) Γ₀ σ₀ R → Adds Γ₀ σ₀ R → All NotMet (events (steps R)) → Promise (state Γ₀ σ₀ n₀) plain R
   unfolding count
   claim Γ₀ σ₀ n₀ (run ss d (state Γ σ n)) F A u =
       let f = F .inv .fine in
       record {
         never-met = u;
         all-given = A .0;
-        once = distinct-solved σ f;
+        once = f .once;
         ends = ends σ f;
         never-back = never-back σ f;
         written = λ t. (writeOut σ t, in-full σ f t);

@@ -15,7 +15,7 @@ use Rattle.nodes.specs.Nodes.{Ty}
 use Rattle.sheet.specs.Plan.{Binding, _∶_, Bindings}
 use Rattle.judgment.specs.Board.{Entry, var, Board, entryNodes, boardNodes, varNamed, orElse, findVar}
 use Rattle.judgment.specs.Rules.{insert}
-use Rattle.judgment.specs.AnyOrder.{nameOf, Distinct, Reordered, same, swap, under, then}
+use Rattle.judgment.proofs.OtherOrders.{nameOf, Distinct, Reordered, same, swap, under, then}
 use Rattle.judgment.proofs.TypeLaws.{eqb-true}
 use Rattle.judgment.proofs.Alike.{Alike, vars, Near}
 

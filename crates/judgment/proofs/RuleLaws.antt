@@ -1,29 +1,28 @@
 -- Every rule keeps the invariant; and a comparison that finishes is explained by what its rule pushed and solved.
 -- Assumes nothing.
 use Prim.Native.Nat.{ℕ, zero, suc, _+_, _≤_, _<_}
-use native.Mathlib.Nat.{le-refl, le-trans}
 use native.Mathlib.Omega.{arith}
 use mathlib.Core.Path.{_≡_, refl, sym, _∙_, ap, ap₂, subst, subst⁻¹}
-use mathlib.Core.Logic.{_≢_, _⊎_, inl, inr}
+use mathlib.Core.Logic.{_≢_, _⊎_}
 use mathlib.Core.Bool.{Bool, true, false, cond, not, _&&_, _||_, true≢false, false≢true}
 use mathlib.Core.Option.{Option, none, some}
-use mathlib.Core.List.{List, [], _∷_, _++_, append-nil, append-assoc}
-use lib.Dec.{T, eqb, leb, ltb}
+use mathlib.Core.List.{List, [], _∷_, _++_}
+use lib.Dec.{eqb, leb, ltb}
 use lib.ListN.{length}
 use Rattle.nodes.specs.Lists.{All}
-use Rattle.nodes.proofs.ListLaws.{cond-ind, all-map, all-append, all-split, all-of}
-use Rattle.nodes.specs.Nodes.{Node, node, Ty, kind, number}
-use Rattle.judgment.specs.Types.{unknown, con, arrow, app, forall, Int, BoolT, UnitT, isNode, eqTy, View, isArrow, isApp, isForall, isUnknown, isOther, view, occurs, isMonotype, substitute, Renaming, rename, frontNames, afterFront}
-use Rattle.judgment.proofs.TypeLaws.{both, eqb-true, eqb-false, eqb-same, eqTy-true, Shows, view-shows, all-substitute, all-rename, all-afterFront, Lines, all-nodes, all-part, all-after, TermHas, term-has, LambdaHas, lambda-has}
+use Rattle.nodes.proofs.ListLaws.{cond-ind, all-map, all-append, all-split}
+use Rattle.nodes.specs.Nodes.{Node, node, Ty, kind}
+use Rattle.judgment.specs.Types.{unknown, con, forall, isNode, eqTy, View, isArrow, isApp, isForall, isUnknown, isOther, view, occurs, isMonotype, substitute, Renaming, rename, frontNames, afterFront}
+use Rattle.judgment.proofs.TypeLaws.{both, eqb-false, eqb-same, eqTy-true, Shows, view-shows, all-substitute, all-rename, all-afterFront, all-part, all-after, TermHas, term-has, LambdaHas, lambda-has}
 use Rattle.spelling.specs.declared.Triple.{Triple}
-use Rattle.sheet.specs.Plan.{lineNode}
 use Rattle.judgment.specs.Terms.{Term, part, afterParts, Lambda, lambdaOf, TermView, isVar, isLitInt, isLambda, isApply, isTypeLambda, isConstructor, isCase, isBinOp, isIf, isIntrinsic, isNone, termView, PatternView, isWildcard, isPatternVar, isPatternConstructor, patternView}
-use Rattle.judgment.specs.Solutions.{Solution, _≔_, Solutions, key, value, find, writeOut, Avoids, Free, keysAfter, keys, Fine}
-use Rattle.judgment.proofs.SolutionLaws.{all-written, written-append, written-node, written-is-free, solved-now}
-use Rattle.judgment.specs.Board.{Entry, tvar, var, sub, inf, chk, infApp, Board, varNamed, orElse, findVar, before, Rule, done, refuse, fresh, push, solve, zonk, look}
+use Rattle.judgment.specs.Solutions.{_≔_, Solutions, value, writeOut, solvedUnknowns}
+use Rattle.judgment.proofs.SolutionLaws.{other-free, all-written, written-append, written-node, written-is-free, solved-now}
+use Rattle.judgment.specs.Board.{Entry, tvar, var, sub, inf, chk, infApp, Board, varNamed, orElse, findVar, before, Rule, done, push}
 use Rattle.sheet.specs.Plan.{Binding, _∶_, Bindings, lookup}
-use Rattle.judgment.specs.Rules.{Env, Side, left, right, onSide, offSide, openBody, solveMonotype, instantiateBy, instantiateFrom, instantiate, mismatch, unknownLeft, unknownRight, forallLeft, forallRight, subtypeBy, subtype, openNames, instantiateConstructor, signatureBy, signatureFrom, extractSignature, insert, pushVars, patternParts, patternConstructor, patternBy, checkPatterns, checkArms, variable, constructor, inferBy, synthesize, checkArrow, checkBy, applyBy, inferApp, rule}
-use Rattle.judgment.proofs.Invariant.{Mono, NotClash, OK, EntryOK, ok-later, all-later, lines-later, SolutionOK, Inv, SolveOK, Good}
+use Rattle.judgment.specs.Rules.{Env, Side, left, right, onSide, offSide, openBody, solveMonotype, instantiateBy, instantiateFrom, mismatch, unknownLeft, unknownRight, forallLeft, forallRight, subtypeBy, subtype, openNames, instantiateConstructor, signatureBy, signatureFrom, insert, pushVars, patternParts, patternConstructor, patternBy, checkPatterns, checkArms, variable, constructor, inferBy, synthesize, checkArrow, checkBy, applyBy, inferApp, rule}
+use Rattle.judgment.specs.Good.{Avoids, Free, Fine, Lines, Mono, OK, EntryOK, SolutionOK, Inv}
+use Rattle.judgment.proofs.Invariant.{all-later, lines-later, SolveOK, Good}
 
 ---------------------------------------------------------------- small facts
 pub occurs-false : (k : ℕ) (t : Ty) → occurs k t ≡ false → All (Avoids k) t
@@ -46,17 +45,13 @@ all-zip : (k : ℕ) (ks : List ℕ) (t : Ty) → All (Avoids k) t → All (Free 
 all-zip k ks [] h g = tt
 all-zip k ks (n ∷ t) h g = ((h .0, g .0), all-zip k ks t (h .1) (g .1))
 
--- a node of another kind is no unknown
-free-node : (ks : List ℕ) (j v : ℕ) → j ≢ 17 → Free ks (node j v)
-free-node ks j v h = all-of (λ k. Avoids k (node j v)) ks (λ k m. ap (λ b. b && eqb k v) (eqb-false 17 j (λ e. h (sym e))))
-
 -- an unknown made later than all of ks
 free-new : (ks : List ℕ) (n m : ℕ) → n ≤ m → All (λ k. k < n) ks → Free ks (node 17 m)
 free-new ks n m l h = all-map (λ k p. eqb-false k m (λ e. omega arith)) ks h
 
-keys-below : (Plain : Type 0) (ks : List ℕ) (σ : Solutions) (n : ℕ) → All (λ k. k < n) ks → All (SolutionOK Plain n) σ → All (λ k. k < n) (keysAfter ks σ)
-keys-below Plain ks [] n h g = h
-keys-below Plain ks (_≔_ k s ∷ σ) n h g = keys-below Plain (k ∷ ks) σ n (g .0 .0, h) (g .1)
+solved-below : (Plain : Type 0) (σ : Solutions) (n : ℕ) → All (SolutionOK Plain n) σ → All (λ k. k < n) (solvedUnknowns σ)
+solved-below Plain [] n g = tt
+solved-below Plain (_≔_ k s ∷ σ) n g = (g .0 .0, solved-below Plain σ n (g .1))
 
 avoids-back : (j k : ℕ) → Avoids j (node 17 k) → Avoids k (node 17 j)
 avoids-back j k h = eqb-false k j (λ e. true≢false (sym (eqb-same j) ∙ subst (λ i. eqb j i ≡ false) e h))
@@ -102,11 +97,11 @@ module _ (Plain : Type 0) where
 
   -- the unknown k may be given a solution made of t
   record Ready (σ : Solutions) (n k : ℕ) (t : Ty) : Type 0 where
-    below : All (λ j. j < n) (keys σ)
-    unsolved : Free (keys σ) (node 17 k)
+    below : All (λ j. j < n) (solvedUnknowns σ)
+    unsolved : Free (solvedUnknowns σ) (node 17 k)
     made : k < n
     ok : All (OK Plain n) t
-    free : All (Free (k ∷ keys σ)) t
+    free : All (Free (k ∷ solvedUnknowns σ)) t
 
   solve-ready : {σ : Solutions} {n k : ℕ} {t : Ty} → Ready σ n k t → All Mono t → SolveOK Plain σ n k t
   solve-ready r m = record { unsolved = r .unsolved; made = r .made; free = r .free; ok = r .ok; mono = m }
@@ -117,7 +112,7 @@ module _ (Plain : Type 0) where
   solve-pair j h₁ h₂ h₃ {σ} {n} {k} r = record {
     unsolved = r .unsolved;
     made = omega (arith, r .made);
-    free = (free-node (k ∷ keys σ) j 0 h₁, (free-new (k ∷ keys σ) n n (omega arith) (r .made, r .below), (free-new (k ∷ keys σ) n (suc n) (omega arith) (r .made, r .below), tt)));
+    free = (other-free (k ∷ solvedUnknowns σ) j 0 h₁, (free-new (k ∷ solvedUnknowns σ) n n (omega arith) (r .made, r .below), (free-new (k ∷ solvedUnknowns σ) n (suc n) (omega arith) (r .made, r .below), tt)));
     ok = ((λ e. absurd (h₁ e), λ _. (h₂, h₃)), (unknown-ok (suc (suc n)) n (omega arith), (unknown-ok (suc (suc n)) (suc n) (omega arith), tt)));
     mono = (h₂, (omega arith, (omega arith, tt)));
   }
@@ -158,22 +153,22 @@ module _ (Plain : Type 0) where
         ∙ written-join (after j n ++ τ) j (unknown n) (unknown (suc n)) t₁ t₂ h₁ p q
         ∙ ap (writeOut (after j n ++ τ)) (sym e)
 
-    ready-body : (x : ℕ) (b : Ty) (n : ℕ) (u : Node) → Ready σ n k (forall x b) → OK Plain (suc n) u → Free (k ∷ keys σ) u → Ready σ (suc n) k (substitute x u b)
+    ready-body : (x : ℕ) (b : Ty) (n : ℕ) (u : Node) → Ready σ n k (forall x b) → OK Plain (suc n) u → Free (k ∷ solvedUnknowns σ) u → Ready σ (suc n) k (substitute x u b)
     ready-body x b n u r h g = record {
-      below = all-map (λ j l. omega (arith, l)) (keys σ) (r .below);
+      below = all-map (λ j l. omega (arith, l)) (solvedUnknowns σ) (r .below);
       unsolved = r .unsolved;
       made = omega (arith, r .made);
       ok = all-substitute (OK Plain (suc n)) x u b h (all-later Plain (omega arith) b (r .ok .1));
-      free = all-substitute (Free (k ∷ keys σ)) x u b g (r .free .1);
+      free = all-substitute (Free (k ∷ solvedUnknowns σ)) x u b g (r .free .1);
     }
 
     openBody-good : (d : Side) (x : ℕ) (b : Ty) (again : Ty → Rule) (Γ : Board) (n : ℕ) → Ready σ n k (forall x b)
         → ((t′ : Ty) (Γ′ : Board) (n′ : ℕ) → Ready σ n′ k t′ → Good Plain (again t′) Γ′ σ n′ Q)
         → Good Plain (openBody d x b again) Γ σ n Q
     openBody-good left x b again Γ n r f =
-        (tt, f _ _ _ (ready-body x b n (node 18 n) r (omega arith) (free-node (k ∷ keys σ) 18 n (omega arith))))
+        (tt, f _ _ _ (ready-body x b n (node 18 n) r (omega arith) (other-free (k ∷ solvedUnknowns σ) 18 n (omega arith))))
     openBody-good right x b again Γ n r f =
-        (tt, (tt, f _ _ _ (ready-body x b n (node 17 n) r (unknown-ok (suc n) n (omega arith)) (free-new (k ∷ keys σ) n n (omega arith) (r .made, r .below)))))
+        (tt, (tt, f _ _ _ (ready-body x b n (node 17 n) r (unknown-ok (suc n) n (omega arith)) (free-new (k ∷ solvedUnknowns σ) n n (omega arith) (r .made, r .below)))))
 
     instantiateBy-good : (d : Side) (t : Ty) (again : Ty → Rule) (v : View) → Shows v t → (Γ : Board) (n : ℕ) → Ready σ n k t
         → ((Γ′ : Board) (σ′ : Solutions) (n′ : ℕ) → Joins (unknown k) t Γ′ σ′ n′ → Q Γ′ σ′ n′)
@@ -194,8 +189,8 @@ module _ (Plain : Type 0) where
         ))
         (λ _. monotype-good t Γ n r c)
       where
-        u : Free (k ∷ keys σ) (node 17 b)
-        u = subst (All (Free (k ∷ keys σ))) e (r .free) .0
+        u : Free (k ∷ solvedUnknowns σ) (node 17 b)
+        u = subst (All (Free (k ∷ solvedUnknowns σ))) e (r .free) .0
     instantiateBy-good d t again (isArrow t₁ t₂) e Γ n r c f =
         let h = pair-ok 13 t₁ t₂ t n (r .ok) e in (
           pair-solve 13 n t r (omega arith) (omega arith) (omega arith),
@@ -250,11 +245,11 @@ module _ (Plain : Type 0) where
 
   -------------------------------------------------------------- comparisons
   record Sides (σ : Solutions) (n : ℕ) (l r : Ty) : Type 0 where
-    below : All (λ j. j < n) (keys σ)
+    below : All (λ j. j < n) (solvedUnknowns σ)
     ok-l : All (OK Plain n) l
     ok-r : All (OK Plain n) r
-    free-l : All (Free (keys σ)) l
-    free-r : All (Free (keys σ)) r
+    free-l : All (Free (solvedUnknowns σ)) l
+    free-r : All (Free (solvedUnknowns σ)) r
 
   module _ (σ : Solutions) (n : ℕ) (l r : Ty) (S : Sides σ n l r) (Γ : Board) where
     abbrev Goal : Rule → Type 0
@@ -270,13 +265,13 @@ module _ (Plain : Type 0) where
     pair-equal j a₁ a₂ b₁ b₂ h e f ω p q =
         ap (writeOut ω) e ∙ written-join ω j a₁ a₂ b₁ b₂ h p q ∙ ap (writeOut ω) (sym f)
 
-    ready : (k : ℕ) (u t : Ty) → u ≡ unknown k → All (OK Plain n) u → All (Free (keys σ)) u → All (OK Plain n) t → All (Free (keys σ)) t → occurs k t ≡ false → Ready σ n k t
+    ready : (k : ℕ) (u t : Ty) → u ≡ unknown k → All (OK Plain n) u → All (Free (solvedUnknowns σ)) u → All (OK Plain n) t → All (Free (solvedUnknowns σ)) t → occurs k t ≡ false → Ready σ n k t
     ready k u t e ok-u free-u ok-t free-t o = record {
       below = S .below;
-      unsolved = subst (All (Free (keys σ))) e free-u .0;
+      unsolved = subst (All (Free (solvedUnknowns σ))) e free-u .0;
       made = subst (All (OK Plain n)) e ok-u .0 .0 refl;
       ok = ok-t;
-      free = all-zip k (keys σ) t (occurs-false k t o) free-t;
+      free = all-zip k (solvedUnknowns σ) t (occurs-false k t o) free-t;
     }
 
     forallRight-good : (x : ℕ) (b : Ty) → r ≡ forall x b → Goal (forallRight l r x b)
@@ -369,7 +364,7 @@ module _ (Plain : Type 0) where
 
       sides : Sides σ n l r
       sides = record {
-        below = keys-below Plain [] σ n tt (i .solutions);
+        below = solved-below Plain σ n (i .solutions);
         ok-l = written-ok Γ σ n s i hs;
         ok-r = written-ok Γ σ n t i ht;
         free-l = written-is-free σ (i .fine) s;
@@ -623,7 +618,7 @@ module _ (Plain : Type 0) where
     checkBy-good e t (isUnknown k) s he ht = synthesize-good e t he ht
     checkBy-good e t isOther s he ht = synthesize-good e t he ht
 
-    applyBy-good : (f : Ty) (e : Term) (c : Ty) (v : View) → Shows v f → All (OK Plain n) f → All (Free (keys σ)) f → Lines (OK Plain n) e → All (OK Plain n) c
+    applyBy-good : (f : Ty) (e : Term) (c : Ty) (v : View) → Shows v f → All (OK Plain n) f → All (Free (solvedUnknowns σ)) f → Lines (OK Plain n) e → All (OK Plain n) c
         → Keeps (applyBy E f e c v) Γ σ n
     applyBy-good f e c (isArrow a b) s hf free he hc =
         let g = all-split (OK Plain n) a b (subst (All (OK Plain n)) s hf .1) in
@@ -645,8 +640,8 @@ module _ (Plain : Type 0) where
         tt,
         (
           solve-pair 13 (omega arith) (omega arith) (omega arith) {t = []} (record {
-            below = keys-below Plain [] σ n tt (i .solutions);
-            unsolved = subst (All (Free (keys σ))) s free .0;
+            below = solved-below Plain σ n (i .solutions);
+            unsolved = subst (All (Free (solvedUnknowns σ))) s free .0;
             made = subst (All (OK Plain n)) s hf .0 .0 refl;
             ok = tt;
             free = tt;

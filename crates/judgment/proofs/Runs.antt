@@ -2,29 +2,22 @@
 -- Assumes nothing.
 use Prim.Native.Nat.{ℕ, zero, suc, _+_, _≤_, _<_}
 use native.Mathlib.Omega.{arith}
-use mathlib.Core.Path.{_≡_, refl, sym, _∙_, ap, ap₂, subst, subst⁻¹}
-use mathlib.Core.Logic.{_≢_, _⊎_, inl, inr}
-use mathlib.Core.Bool.{Bool, true, false, cond}
+use mathlib.Core.Path.{_≡_, refl, sym, _∙_, ap, subst, subst⁻¹}
+use mathlib.Core.Logic.{_≢_, _⊎_}
 use mathlib.Core.List.{List, [], _∷_, _++_, append-nil, append-assoc}
-use mathlib.Core.WellFounded.{Acc}
 use Rattle.nodes.specs.Lists.{All}
-use Rattle.nodes.proofs.ListLaws.{all-map, all-split}
-use Rattle.nodes.specs.Nodes.{Node, node, Ty, kind, number}
-use Rattle.spelling.specs.declared.Triple.{Triple}
-use Rattle.sheet.specs.Plan.{lineNode}
-use Rattle.judgment.specs.Terms.{Term}
-use Rattle.judgment.proofs.TypeLaws.{Lines}
-use Rattle.judgment.specs.declared.TypeError.{TypeError}
-use Rattle.judgment.specs.declared.TypeError.the-variants.{TypeUnificationError}
-use Rattle.judgment.specs.Solutions.{Solution, _≔_, Solutions, key, value, writeOut, keys, Fine}
-use Rattle.judgment.proofs.SolutionLaws.{ends, never-back, all-written, written-again}
+use Rattle.nodes.proofs.ListLaws.{all-split}
+use Rattle.nodes.specs.Nodes.{Ty}
+use Rattle.judgment.specs.Solutions.{_≔_, Solutions, writeOut}
+use Rattle.judgment.proofs.SolutionLaws.{written-again}
 use Rattle.judgment.specs.Promise.{taken}
 use Rattle.judgment.specs.Board.{Entry, tvar, var, sub, inf, chk, infApp, Board, Limits, Operation, State, state, Outcome, finished, refused, perform, operations}
-use Rattle.sheet.specs.Plan.{Binding, _∶_, Bindings}
+use Rattle.sheet.specs.Plan.{_∶_}
 use Rattle.judgment.specs.Rules.{Env, rule}
-use Rattle.judgment.specs.Run.{Step, step, End, accepted, ceiling, refusedBy, Run, run, steps, end, final, addStep, onto, onward, runFrom, checkType}
-use Rattle.judgment.proofs.Invariant.{Mono, NotClash, OK, EntryOK, SolutionOK, Inv, Kept, perform-kept, Grown, perform-grows}
-use Rattle.judgment.proofs.RuleLaws.{Equal, Joins, BindingOK, EnvOK, Explains, rule-good}
+use Rattle.judgment.specs.Run.{Step, step, End, accepted, ceiling, refusedBy, Run, run, steps, end, final, addStep, onto, onward, runFrom}
+use Rattle.judgment.specs.Good.{Fine, Inv}
+use Rattle.judgment.proofs.Invariant.{NotClash, Kept, perform-kept, Grown, perform-grows}
+use Rattle.judgment.proofs.RuleLaws.{Equal, EnvOK, Explains, rule-good}
 
 abbrev pub Empties : End → Board → Type 0
 Empties accepted Γ = Γ ≡ []

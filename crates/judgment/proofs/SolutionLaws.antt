@@ -5,22 +5,23 @@ use native.Mathlib.Nat.{not-suc-le-zero}
 use native.Mathlib.Omega.{arith}
 use mathlib.Core.Path.{_≡_, refl, sym, _∙_, ap, ap₂, subst, subst⁻¹}
 use mathlib.Core.Logic.{_≢_, _⊎_, inl, inr}
-use mathlib.Core.Bool.{Bool, true, false, cond, not, _&&_, _||_, false≢true, true≢false}
+use mathlib.Core.Bool.{Bool, true, false, cond, _&&_, _||_, false≢true, true≢false}
 use mathlib.Core.Option.{Option, none, some, Option·none-ne-some}
 use mathlib.Core.List.{List, [], _∷_, _++_, append-nil, append-assoc}
 use mathlib.Core.WellFounded.{Acc, Acc·intro}
-use lib.Dec.{T, eqb}
+use lib.Dec.{eqb}
 use lib.ListN.{length, length-append}
 use Rattle.nodes.specs.Lists.{All, In}
-use Rattle.nodes.proofs.ListLaws.{cond-ind, all-map, all-append, all-in, all-of}
-use Rattle.nodes.specs.Nodes.{Node, node, Ty, kind, number}
-use Rattle.judgment.specs.Types.{unknown, isNode, occurs, isMonotype}
-use Rattle.judgment.proofs.TypeLaws.{eqb-true, eqb-same, eqb-false, isNode-true}
+use Rattle.nodes.proofs.ListLaws.{all-map, all-append, all-in, all-of}
+use Rattle.nodes.specs.Nodes.{Node, node, Ty}
+use Rattle.judgment.specs.Types.{unknown}
+use Rattle.judgment.proofs.TypeLaws.{eqb-true, eqb-same, eqb-false}
 use Rattle.judgment.specs.Promise.{Follows, Leads, one, more}
-use Rattle.judgment.specs.Solutions.{Solution, _≔_, Solutions, key, value, find, orUnknown, link, links, known, isSolved, anySolved, writeOutBy, writeOut, Avoids, Free, keysAfter, keys, Distinct, solvedUnknowns, Under, Fine}
+use Rattle.judgment.specs.Solutions.{Solution, _≔_, Solutions, key, value, find, orUnknown, link, links, known, isSolved, anySolved, writeOutBy, writeOut, Distinct, solvedUnknowns}
+use Rattle.judgment.specs.Good.{Avoids, Free, Under, Fine}
 
 ---------------------------------------------------------------- finding
-in-solved : (σ : Solutions) (x : Solution) → In x σ → In (key x) (solvedUnknowns σ)
+pub in-solved : (σ : Solutions) (x : Solution) → In x σ → In (key x) (solvedUnknowns σ)
 in-solved [] x m = absurd m
 in-solved (_≔_ j r ∷ σ) x (inl e) = inl (ap key e)
 in-solved (_≔_ j r ∷ σ) x (inr m) = inr (in-solved σ x m)
@@ -42,32 +43,23 @@ find-in (_≔_ j r ∷ σ) d x (inl e) =
 find-in (_≔_ j r ∷ σ) d x (inr m) =
     ap (λ (b : Bool). cond b (some r) (find (key x) σ)) (eqb-false j (key x) (all-in (λ i. j ≢ i) (solvedUnknowns σ) (key x) (in-solved σ x m) (d .0))) ∙ find-in σ (d .1) x m
 
--- what no unknown of ks stands in, is Free of them
-pub keys-keep : (ks : List ℕ) (σ : Solutions) (n : Node) → Free (keysAfter ks σ) n → Free ks n
-keys-keep ks [] n h = h
-keys-keep ks (_≔_ k s ∷ σ) n h = keys-keep (k ∷ ks) σ n h .1
-
-find-free : (ks : List ℕ) (σ : Solutions) (k : ℕ) → Free (keysAfter ks σ) (node 17 k) → find k σ ≡ none
+pub find-none : (σ : Solutions) (k : ℕ) → Free (solvedUnknowns σ) (node 17 k) → find k σ ≡ none
 unfolding find
-find-free ks [] k h = refl
-find-free ks (_≔_ j s ∷ σ) k h =
-    ap {B = Option Ty} (λ b. cond b (some s) (find k σ)) (keys-keep (j ∷ ks) σ (node 17 k) h .0) ∙ find-free (j ∷ ks) σ k h
+find-none [] k h = refl
+find-none (_≔_ j s ∷ σ) k h = ap {B = Option Ty} (λ b. cond b (some s) (find k σ)) (h .0) ∙ find-none σ k (h .1)
 
-pub find-none : (σ : Solutions) (k : ℕ) → Free (keys σ) (node 17 k) → find k σ ≡ none
-find-none σ k h = find-free [] σ k h
-
-pub find-none-free : (ks : List ℕ) (σ : Solutions) (k : ℕ) → Free ks (node 17 k) → find k σ ≡ none → Free (keysAfter ks σ) (node 17 k)
+pub find-none-free : (σ : Solutions) (k : ℕ) → find k σ ≡ none → Free (solvedUnknowns σ) (node 17 k)
 unfolding find
-find-none-free ks [] k h e = h
-find-none-free ks (_≔_ j r ∷ σ) k h e = go (eqb j k) refl e (λ p. find-none-free (j ∷ ks) σ k p)
+find-none-free [] k e = tt
+find-none-free (_≔_ j r ∷ σ) k e = go (eqb j k) refl e (find-none-free σ k)
   where
-    go : (b : Bool) → eqb j k ≡ b → cond b (some r) (find k σ) ≡ none → (Free (j ∷ ks) (node 17 k) → find k σ ≡ none → Free (keysAfter (j ∷ ks) σ) (node 17 k)) → Free (keysAfter (j ∷ ks) σ) (node 17 k)
+    go : (b : Bool) → eqb j k ≡ b → cond b (some r) (find k σ) ≡ none → (find k σ ≡ none → Free (solvedUnknowns σ) (node 17 k)) → Free (j ∷ solvedUnknowns σ) (node 17 k)
     go true p q f = absurd (Option·none-ne-some r (sym q))
-    go false p q f = f (p, h) q
+    go false p q f = (p, f q)
 
 ---------------------------------------------------------------- a node that is a solved unknown, and one that is not
 -- a node of another kind is no unknown
-other-free : (ks : List ℕ) (j v : ℕ) → j ≢ 17 → Free ks (node j v)
+pub other-free : (ks : List ℕ) (j v : ℕ) → j ≢ 17 → Free ks (node j v)
 other-free ks j v h = all-of (λ k. Avoids k (node j v)) ks (λ k m. ap (λ b. b && eqb k v) (eqb-false 17 j (λ e. h (sym e))))
 
 module _ (σ : Solutions) where
@@ -91,20 +83,20 @@ module _ (σ : Solutions) where
       go true p (some s) q e = absurd (true≢false e)
       go false p o q e = refl
 
-  free-unsolved : (n : Node) → Free (keys σ) n → isSolved σ n ≡ false
+  free-unsolved : (n : Node) → Free (solvedUnknowns σ) n → isSolved σ n ≡ false
   free-unsolved (node k v) h = go (eqb k 17) refl
     where
       go : (b : Bool) → eqb k 17 ≡ b → cond b (known (find v σ)) false ≡ false
-      go true e = ap known (find-none σ v (subst (λ (j : ℕ). Free (keys σ) (node j v)) (eqb-true k 17 e) h))
+      go true e = ap known (find-none σ v (subst (λ (j : ℕ). Free (solvedUnknowns σ) (node j v)) (eqb-true k 17 e) h))
       go false e = refl
 
-  unsolved-free : (n : Node) → isSolved σ n ≡ false → Free (keys σ) n
+  unsolved-free : (n : Node) → isSolved σ n ≡ false → Free (solvedUnknowns σ) n
   unsolved-free (node k v) h = go (eqb k 17) refl (find v σ) refl h
     where
-      go : (b : Bool) → eqb k 17 ≡ b → (o : Option Ty) → find v σ ≡ o → cond b (known o) false ≡ false → Free (keys σ) (node k v)
-      go true e none q h = subst⁻¹ (λ (j : ℕ). Free (keys σ) (node j v)) (eqb-true k 17 e) (find-none-free [] σ v tt q)
+      go : (b : Bool) → eqb k 17 ≡ b → (o : Option Ty) → find v σ ≡ o → cond b (known o) false ≡ false → Free (solvedUnknowns σ) (node k v)
+      go true e none q h = subst⁻¹ (λ (j : ℕ). Free (solvedUnknowns σ) (node j v)) (eqb-true k 17 e) (find-none-free σ v q)
       go true e (some s) q h = absurd (true≢false h)
-      go false e o q h = other-free (keys σ) k v (λ p. true≢false (sym (ap (λ (j : ℕ). eqb j 17) p) ∙ e))
+      go false e o q h = other-free (solvedUnknowns σ) k v (λ p. true≢false (sym (ap (λ (j : ℕ). eqb j 17) p) ∙ e))
 
 ---------------------------------------------------------------- links, one after the other
 module _ (σ : Solutions) where
@@ -166,12 +158,12 @@ pub written-append : (σ : Solutions) (s t : Ty) → writeOut σ (s ++ t) ≡ wr
 written-append σ s t =
     written-times σ (s ++ t) ∙ times-append σ (length σ) s t ∙ sym (ap₂ {C = Ty} (λ x y. x ++ y) (written-times σ s) (written-times σ t))
 
-pub written-free : (σ : Solutions) (t : Ty) → All (Free (keys σ)) t → writeOut σ t ≡ t
+pub written-free : (σ : Solutions) (t : Ty) → All (Free (solvedUnknowns σ)) t → writeOut σ t ≡ t
 written-free σ t h = written-times σ t ∙ times-still σ (length σ) t (all-map (free-unsolved σ) t h)
 
 -- a node that is no unknown stays
 pub written-node : (σ : Solutions) (j v : ℕ) → j ≢ 17 → writeOut σ (node j v ∷ []) ≡ node j v ∷ []
-written-node σ j v h = written-free σ (node j v ∷ []) (other-free (keys σ) j v h, tt)
+written-node σ j v h = written-free σ (node j v ∷ []) (other-free (solvedUnknowns σ) j v h, tt)
 
 ---------------------------------------------------------------- what holds of every node is kept
 module _ (P : Node → Type 0) (σ : Solutions) (hσ : All (λ x. All P (value x)) σ) where
@@ -219,9 +211,9 @@ module _ (σ : Solutions) (f : Fine σ) where
   low-in x m = all-in (λ y. f .rank (key y) < length σ) σ x m (f .low)
 
   -- a written-out type has none of the solved unknowns
-  pub written-is-free : (t : Ty) → All (Free (keys σ)) (writeOut σ t)
+  pub written-is-free : (t : Ty) → All (Free (solvedUnknowns σ)) (writeOut σ t)
   written-is-free t =
-      subst⁻¹ (All (Free (keys σ))) (written-times σ t)
+      subst⁻¹ (All (Free (solvedUnknowns σ))) (written-times σ t)
       (all-map (unsolved-free σ) (times σ (length σ) t) (settle (length σ) t (all-of (Under (f .rank) σ (length σ)) t (λ n m j s e i. low-in (_≔_ j s) i))))
 
   -- a solved unknown is, written out, its solution written out
@@ -268,14 +260,10 @@ never σ k (Acc·intro x h) l = back x l (λ j p. never σ j (h j p))
 pub never-back : (σ : Solutions) → Fine σ → (k : ℕ) → Leads σ k k → ⊥
 never-back σ f k l = never σ k (ends σ f k) l
 
-pub unsolved : (σ : Solutions) (k : ℕ) → Free (keys σ) (node 17 k) → writeOut σ (unknown k) ≡ unknown k
+pub unsolved : (σ : Solutions) (k : ℕ) → Free (solvedUnknowns σ) (node 17 k) → writeOut σ (unknown k) ≡ unknown k
 unsolved σ k h = written-free σ (unknown k) (h, tt)
 
 ---------------------------------------------------------------- one more solution
-pub keys-snoc : (ks : List ℕ) (σ : Solutions) (k : ℕ) (s : Ty) → keysAfter ks (σ ++ (_≔_ k s ∷ [])) ≡ k ∷ keysAfter ks σ
-keys-snoc ks [] k s = refl
-keys-snoc ks (_≔_ j r ∷ σ) k s = keys-snoc (j ∷ ks) σ k s
-
 pub no-fine : Fine []
 no-fine = record { rank = λ k. 0; once = tt; low = tt; falls = tt }
 
@@ -286,25 +274,24 @@ in-snoc (z ∷ σ) x y (inl e) = inl (inl e)
 in-snoc (z ∷ σ) x y (inr m) = elim (in-snoc σ x y m) [ inl i ↦ inl (inr i) | inr e ↦ inr e ]
 
 -- a solved unknown is not free
-in-avoids : (σ : Solutions) → Distinct (solvedUnknowns σ) → (x : Solution) → In x σ → Free (keys σ) (node 17 (key x)) → ⊥
-in-avoids σ d x m h = Option·none-ne-some (value x) (sym (find-none σ (key x) h) ∙ find-in σ d x m)
+pub in-avoids : (σ : Solutions) (x : Solution) → In x σ → Free (solvedUnknowns σ) (node 17 (key x)) → ⊥
+in-avoids σ x m h = true≢false (sym (eqb-same (key x)) ∙ all-in (λ k. Avoids k (node 17 (key x))) (solvedUnknowns σ) (key x) (in-solved σ x m) h)
 
 free-one : (k : ℕ) (ks : List ℕ) → Free (k ∷ ks) (node 17 k) → ⊥
 free-one k ks h = true≢false (sym (eqb-same k) ∙ h .0)
 
-distinct-snoc : (ks : List ℕ) (σ : Solutions) (k : ℕ) (s : Ty) → Distinct (solvedUnknowns σ) → Free (keysAfter ks σ) (node 17 k) → Distinct (solvedUnknowns (σ ++ (_≔_ k s ∷ [])))
-distinct-snoc ks [] k s d h = (tt, tt)
-distinct-snoc ks (_≔_ j r ∷ σ) k s d h =
-    (others σ (d .0), distinct-snoc (j ∷ ks) σ k s (d .1) h)
+distinct-snoc : (σ : Solutions) (k : ℕ) (s : Ty) → Distinct (solvedUnknowns σ) → Free (solvedUnknowns σ) (node 17 k) → Distinct (solvedUnknowns (σ ++ (_≔_ k s ∷ [])))
+distinct-snoc [] k s d h = (tt, tt)
+distinct-snoc (_≔_ j r ∷ σ) k s d h = (others σ (d .0), distinct-snoc σ k s (d .1) (h .1))
   where
     others : (τ : Solutions) → All (λ i. j ≢ i) (solvedUnknowns τ) → All (λ i. j ≢ i) (solvedUnknowns (τ ++ (_≔_ k s ∷ [])))
-    others [] a = ((λ e. true≢false (sym (eqb-same j) ∙ subst (λ (i : ℕ). eqb j i ≡ false) (sym e) (keys-keep (j ∷ ks) σ (node 17 k) h .0))), tt)
+    others [] a = ((λ e. true≢false (sym (eqb-same j) ∙ subst (λ (i : ℕ). eqb j i ≡ false) (sym e) (h .0))), tt)
     others (_≔_ i u ∷ τ) a = (a .0, others τ (a .1))
 
-pub fine-snoc : (σ : Solutions) (k : ℕ) (s : Ty) → Fine σ → Free (keys σ) (node 17 k) → All (Free (k ∷ keys σ)) s → Fine (σ ++ (_≔_ k s ∷ []))
+pub fine-snoc : (σ : Solutions) (k : ℕ) (s : Ty) → Fine σ → Free (solvedUnknowns σ) (node 17 k) → All (Free (k ∷ solvedUnknowns σ)) s → Fine (σ ++ (_≔_ k s ∷ []))
 fine-snoc σ k s f u h = record {
   rank = rank;
-  once = distinct-snoc [] σ k s (f .once) u;
+  once = distinct-snoc σ k s (f .once) u;
   low = all-append (λ x. rank (key x) < length ω) σ (_≔_ k s ∷ []) (all-of (λ x. rank (key x) < length ω) σ (λ x m. (let a = old x m in let l = low-in σ f x m in let z = long in omega arith))) ((let a = new in let z = long in omega arith), tt);
   falls = all-append (λ x. All (Under rank ω (rank (key x))) (value x)) σ (_≔_ k s ∷ [])
       (all-of (λ x. All (Under rank ω (rank (key x))) (value x)) σ (λ x m. all-of (Under rank ω (rank (key x))) (value x) (λ n i j r e q. older x m n i j r e (in-snoc σ (_≔_ j r) (_≔_ k s) q))))
@@ -324,7 +311,7 @@ fine-snoc σ k s f u h = record {
     new = ap (λ (b : Bool). cond b 0 (suc (f .rank k))) (eqb-same k)
 
     old : (x : Solution) → In x σ → rank (key x) ≡ suc (f .rank (key x))
-    old x m = ap (λ (b : Bool). cond b 0 (suc (f .rank (key x)))) (eqb-false (key x) k (λ e. in-avoids σ (f .once) x m (subst⁻¹ (λ (j : ℕ). Free (keys σ) (node 17 j)) e u)))
+    old x m = ap (λ (b : Bool). cond b 0 (suc (f .rank (key x)))) (eqb-false (key x) k (λ e. in-avoids σ x m (subst⁻¹ (λ (j : ℕ). Free (solvedUnknowns σ) (node 17 j)) e u)))
 
     older : (x : Solution) → In x σ → (n : Node) → In n (value x) → (j : ℕ) (r : Ty) → n ≡ node 17 j → In (_≔_ j r) σ ⊎ (_≔_ j r ≡ _≔_ k s) → rank j < rank (key x)
     older x m n i j r e (inl q) =
@@ -337,9 +324,9 @@ fine-snoc σ k s f u h = record {
         let b : rank j ≡ 0 = ap (λ (y : Solution). rank (key y)) q ∙ new in
         omega arith
 
-    newer : (n : Node) → Free (k ∷ keys σ) n → (j : ℕ) (r : Ty) → n ≡ node 17 j → In (_≔_ j r) σ ⊎ (_≔_ j r ≡ _≔_ k s) → ⊥
-    newer n g j r e (inl q) = in-avoids σ (f .once) (_≔_ j r) q (subst (Free (k ∷ keys σ)) e g .1)
-    newer n g j r e (inr q) = free-one k (keys σ) (subst (λ (i : ℕ). Free (k ∷ keys σ) (node 17 i)) (ap key q) (subst (Free (k ∷ keys σ)) e g))
+    newer : (n : Node) → Free (k ∷ solvedUnknowns σ) n → (j : ℕ) (r : Ty) → n ≡ node 17 j → In (_≔_ j r) σ ⊎ (_≔_ j r ≡ _≔_ k s) → ⊥
+    newer n g j r e (inl q) = in-avoids σ (_≔_ j r) q (subst (Free (k ∷ solvedUnknowns σ)) e g .1)
+    newer n g j r e (inr q) = free-one k (solvedUnknowns σ) (subst (λ (i : ℕ). Free (k ∷ solvedUnknowns σ) (node 17 i)) (ap key q) (subst (Free (k ∷ solvedUnknowns σ)) e g))
 
 -- the solution just given: under all later solutions its unknown is the same type
 in-append : (σ τ : Solutions) (x : Solution) → In x σ → In x (σ ++ τ)

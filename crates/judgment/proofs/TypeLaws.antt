@@ -2,21 +2,21 @@
 -- Assumes nothing.
 use Prim.Native.Nat.{ℕ, zero, suc, _+_}
 use mathlib.Core.Path.{_≡_, refl, sym, _∙_, ap, ap₂, subst, subst⁻¹}
-use mathlib.Core.Logic.{_≢_, _⊎_, inl, inr}
-use mathlib.Core.Bool.{Bool, true, false, cond, not, _&&_, _||_, and-eq-true-iff, false≢true, true≢false}
+use mathlib.Core.Logic.{_≢_, _⊎_}
+use mathlib.Core.Bool.{Bool, true, false, cond, _&&_, _||_, and-eq-true-iff, false≢true, true≢false}
 use mathlib.Core.List.{List, [], _∷_, _++_}
 use mathlib.Core.Option.{Option, none, some}
 use lib.Dec.{T, eqb, eqb→eq, eqb-refl}
-use Rattle.nodes.specs.Parts.{takeParts, dropParts}
 use Rattle.nodes.proofs.PartLaws.{take-drop}
 use Rattle.nodes.specs.Lists.{All}
-use Rattle.nodes.proofs.ListLaws.{cond-ind, all-take, all-drop, all-append, all-split}
-use Rattle.nodes.specs.Nodes.{Node, node, Ty, kind, number, nodeParts}
-use Rattle.judgment.specs.Types.{unknown, arrow, app, forall, isNode, eqNode, eqTy, first, rest, View, isArrow, isApp, isForall, isUnknown, isOther, view, occurs, isMonotype, null, substituteFrom, substitute, Renaming, renameNode, rename, frontNames, afterFront}
+use Rattle.nodes.proofs.ListLaws.{cond-ind, all-take, all-drop}
+use Rattle.nodes.specs.Nodes.{Node, node, Ty, kind, nodeParts}
+use Rattle.judgment.specs.Types.{unknown, arrow, app, forall, isNode, eqTy, first, rest, View, isArrow, isApp, isForall, isUnknown, isOther, view, null, substituteFrom, substitute, Renaming, renameNode, rename, afterFront}
 use Rattle.spelling.specs.declared.Triple.{Triple}
 use Rattle.kinds.specs.Kinds.{partsOf}
 use Rattle.sheet.specs.Plan.{lineNode, nodesOf}
 use Rattle.judgment.specs.Terms.{Lambda, lambdaBy, lambdaOf, Term, part, afterParts, TermView, isVar, isLitInt, isLambda, isApply, isTypeLambda, isConstructor, isCase, isBinOp, isIf, isIntrinsic, isNone, viewBy, termView}
+use Rattle.judgment.specs.Good.{Lines}
 
 ---------------------------------------------------------------- tests
 pub eqb-true : (m n : ℕ) → eqb m n ≡ true → m ≡ n
@@ -112,32 +112,28 @@ module _ (P : Node → Type 0) where
         | false ↦ h
       ]
 
-  -- of the lines of a term, read as nodes
-  abbrev pub Lines : Term → Type 0
-  Lines e = All (λ l. P (lineNode l)) (e .lines)
-
   pub all-nodes : (ls : List Triple) → All (λ l. P (lineNode l)) ls → All P (nodesOf ls)
   all-nodes [] h = tt
   all-nodes (l ∷ ls) h = (h .0, all-nodes ls (h .1))
 
-  pub all-after : (n : ℕ) (e : Term) → Lines e → Lines (afterParts n e)
+  pub all-after : (n : ℕ) (e : Term) → Lines P e → Lines P (afterParts n e)
   all-after n e h = all-drop partsOf (λ l. P (lineNode l)) (e .lines) n h
 
-  pub all-part : (i : ℕ) (e : Term) → Lines e → Lines (part i e)
+  pub all-part : (i : ℕ) (e : Term) → Lines P e → Lines P (part i e)
   all-part zero e h = all-take partsOf (λ l. P (lineNode l)) (e .lines) 1 h
   all-part (suc i) e h = all-part i (afterParts 1 e) (all-after 1 e h)
 
   abbrev pub TermHas : TermView → Type 0
   TermHas (isVar x) = Unit {0}
   TermHas isLitInt = Unit {0}
-  TermHas (isLambda x s e) = All P s × Lines e
-  TermHas (isApply f e) = Lines f × Lines e
-  TermHas (isTypeLambda x e) = P (node 25 x) × Lines e
+  TermHas (isLambda x s e) = All P s × Lines P e
+  TermHas (isApply f e) = Lines P f × Lines P e
+  TermHas (isTypeLambda x e) = P (node 25 x) × Lines P e
   TermHas (isConstructor x) = Unit {0}
-  TermHas (isCase n e arms) = Lines e × Lines arms
-  TermHas (isBinOp op e₁ e₂) = Lines e₁ × Lines e₂
-  TermHas (isIf e₁ e₂ e₃) = Lines e₁ × Lines e₂ × Lines e₃
-  TermHas (isIntrinsic x n e) = Lines e
+  TermHas (isCase n e arms) = Lines P e × Lines P arms
+  TermHas (isBinOp op e₁ e₂) = Lines P e₁ × Lines P e₂
+  TermHas (isIf e₁ e₂ e₃) = Lines P e₁ × Lines P e₂ × Lines P e₃
+  TermHas (isIntrinsic x n e) = Lines P e
   TermHas isNone = Unit {0}
 
   view-has : (ls : List Triple) (next : ℕ) → All (λ l. P (lineNode l)) ls → TermHas (viewBy ls next)
@@ -155,16 +151,16 @@ module _ (P : Node → Type 0) where
       (λ _. cond-ind TermHas (eqb (l .kind) 29) (λ _. (p 0, p 1, p 2))
       (λ _. cond-ind TermHas (eqb (l .kind) 30) (λ _. p 0) (λ _. tt))))))))))
     where
-      p : (i : ℕ) → Lines (part i (record { line = next; lines = ls }))
+      p : (i : ℕ) → Lines P (part i (record { line = next; lines = ls }))
       p i = all-part i (record { line = next; lines = ls }) (h .1)
 
-  pub term-has : (e : Term) → Lines e → TermHas (termView e)
+  pub term-has : (e : Term) → Lines P e → TermHas (termView e)
   unfolding termView
   term-has e h = view-has (e .lines) (e .line + 1) h
 
   abbrev pub LambdaHas : Option Lambda → Type 0
   LambdaHas none = Unit {0}
-  LambdaHas (some f) = All P (f .type) × Lines (f .body)
+  LambdaHas (some f) = All P (f .type) × Lines P (f .body)
 
   lambda-by : (ls : List Triple) (next : ℕ) → All (λ l. P (lineNode l)) ls → LambdaHas (lambdaBy ls next)
   lambda-by [] next h = tt
@@ -172,6 +168,6 @@ module _ (P : Node → Type 0) where
       let parts : Term = record { line = next; lines = ls } in
       cond-ind LambdaHas (eqb (l .kind) 23) (λ _. (all-nodes (part 0 parts .lines) (all-part 0 parts (h .1)), all-part 1 parts (h .1))) (λ _. tt)
 
-  pub lambda-has : (e : Term) → Lines e → LambdaHas (lambdaOf e)
+  pub lambda-has : (e : Term) → Lines P e → LambdaHas (lambdaOf e)
   unfolding lambdaOf
   lambda-has e h = lambda-by (e .lines) (e .line + 1) h

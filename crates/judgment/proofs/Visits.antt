@@ -1,15 +1,16 @@
 -- How many nodes a write-out goes over that follows each solution where it meets it: `visits`, the number that falls. Assumes nothing.
-use mathlib.Core.Path.{_≡_, refl, sym, ap, _∙_, subst⁻¹}
+use mathlib.Core.Path.{_≡_, refl, ap, _∙_, subst⁻¹}
 use mathlib.Core.Logic.{_≢_, _⊎_, inl, inr}
 use mathlib.Core.List.{List, [], _∷_, _++_}
-use Prim.Native.Nat.{ℕ, zero, suc, _+_, _<_}
+use Prim.Native.Nat.{ℕ, suc, _+_, _<_}
 use native.Mathlib.Omega.{arith}
 use lib.ListN.{length, length-append}
 use Rattle.nodes.specs.Nodes.{Node, node, Ty, kind}
 use Rattle.nodes.specs.Lists.{All, In}
 use Rattle.nodes.proofs.ListLaws.{all-map}
 use Rattle.judgment.specs.Types.{unknown}
-use Rattle.judgment.specs.Solutions.{Solution, _≔_, Solutions, key, value, writeOut, Free, keysAfter, keys, Distinct, solvedUnknowns, Under, Fine}
+use Rattle.judgment.specs.Solutions.{Solution, _≔_, Solutions, key, value, writeOut, solvedUnknowns, Distinct}
+use Rattle.judgment.specs.Good.{Free, Under, Fine}
 use Rattle.judgment.proofs.SolutionLaws.{written-append, written-node, written-free, solved}
 
 -- a node that is no unknown, put before each solution: one more node for each solution that is followed
@@ -22,10 +23,6 @@ marked (_≔_ k s ∷ σ) = _≔_ k (mark ∷ s) ∷ marked σ
 
 pub visits : Solutions → Ty → ℕ
 visits σ t = length (writeOut (marked σ) t)
-
-marked-keys : (ks : List ℕ) (σ : Solutions) → keysAfter ks (marked σ) ≡ keysAfter ks σ
-marked-keys ks [] = refl
-marked-keys ks (_≔_ k s ∷ σ) = marked-keys (k ∷ ks) σ
 
 marked-in : (σ : Solutions) (k : ℕ) (s : Ty) → In (_≔_ k s) σ → In (_≔_ k (mark ∷ s)) (marked σ)
 marked-in [] k s m = absurd m
@@ -68,9 +65,9 @@ module _ (σ : Solutions) where
   visits-append s t = ap length (written-append (marked σ) s t) ∙ length-append (writeOut (marked σ) s) (writeOut (marked σ) t)
 
   -- a node that is no solved unknown is one node
-  pub visits-free : (n : Node) → Free (keys σ) n → visits σ (n ∷ []) ≡ 1
+  pub visits-free : (n : Node) → Free (solvedUnknowns σ) n → visits σ (n ∷ []) ≡ 1
   unfolding visits
-  visits-free n f = ap length (written-free (marked σ) (n ∷ []) (rw (marked-keys [] σ) f, tt))
+  visits-free n f = ap length (written-free (marked σ) (n ∷ []) (rw (marked-solved σ) f, tt))
 
   -- a solved unknown is one more than its solution
   pub visits-solved : (k : ℕ) (s : Ty) → Fine σ → In (_≔_ k s) σ → visits σ (unknown k) ≡ 1 + visits σ s

@@ -25,17 +25,10 @@ use Rattle.judgment.specs.Board.{below, within, Entry, tvar, var, sub, i
 use Rattle.judgment.specs.Rules.{Env, Side, left, right, onSide, offSide, openBody, solveMonotype, instantiateBy, instantiateFrom, mismatch, forallRight, forallLeft, unknownRight, unknownLeft, subtypeBy, subtype, openNames, instantiateConstructor, signatureBy, signatureFrom, insert, pushVars, patternParts, patternConstructor, patternBy, checkPatterns, checkArms, variable, constructor, inferBy, synthesize, checkArrow, checkBy, applyBy, inferApp, rule}
 use Rattle.judgment.specs.Run.{Step, step, Run, run, addStep, onward, runFrom}
 use Rattle.judgment.specs.Result.{envOf}
+use Rattle.judgment.specs.Good.{IsTy, TermOK, EntryWhole}
 use Rattle.judgment.proofs.TypeLaws.{eqb-true}
-use Rattle.judgment.proofs.WholeTypes.{IsTy, unknown-whole, con-whole, arrow-whole, app-whole, ViewWhole, view-whole, substitute-whole, rename-whole, afterFront-whole, written-whole}
-use Rattle.judgment.proofs.WholeTerms.{TermOK, ArmsOK, arms-whole, TermViewWhole, term-view-whole, LambdaWhole, lambda-whole}
-
-abbrev pub EntryWhole : Entry → Type 0
-EntryWhole (tvar n) = Unit {0}
-EntryWhole (var x t) = IsTy t
-EntryWhole (sub s t) = IsTy s × IsTy t
-EntryWhole (inf e t) = TermOK e × IsTy t
-EntryWhole (chk e t) = TermOK e × IsTy t
-EntryWhole (infApp f e t) = IsTy f × TermOK e × IsTy t
+use Rattle.judgment.proofs.WholeTypes.{unknown-whole, con-whole, arrow-whole, app-whole, ViewWhole, view-whole, substitute-whole, rename-whole, afterFront-whole, written-whole}
+use Rattle.judgment.proofs.WholeTerms.{ArmsOK, arms-whole, TermViewWhole, term-view-whole, LambdaWhole, lambda-whole}
 
 abbrev pub BindingWhole : Binding → Type 0
 BindingWhole (_∶_ x t) = IsTy t

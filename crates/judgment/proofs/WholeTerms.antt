@@ -14,12 +14,8 @@ use Rattle.sheet.specs.Form.{Forms, IsPart}
 use Rattle.sheet.proofs.Forming.{due-following, split}
 use Rattle.sheet.proofs.TypeLines.{type-whole}
 use Rattle.judgment.specs.Terms.{Term, part, afterParts, Lambda, lambdaBy, lambdaOf, TermView, isVar, isLitInt, isLambda, isApply, isTypeLambda, isConstructor, isCase, isBinOp, isIf, isIntrinsic, isNone, viewBy, termView}
+use Rattle.judgment.specs.Good.{IsTy, TermOK}
 use Rattle.judgment.proofs.TypeLaws.{eqb-true}
-use Rattle.judgment.proofs.WholeTypes.{IsTy}
-
--- one whole term
-abbrev pub TermOK : Term → Type 0
-TermOK e = IsPart aTerm (e .lines)
 
 -- n arms, each a whole pattern and a whole term
 abbrev pub ArmsOK : ℕ → Term → Type 0

@@ -3,22 +3,19 @@ use Prim.Native.Nat.{ℕ, zero, suc, _+_}
 use native.Mathlib.Omega.{arith}
 use mathlib.Core.Path.{_≡_, refl, sym, _∙_, ap, subst, subst⁻¹}
 use mathlib.Core.Bool.{Bool, true, false, cond, _&&_, and-eq-true-iff}
-use mathlib.Core.List.{List, [], _∷_, _++_}
+use mathlib.Core.List.{[], _∷_, _++_}
 use lib.Dec.{eqb}
 use Rattle.nodes.specs.Nodes.{Node, node, Ty, nodeParts}
 use Rattle.nodes.specs.Parts.{takeParts, dropParts, Whole}
 use Rattle.nodes.specs.Lists.{All}
 use Rattle.nodes.proofs.ListLaws.{cond-ind, all-in}
 use Rattle.nodes.proofs.Wholes.{whole-append, whole-split}
-use Rattle.judgment.specs.Types.{unknown, con, arrow, app, forall, isNode, null, View, isArrow, isApp, isForall, isUnknown, isOther, view, substituteFrom, substitute, Renaming, renameNode, rename, afterFront}
-use Rattle.judgment.specs.Solutions.{Solution, _≔_, Solutions, value, link, links, writeOut}
+use Rattle.judgment.specs.Types.{unknown, con, arrow, app, isNode, null, View, isArrow, isApp, isForall, isUnknown, isOther, view, substituteFrom, substitute, Renaming, renameNode, rename, afterFront}
+use Rattle.judgment.specs.Solutions.{_≔_, Solutions, value, link, links, writeOut}
+use Rattle.judgment.specs.Good.{IsTy}
 use Rattle.judgment.proofs.SolutionLaws.{find-some, by-solved, link-solved, link-unsolved, times, written-times}
 use lib.ListN.{length}
 use Rattle.judgment.proofs.TypeLaws.{eqb-true, isNode-true}
-
--- one whole type
-abbrev pub IsTy : Ty → Type 0
-IsTy t = Whole nodeParts t 1
 
 pub unknown-whole : (k : ℕ) → IsTy (unknown k)
 unknown-whole k = refl

@@ -1,25 +1,22 @@
 -- `writeOut` is the Rust's `zonk`: the one function on types that goes into the parts and follows every solution.
 -- Assumes nothing.
-use Prim.Native.Nat.{ℕ, zero, suc, _+_, _≤_, _<_}
-use native.Mathlib.Omega.{arith}
-use mathlib.Core.Path.{_≡_, refl, sym, _∙_, ap, ap₂, subst, subst⁻¹, fun-ext}
-use mathlib.Core.Logic.{_≢_, _⊎_, inl, inr}
-use mathlib.Core.Bool.{Bool, true, false, cond, false≢true, true≢false}
-use mathlib.Core.Option.{Option, none, some, Option·none-ne-some}
-use mathlib.Core.List.{List, [], _∷_, _++_}
+use Prim.Native.Nat.{ℕ, _+_, _≤_, _<_}
+use mathlib.Core.Path.{_≡_, refl, sym, _∙_, ap, ap₂, subst, subst⁻¹}
+use mathlib.Core.Logic.{_≢_, _⊎_}
+use mathlib.Core.Bool.{Bool, true, false, false≢true, true≢false}
+use mathlib.Core.Option.{Option, none, some}
+use mathlib.Core.List.{[], _∷_, _++_}
 use mathlib.Core.WellFounded.{Acc, Acc·intro}
 use lib.Dec.{eqb}
-use lib.ListN.{length, length-append}
 use Rattle.nodes.specs.Lists.{All, In}
 use Rattle.nodes.proofs.ListLaws.{all-of}
-use Rattle.nodes.specs.Nodes.{Node, node, Ty, nodeParts}
-use Rattle.judgment.specs.Types.{unknown, arrow, forall, isNode, View, isArrow, isApp, isForall, isUnknown, isOther, view, substituteFrom, substitute}
-use Rattle.judgment.proofs.TypeLaws.{eqb-true, eqb-same, eqb-false, Shows, view-shows}
-use Rattle.judgment.specs.Solutions.{Solution, _≔_, Solutions, key, value, find, writeOut, Avoids, Free, keysAfter, keys, Fine}
+use Rattle.nodes.specs.Nodes.{Node, node, Ty}
+use Rattle.judgment.specs.Types.{unknown}
+use Rattle.judgment.proofs.TypeLaws.{eqb-true}
+use Rattle.judgment.specs.Solutions.{_≔_, Solutions, find, writeOut}
 use Rattle.judgment.proofs.SolutionLaws.{find-some, find-none-free, written-free, written-append, written-node, solved, unsolved, ends}
 use Rattle.judgment.specs.Promise.{Follows}
-use Rattle.judgment.specs.Board.{tvar, Rule, fresh, push}
-use Rattle.judgment.specs.Rules.{Side, left, right, openBody, instantiateBy, instantiateFrom, signatureBy, signatureFrom}
+use Rattle.judgment.specs.Good.{Fine}
 
 -- what `zonk` does at each kind of type: it goes on into the parts, and into a solution
 pub record Zonks (σ : Solutions) (g : Ty → Ty) : Type 0 where
@@ -38,7 +35,7 @@ writeOut-zonks σ f = record {
   parts = written-append σ;
   other = written-node σ;
   solved = λ k s m. solved σ f (_≔_ k s) m;
-  unsolved = λ k e. unsolved σ k (find-none-free [] σ k tt e);
+  unsolved = λ k e. unsolved σ k (find-none-free σ k e);
 }
 
 module _ (σ : Solutions) (f : Fine σ) (g : Ty → Ty) (Z : Zonks σ g) where

@@ -1,18 +1,17 @@
 -- The board, and the operations that the rules are made of, with the limits that they test.
 -- Assumes nothing.
-use Prim.Native.Nat.{ℕ, zero, suc, _+_}
+use Prim.Native.Nat.{ℕ, suc, _+_}
 use mathlib.Core.Bool.{Bool, true, false, cond, _&&_}
 use mathlib.Core.Option.{Option, none, some}
 use mathlib.Core.List.{List, [], _∷_, _++_}
 use lib.Dec.{eqb, leb, ltb}
 use lib.ListN.{length}
-use Rattle.nodes.specs.Nodes.{Node, node, Ty}
+use Rattle.nodes.specs.Nodes.{Node, Ty}
 use Rattle.judgment.specs.declared.TypeError.{TypeError}
 use Rattle.judgment.specs.declared.TypeError.the-variants.{TypeUnificationError, BoardFull, TypeTooLong, NoFreshNumber, SolutionsFull}
 use Rattle.judgment.specs.Types.{isNode, canUnify}
-use Rattle.spelling.specs.declared.Triple.{Triple}
 use Rattle.judgment.specs.Terms.{Term}
-use Rattle.judgment.specs.Solutions.{Solution, _≔_, Solutions, find, writeOut, solutionNodes}
+use Rattle.judgment.specs.Solutions.{_≔_, Solutions, find, writeOut, solutionNodes}
 
 -- An entry. A TVar is named by a node: 11 a name, 17 an unknown, 18 a fresh universal.
 pub data Entry : Type 0 where

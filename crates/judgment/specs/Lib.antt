@@ -6,10 +6,5 @@ pub mod Chain
 pub mod Rules
 pub mod Run
 pub mod Result
+pub mod Good
 pub mod Promise
-pub mod Wall
-pub mod Telling
-pub mod AtLimits
-pub mod Calls
-pub mod Narrow
-pub mod AnyOrder

@@ -10,10 +10,10 @@ use Rattle.nodes.specs.Nodes.{Node, node, Ty, kind}
 use Rattle.nodes.specs.Lists.{All, In, count}
 use Rattle.judgment.specs.declared.TypeError.the-variants.{TypeUnificationError}
 use Rattle.judgment.specs.Types.{unknown}
-use Rattle.judgment.specs.Solutions.{Solution, _≔_, Solutions, key, value}
+use Rattle.judgment.specs.Solutions.{_≔_, Solutions, value}
 pub use Rattle.judgment.specs.Solutions.{Distinct, solvedUnknowns}
-use Rattle.judgment.specs.Board.{Entry, tvar, var, sub, inf, chk, infApp, Board, Operation, made, pushed, gave, met, State, state, Outcome}
-use Rattle.judgment.specs.Run.{Step, step, End, accepted, refusedBy, Run, steps, end, final}
+use Rattle.judgment.specs.Board.{Entry, tvar, var, sub, inf, chk, infApp, Board, Operation, made, pushed, gave, met, State, state}
+use Rattle.judgment.specs.Run.{Step, step, accepted, refusedBy, Run, steps, end, final}
 
 -- ---- what the steps took and did
 abbrev pub taken : List Step → List Entry

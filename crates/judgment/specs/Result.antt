@@ -1,11 +1,12 @@
 -- The result of a run, and of a whole call: seven numbers, and what stands in board, book and report.
 -- Assumes nothing.
 use Prim.Native.Nat.{ℕ, zero, suc, _+_, _*_}
-use mathlib.Core.Bool.{Bool, true, false, cond, _||_}
+use mathlib.Core.Bool.{Bool, cond, _||_}
 use mathlib.Core.List.{List, [], _∷_, _++_}
 use lib.Dec.{eqb, ltb}
 use lib.ListN.{length, take, replicate}
 use lib.Seq.{sets}
+use Rattle.sizes.specs.Sizes.{highestCeiling, mostEntries, mostNodes, mostNumbers, mostWritten, boardSize, bookBase, bookSize, reportSize}
 use Rattle.nodes.specs.Nodes.{Ty, words}
 use Rattle.spelling.specs.declared.Triple.{Triple}
 use Rattle.grammar.specs.declared.Check.{Check}
@@ -16,10 +17,10 @@ use Rattle.judgment.specs.declared.TypeError.{TypeError}
 use Rattle.judgment.specs.declared.TypeError.the-variants.{UnboundVariable, UnboundDataConstructor, NotAFunction, ArityMismatch, SubtypingError, TypeUnificationError, InstantiationError, IntrinsicArityMismatch, UnknownIntrinsic, BoardFull, TypeTooLong, NoFreshNumber, SolutionsFull}
 use Rattle.judgment.specs.declared.Answer.{Answer}
 use Rattle.judgment.specs.declared.Details.{Details}
-use Rattle.judgment.specs.Solutions.{Solution, _≔_, Solutions}
-use Rattle.judgment.specs.Board.{upTo, Limits, State, state}
+use Rattle.judgment.specs.Solutions.{_≔_, Solutions}
+use Rattle.judgment.specs.Board.{upTo, unlimited, Limits, State, state}
 use Rattle.judgment.specs.Rules.{Env}
-use Rattle.judgment.specs.Run.{Step, End, accepted, ceiling, refusedBy, Run, run, checkType}
+use Rattle.judgment.specs.Run.{Step, End, accepted, ceiling, refusedBy, Run, run, startWith, checkType}
 
 -- ---- errors
 abbrev pub errorNumber : TypeError → ℕ
@@ -53,6 +54,9 @@ errorDetails NoFreshNumber = (0, 0)
 errorDetails SolutionsFull = (0, 0)
 
 -- ---- a run's seven numbers, its solutions and the types of its report
+abbrev pub numbers : Answer → List ℕ
+numbers a = a .number ∷ a .line ∷ a .taken ∷ a .fresh ∷ a .detail1 ∷ a .detail2 ∷ a .plain ∷ []
+
 abbrev pub endNumber : End → ℕ
 endNumber accepted = 0
 endNumber ceiling = 21
@@ -92,6 +96,9 @@ unfoldable pub resultOf : Bool → Run → Result
 resultOf plain (run ss e s) = resultFrom plain ss e s
 
 -- the run of a plan
+abbrev pub startOf : List Triple → State
+startOf ls = startWith (planOf ls .term) (planOf ls .expected)
+
 abbrev pub envOf : PlanOf → Env
 envOf p = record { constructors = p .constructors; context = p .context }
 
@@ -104,11 +111,15 @@ judge L c ls = let p = planOf ls in resultOf (p .plain) (runOf L c p)
 
 -- document 01's limits, but for the nodes of one written-out type
 abbrev pub limitsWith : ℕ → Limits
-limitsWith w = record { entries = upTo 512; nodes = upTo 4096; written = upTo w; numbers = upTo 1000; solved = upTo 4096 }
+limitsWith w = record { entries = upTo mostEntries; nodes = upTo mostNodes; written = upTo w; numbers = upTo mostNumbers; solved = upTo mostNodes }
+
+-- none
+abbrev pub noLimits : Limits
+noLimits = record { entries = unlimited; nodes = unlimited; written = unlimited; numbers = unlimited; solved = unlimited }
 
 -- document 01's limits
 abbrev pub limits : Limits
-limits = limitsWith 1024
+limits = limitsWith mostWritten
 
 -- ---- the buffers
 -- words, and 0 up to n of them
@@ -123,7 +134,7 @@ placeFrom w (_≔_ j s ∷ σ) k = cond (eqb j k) (w, length s) (placeFrom (w + 
 -- the pairs of n unknowns from k on
 unfoldable pub pairsFrom : Solutions → ℕ → ℕ → List ℕ
 pairsFrom σ k zero = []
-pairsFrom σ k (suc n) = let p = placeFrom 2000 σ k in p .0 ∷ p .1 ∷ pairsFrom σ (k + 1) n
+pairsFrom σ k (suc n) = let p = placeFrom bookBase σ k in p .0 ∷ p .1 ∷ pairsFrom σ (k + 1) n
 
 -- the nodes of the solutions, in order of solving
 unfoldable pub nodeWords : Solutions → List ℕ
@@ -131,13 +142,13 @@ nodeWords [] = []
 nodeWords (_≔_ j s ∷ σ) = words s ++ nodeWords σ
 
 unfoldable pub bookWords : Solutions → List ℕ
-bookWords σ = padded 10192 (pairsFrom σ 0 1000 ++ nodeWords σ)
+bookWords σ = padded bookSize (pairsFrom σ 0 mostNumbers ++ nodeWords σ)
 
 unfoldable pub reportWords : Ty → List ℕ
-reportWords t = padded 4096 (words t)
+reportWords t = padded reportSize (words t)
 
 unfoldable pub boardWords : List ℕ
-boardWords = replicate 16384 0
+boardWords = replicate boardSize 0
 
 -- ---- a whole call
 pub record Buffers : Type 0 where
@@ -175,10 +186,10 @@ byCheck s c b (Misspelt l) = refusedSheet (Misspelt l) b
 byCheck s c b (Unfit l) = refusedSheet (Unfit l) b
 
 abbrev pub tooShort : Buffers → Bool
-tooShort b = ltb (length (b .board)) 16384 || (ltb (length (b .book)) 10192 || ltb (length (b .report)) 4096)
+tooShort b = ltb (length (b .board)) boardSize || (ltb (length (b .book)) bookSize || ltb (length (b .report)) reportSize)
 
 -- 1 to 5 are tried in order, then the plan is run
 unfoldable pub call : List ℕ → ℕ → Buffers → Called
 call s c b =
-    cond (ltb 10000 c) (record { answer = refusedAt 1 0; after = b })
+    cond (ltb highestCeiling c) (record { answer = refusedAt 1 0; after = b })
     (cond (tooShort b) (record { answer = refusedAt 2 0; after = b }) (byCheck s c b (check s)))

@@ -5,8 +5,7 @@ use mathlib.Core.List.{List, [], _∷_, _++_}
 use Rattle.nodes.specs.Nodes.{Ty}
 use Rattle.judgment.specs.declared.TypeError.{TypeError}
 use Rattle.judgment.specs.Terms.{Term}
-use Rattle.judgment.specs.Solutions.{Solutions}
-use Rattle.judgment.specs.Board.{Entry, chk, Board, Limits, Operation, State, state, Outcome, finished, refused, perform, operations}
+use Rattle.judgment.specs.Board.{Entry, chk, Limits, Operation, State, state, Outcome, finished, refused, perform, operations}
 use Rattle.judgment.specs.Rules.{Env, rule}
 
 -- one taken entry: the state that it was taken from, the entry, what its rule did, and what it came to
@@ -38,6 +37,10 @@ abbrev pub onto : List Step → Run → Run
 onto [] R = R
 onto (t ∷ ss) R = addStep t (onto ss R)
 
+-- where `check_type` starts: one Chk on the board, no solution, the counter at 0
+abbrev pub startWith : Term → Ty → State
+startWith e t = state (chk e t ∷ []) [] 0
+
 module _ (L : Limits) (E : Env) where
   abbrev pub onward : State → Entry → List Operation → Outcome → (State → Run) → Run
   onward s e os (finished s′) again = addStep (step s e os (finished s′)) (again s′)
@@ -51,6 +54,6 @@ module _ (L : Limits) (E : Env) where
   runFrom (suc c) (state (e ∷ Γ) σ n) =
       onward (state (e ∷ Γ) σ n) e (operations L (rule E e) Γ σ n) (perform L (rule E e) Γ σ n) (λ s. runFrom c s)
 
-  -- `check_type`: one Chk on the board, no solution, the counter at 0
+  -- `check_type`
   unfoldable pub checkType : ℕ → Term → Ty → Run
-  checkType c e t = runFrom c (state (chk e t ∷ []) [] 0)
+  checkType c e t = runFrom c (startWith e t)

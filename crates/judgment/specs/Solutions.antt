@@ -1,16 +1,15 @@
--- The solutions, in the order of solving, and writing out.
+-- The solutions, in the order in which they were given, and writing out.
 -- Assumes nothing.
-use Prim.Native.Nat.{ℕ, zero, suc, _+_, _<_}
+use Prim.Native.Nat.{ℕ, zero, suc, _+_}
 use mathlib.Core.Bool.{Bool, true, false, cond, _||_}
 use mathlib.Core.Option.{Option, none, some}
 use mathlib.Core.List.{List, [], _∷_, _++_}
 use lib.Dec.{eqb}
 use lib.ListN.{length}
-use mathlib.Core.Path.{_≡_}
 use mathlib.Core.Logic.{_≢_}
-use Rattle.nodes.specs.Lists.{All, In}
+use Rattle.nodes.specs.Lists.{All}
 use Rattle.nodes.specs.Nodes.{Node, node, Ty}
-use Rattle.judgment.specs.Types.{unknown, isNode}
+use Rattle.judgment.specs.Types.{unknown}
 
 pub data Solution : Type 0 where
   _≔_ : ℕ → Ty → Solution
@@ -64,38 +63,12 @@ unfoldable pub solutionNodes : Solutions → ℕ
 solutionNodes [] = 0
 solutionNodes (_≔_ k s ∷ σ) = length s + solutionNodes σ
 
--- ---- solutions that lead nowhere back
--- a node that is not the unknown k; that is none of the unknowns ks
-abbrev pub Avoids : ℕ → Node → Type 0
-Avoids k n = isNode 17 k n ≡ false
-
-abbrev pub Free : List ℕ → Node → Type 0
-Free ks n = All (λ k. Avoids k n) ks
-
--- the unknowns solved, the newest first, before those of ks
-abbrev pub keysAfter : List ℕ → Solutions → List ℕ
-keysAfter ks [] = ks
-keysAfter ks (_≔_ k s ∷ σ) = keysAfter (k ∷ ks) σ
-
-abbrev pub keys : Solutions → List ℕ
-keys σ = keysAfter [] σ
+-- ---- the unknowns solved
+abbrev pub solvedUnknowns : Solutions → List ℕ
+solvedUnknowns [] = []
+solvedUnknowns (_≔_ k s ∷ σ) = k ∷ solvedUnknowns σ
 
 -- no element stands twice
 abbrev pub Distinct : List ℕ → Type 0
 Distinct [] = Unit {0}
 Distinct (k ∷ ks) = All (λ j. k ≢ j) ks × Distinct ks
-
-abbrev pub solvedUnknowns : Solutions → List ℕ
-solvedUnknowns [] = []
-solvedUnknowns (_≔_ k s ∷ σ) = k ∷ solvedUnknowns σ
-
--- a node that is no solved unknown of rank m or above
-abbrev pub Under : (ℕ → ℕ) → Solutions → ℕ → Node → Type 0
-Under rank σ m n = (j : ℕ) (s : Ty) → n ≡ node 17 j → In (_≔_ j s) σ → rank j < m
-
--- Each unknown is solved once, and following solutions goes down in rank. They may stand in any order.
-pub record Fine (σ : Solutions) : Type 0 where
-  pub rank : ℕ → ℕ
-  pub once : Distinct (solvedUnknowns σ)
-  pub low : All (λ x. rank (key x) < length σ) σ
-  pub falls : All (λ x. All (Under rank σ (rank (key x))) (value x)) σ

@@ -1,68 +1,61 @@
 -- A run that was refused stays; what each operation leaves of one that goes on. Assumes nothing.
 use mathlib.Core.Path.{_≡_, refl, sym, ap, ap₂, _∙_, subst}
 use mathlib.Core.Logic.{_≢_}
-use mathlib.Core.Bool.{Bool, true, false, cond, true≢false, false≢true}
-use mathlib.Core.Option.{Option, none, some}
+use mathlib.Core.Bool.{true, false, true≢false, false≢true}
+use mathlib.Core.Option.{none, some}
 use mathlib.Core.List.{List, [], _∷_, _++_}
-use Prim.Native.Nat.{ℕ, zero, suc, _+_, _*_, _-_, _≤_, _<_}
+use Prim.Native.Nat.{ℕ, _+_, _*_, _-_, _≤_, _<_}
 use native.Mathlib.Numerals.{add-one}
 use native.Mathlib.Omega.{arith}
 use lib.ListN.{length}
-use lib.Dec.{eqb, leb, ltb}
-use Rattle.nodes.specs.Nodes.{Node, node, Ty, nodesAt}
+use lib.Dec.{ltb}
+use Rattle.sizes.specs.Sizes.{mostNodes, mostNumbers, bookBase}
+use Rattle.nodes.specs.Nodes.{Ty, nodesAt}
 use Rattle.nodes.proofs.Laws.{length-nodesAt}
 use Rattle.spelling.specs.declared.Triple.{Triple}
 use Rattle.judgment.specs.declared.TypeError.{TypeError}
 use Rattle.judgment.specs.declared.TypeError.the-variants.{UnboundVariable, UnboundDataConstructor, NotAFunction, ArityMismatch, SubtypingError, TypeUnificationError, InstantiationError, IntrinsicArityMismatch, UnknownIntrinsic, BoardFull, TypeTooLong, NoFreshNumber, SolutionsFull}
-use Rattle.judgment.specs.Solutions.{Solution, _≔_, Solutions, find, solutionNodes, writeOut, Free, keys}
-use Rattle.judgment.specs.Board.{Entry, entryNodes, Limits, Rule, done, refuse, fresh, push, solve, zonk, look, State, state, Outcome, finished, refused, roomFor}
-use Rattle.judgment.specs.Chain.{performO, stays, refuseO, freshO, pushO, solveO, zonkO}
+use Rattle.judgment.specs.Solutions.{_≔_, find, solutionNodes, writeOut}
+use Rattle.judgment.specs.Board.{Entry, entryNodes, Limits, Rule, done, refuse, fresh, push, solve, zonk, look, State, Outcome, finished, refused}
+use Rattle.judgment.specs.Chain.{performO, refuseO, freshO, pushO, solveO}
+use Rattle.judgment.proofs.Chained.{stays}
 use Rattle.judgment.specs.Result.{limitsWith}
 use Rattle.judgment.proofs.SolutionLaws.{find-none}
 use Rattle.board.specs.declared.Board.{Board}
-use Rattle.board.specs.Board.{entryOf, entriesOf, Stacked, Slot, slotOf}
+use Rattle.board.specs.Board.{entryOf, entriesOf, Slot, slotOf}
 use Rattle.board.specs.Board.{fitting as fitsBoard, laid, grown as boardGrown, PushAsk as BoardAsk}
 use Rattle.board.proofs.Stacks.{slot-nodes, laid-entries, laid-stacked, fits-room, fits-facts}
 use Rattle.book.specs.declared.Book.{Book}
-use Rattle.book.specs.Book.{startOf, sols, Booked}
+use Rattle.book.specs.Book.{sols}
 use Rattle.book.specs.Book.{fitting as fitsBook, given, grown as bookGrown, SolveAsk as BookAsk}
 use Rattle.book.proofs.Holdings.{nodes-count, given-sols, given-booked, start-old}
 use borrow.Author.Tests.{leb-true, ltb-true, lt-ltb, le-ltb}
 use Rattle.operations.specs.declared.Halt.{Halt}
 use Rattle.operations.specs.declared.Run.{Run}
-use Rattle.operations.specs.State.{reported, haltOf, errorOf, outcomeBy, stateOf, outcomeOf, WellFormed, Words, refuseW, freshW, pushW, solveW, zonkW, performW, Came, Does, Performs, going, stopped, refusedRun, made, freshRun, withBoard, pushRun, pushWords, Pushes, PushAsk, withBook, solveRun, solveWords, Gives, Solves, SolveAsk}
+use Rattle.operations.specs.State.{reported, haltOf, errorOf, outcomeBy, stateOf, WellFormed, Words, refuseW, freshW, pushW, solveW, zonkW, performW, Came, Does, Performs, going, stopped, refusedRun, made, freshRun, withBoard, Pushes, PushAsk, withBook, Gives, Solves, SolveAsk}
 
 -- ---- a refusal in words is that of its error, and of no other
-pub error-is : (e : TypeError) → errorOf (haltOf e) ≡ e
+halt-is : (e : TypeError) → (going (haltOf e) ≡ false) × (errorOf (haltOf e) ≡ e)
 unfolding errorOf
-error-is (UnboundVariable x) = refl
-error-is (UnboundDataConstructor x) = refl
-error-is (NotAFunction n) = refl
-error-is (ArityMismatch e a) = refl
-error-is (SubtypingError l r) = refl
-error-is TypeUnificationError = refl
-error-is (InstantiationError k n) = refl
-error-is (IntrinsicArityMismatch a) = refl
-error-is (UnknownIntrinsic x) = refl
-error-is BoardFull = refl
-error-is TypeTooLong = refl
-error-is NoFreshNumber = refl
-error-is SolutionsFull = refl
+halt-is (UnboundVariable x) = (refl, refl)
+halt-is (UnboundDataConstructor x) = (refl, refl)
+halt-is (NotAFunction n) = (refl, refl)
+halt-is (ArityMismatch e a) = (refl, refl)
+halt-is (SubtypingError l r) = (refl, refl)
+halt-is TypeUnificationError = (refl, refl)
+halt-is (InstantiationError k n) = (refl, refl)
+halt-is (IntrinsicArityMismatch a) = (refl, refl)
+halt-is (UnknownIntrinsic x) = (refl, refl)
+halt-is BoardFull = (refl, refl)
+halt-is TypeTooLong = (refl, refl)
+halt-is NoFreshNumber = (refl, refl)
+halt-is SolutionsFull = (refl, refl)
 
 pub halt-stops : (e : TypeError) → going (haltOf e) ≡ false
-halt-stops (UnboundVariable x) = refl
-halt-stops (UnboundDataConstructor x) = refl
-halt-stops (NotAFunction n) = refl
-halt-stops (ArityMismatch e a) = refl
-halt-stops (SubtypingError l r) = refl
-halt-stops TypeUnificationError = refl
-halt-stops (InstantiationError k n) = refl
-halt-stops (IntrinsicArityMismatch a) = refl
-halt-stops (UnknownIntrinsic x) = refl
-halt-stops BoardFull = refl
-halt-stops TypeTooLong = refl
-halt-stops NoFreshNumber = refl
-halt-stops SolutionsFull = refl
+halt-stops e = halt-is e .0
+
+pub error-is : (e : TypeError) → errorOf (haltOf e) ≡ e
+error-is e = halt-is e .1
 
 pub refused-is : (e : TypeError) (rep : List ℕ) (s : State) → outcomeBy (haltOf e) rep s ≡ refused e (nodesAt rep 0 (reported e)) s
 refused-is e rep s = rw (halt-stops e, error-is e) refl
@@ -116,17 +109,17 @@ module _ {b k : List ℕ} {c : Run} (f : WellFormed b k c) (w : ℕ) (ls : List 
   refuse-does g e = stops-does g e (refuse e (nodesAt rep 0 (reported e))) refl (rw g)
 
   -- ---- a fresh number
-  pub fresh-stops : going (c .halt) ≡ true → ltb (c .fresh) 1000 ≡ false → Does w ls b k rep c (fresh (λ n. done)) b k rep (stopped c NoFreshNumber)
+  pub fresh-stops : going (c .halt) ≡ true → ltb (c .fresh) mostNumbers ≡ false → Does w ls b k rep c (fresh (λ n. done)) b k rep (stopped c NoFreshNumber)
   unfolding freshO freshW nodesAt
   fresh-stops g e = stops-does g NoFreshNumber (fresh (λ n. done)) (rw e) (rw (g, e))
 
-  pub fresh-does : going (c .halt) ≡ true → ltb (c .fresh) 1000 ≡ true → Does w ls b k rep c (fresh (λ n. done)) b k rep (made c)
+  pub fresh-does : going (c .halt) ≡ true → ltb (c .fresh) mostNumbers ≡ true → Does w ls b k rep c (fresh (λ n. done)) b k rep (made c)
   unfolding freshO freshW
   fresh-does g e = record {
     kept = record {
       board = f .board;
       book = f .book;
-      numbers = let l = ltb-true (c .fresh) 1000 e in omega arith;
+      numbers = let l = ltb-true (c .fresh) mostNumbers e in omega arith;
       unmade = λ j h. f .unmade j (omega arith);
     };
     taken = refl;
@@ -170,7 +163,7 @@ module _ {b k : List ℕ} {c : Run} (f : WellFormed b k c) (w : ℕ) (ls : List 
     none-yet = find-none (sols k) x (s .unsolved)
 
     used : solutionNodes (sols k) ≡ c .book .nodes
-    used = let q = nodes-count k (2000 + 2 * c .book .nodes) 2000 (sols k) (f .book .holds) in omega arith
+    used = let q = nodes-count k (bookBase + 2 * c .book .nodes) bookBase (sols k) (f .book .holds) in omega arith
 
     pub solve-stops : fitsBook (c .book) (length t) ≡ false → Does w ls b k rep c (solve x t done) b k rep (stopped c SolutionsFull)
     unfolding solveO solveW nodesAt
@@ -179,8 +172,8 @@ module _ {b k : List ℕ} {c : Run} (f : WellFormed b k c) (w : ℕ) (ls : List 
     pub solve-does : fitsBook (c .book) (length t) ≡ true → Does w ls b k rep c (solve x t done) b (given k (c .book) x t) rep (withBook c (bookGrown (c .book) (length t)))
     unfolding solveO solveW
     solve-does e =
-        let small : x < 1000 = let l = s .made in let m = f .numbers in omega arith in
-        let fits : c .book .nodes + length t ≤ 4096 = leb-true (c .book .nodes + length t) 4096 e in
+        let small : x < mostNumbers = let l = s .made in let m = f .numbers in omega arith in
+        let fits : c .book .nodes + length t ≤ mostNodes = leb-true (c .book .nodes + length t) mostNodes e in
         let q = given-sols k (c .book) x t (f .book) small fits some (s .unsolved) in
         record {
           kept = record {
@@ -217,14 +210,14 @@ module _ (c : Run) (g : going (c .halt) ≡ true) where
       → (let r : Run = record { taken = c .taken; fresh = c .fresh; board = c .board; book = c .book; halt = h } in (r ≡ refusedRun c e) × Performs c (λ rep. refuse e (nodesAt rep 0 (reported e))) r)
   refuse-returns e h q = rw q (rw g refl, λ w ls b k rep f. refuse-does f w ls rep g e)
 
-  pub fresh-returns : c .fresh < 1000 → (made c ≡ freshRun c) × Performs c (λ rep. fresh (λ n. done)) (made c)
+  pub fresh-returns : c .fresh < mostNumbers → (made c ≡ freshRun c) × Performs c (λ rep. fresh (λ n. done)) (made c)
   fresh-returns l =
-      let e = lt-ltb (c .fresh) 1000 l in
+      let e = lt-ltb (c .fresh) mostNumbers l in
       (rw (g, e) refl, λ w ls b k rep f. fresh-does f w ls rep g e)
 
-  pub fresh-refuses : (r : Run) → 1000 ≤ c .fresh → r ≡ refusedRun c NoFreshNumber → (r ≡ freshRun c) × Performs c (λ rep. fresh (λ n. done)) r
+  pub fresh-refuses : (r : Run) → mostNumbers ≤ c .fresh → r ≡ refusedRun c NoFreshNumber → (r ≡ freshRun c) × Performs c (λ rep. fresh (λ n. done)) r
   fresh-refuses r l q =
-      let e = le-ltb (c .fresh) 1000 l in
+      let e = le-ltb (c .fresh) mostNumbers l in
       rw (q, g, e) (refl, λ w ls b k rep f. fresh-stops f w ls rep g e)
 
 module _ {c : Run} {b : List ℕ} {kind number : ℕ} {l : List ℕ} {la ln : ℕ} {r : List ℕ} {ra rn : ℕ} (a : PushAsk b c kind number l la ln r ra rn) where
@@ -273,7 +266,7 @@ module _ {k : List ℕ} {c : Run} {x : ℕ} {s : List ℕ} {from n : ℕ} (a : S
   solve-asks e = record {
     room = a .book .room;
     small = let z = a .solves g .made in let y = a .numbers in omega arith;
-    fits = leb-true (c .book .nodes + n) 4096 e;
+    fits = leb-true (c .book .nodes + n) mostNodes e;
     within = a .within;
   }
 

@@ -1,32 +1,36 @@
 -- One operation, and then the rest of a rule: the proof of a rule in code follows the rule. Assumes nothing.
-use mathlib.Core.Path.{_≡_, refl, sym, ap, ap₂, _∙_, subst}
-use mathlib.Core.Bool.{Bool, true, false, cond, true≢false}
+use mathlib.Core.Path.{_≡_, refl, sym, ap, _∙_}
+use mathlib.Core.Bool.{Bool, true, false, true≢false}
 use mathlib.Core.Option.{Option, none, some}
 use mathlib.Core.List.{List, [], _∷_, _++_}
-use Prim.Native.Nat.{ℕ, zero, suc, _+_, _*_, _≤_, _<_}
+use Prim.Native.Nat.{ℕ, _+_, _*_, _≤_, _<_}
 use native.Mathlib.Nat.{le-refl, le-trans}
 use native.Mathlib.Omega.{arith}
-use lib.Dec.{ltb, leb}
+use lib.Dec.{ltb}
 use lib.ListN.{length}
+use Rattle.sizes.specs.Sizes.{mostNumbers}
 use Rattle.nodes.specs.Nodes.{node, Ty, nodesAt}
 use Rattle.nodes.proofs.ListLaws.{cond-ind}
 use Rattle.spelling.specs.declared.Triple.{Triple}
 use Rattle.judgment.specs.declared.TypeError.{TypeError}
 use Rattle.judgment.specs.declared.TypeError.the-variants.{NoFreshNumber}
 use Rattle.judgment.specs.Types.{unknown, canUnify}
-use Rattle.judgment.specs.Solutions.{Solution, _≔_, Solutions, find, solutionNodes, writeOut, Free, keys}
+use Rattle.judgment.specs.Solutions.{_≔_, Solutions, find, solutionNodes, writeOut, solvedUnknowns}
 use Rattle.judgment.specs.Board.{below, within, Entry, Board as Entries, Limits, Rule, done, refuse, fresh, push, solve, zonk, look, State, state, Outcome, finished, refused, roomFor, solving}
-use Rattle.judgment.specs.Chain.{boardOf, solutionsOf, counterOf, performO, stays, refuseO, freshO, pushO, solveO, zonkO}
+use Rattle.judgment.specs.Chain.{boardOf, solutionsOf, counterOf, performO, refuseO, freshO, pushO, solveO, zonkO}
+use Rattle.judgment.proofs.Chained.{stays}
 use Rattle.judgment.specs.Result.{limitsWith}
+use Rattle.judgment.specs.Good.{Free}
+use Rattle.judgment.proofs.SolutionLaws.{other-free}
 use Rattle.board.specs.Board.{entriesOf}
 use Rattle.book.specs.Book.{sols}
-use Rattle.book.proofs.Holdings.{free-of, free-kind}
+use Rattle.book.proofs.Holdings.{free-of}
 use borrow.Author.Tests.{ne-eqb}
 use Rattle.operations.proofs.Latch.{halt-stops, came, words-stay, refused-stays}
 use Rattle.operations.specs.declared.Halt.{Halt}
 use Rattle.operations.specs.declared.Run.{Run}
 use Rattle.operations.specs.declared.Zonked.{Zonked}
-use Rattle.operations.specs.State.{reported, outcomeBy, stateOf, outcomeOf, WellFormed, refuseW, Came, cameTo, performC, Does, Performs, PerformsOnBoard, PerformsOnBook, going, stopped, refusedRun, made, freshRun, Solves, SolveAsk, Zonks}
+use Rattle.operations.specs.State.{outcomeBy, stateOf, outcomeOf, WellFormed, refuseW, Came, cameTo, performC, Does, Performs, PerformsOnBoard, PerformsOnBook, going, stopped, refusedRun, made, freshRun, Solves, SolveAsk, Zonks}
 
 -- ---- what an outcome holds, refused or not
 counter-is : (h : Halt) (rep : List ℕ) (Γ : Entries) (σ : Solutions) (n : ℕ) → counterOf (outcomeBy h rep (state Γ σ n)) ≡ n
@@ -206,26 +210,26 @@ grows {w} {ls} {b} {k} {rep} {c} {p} {b'} {k'} {rep'} {r} d =
 
 -- ---- fresh numbers
 -- a number that is not made is none of the solved unknowns
-pub unmade-free : {b k : List ℕ} {c : Run} → WellFormed b k c → (j : ℕ) → c .fresh ≤ j → Free (keys (sols k)) (node 17 j)
+pub unmade-free : {b k : List ℕ} {c : Run} → WellFormed b k c → (j : ℕ) → c .fresh ≤ j → Free (solvedUnknowns (sols k)) (node 17 j)
 unmade-free {k = k} {c = c} f j h = free-of k (c .book) j (f .book) (λ l. f .unmade j h l)
 
 pub fresh-made : (c r : Run) → r ≡ freshRun c → going (r .halt) ≡ true → r .fresh ≡ c .fresh + 1
-fresh-made c r e g = by (going (c .halt)) refl (ltb (c .fresh) 1000) refl
+fresh-made c r e g = by (going (c .halt)) refl (ltb (c .fresh) mostNumbers) refl
   where
-    by : (x : Bool) → going (c .halt) ≡ x → (y : Bool) → ltb (c .fresh) 1000 ≡ y → r .fresh ≡ c .fresh + 1
+    by : (x : Bool) → going (c .halt) ≡ x → (y : Bool) → ltb (c .fresh) mostNumbers ≡ y → r .fresh ≡ c .fresh + 1
     by true p true q = let z : r ≡ made c = e ∙ rw (p, q) in ap (λ (d : Run). d .fresh) z
     by true p false q = let z : r ≡ stopped c NoFreshNumber = e ∙ rw (p, q) in absurd (true≢false (sym g ∙ ap (λ (d : Run). going (d .halt)) z))
     by false p y q = let z : r ≡ c = e ∙ rw p in absurd (true≢false (sym g ∙ ap (λ (d : Run). going (d .halt)) z ∙ p))
 
 -- A pair of the number that c makes and of a later one may solve an older unknown; r is the run that solves it.
-pub pair-solves : {b k : List ℕ} {c : Run} (r : Run) (kind x y : ℕ) → (kind ≡ 17 → ⊥) → WellFormed b k c → x < c .fresh → Free (keys (sols k)) (node 17 x) → c .fresh ≤ y → c .fresh ≤ r .fresh
+pub pair-solves : {b k : List ℕ} {c : Run} (r : Run) (kind x y : ℕ) → (kind ≡ 17 → ⊥) → WellFormed b k c → x < c .fresh → Free (solvedUnknowns (sols k)) (node 17 x) → c .fresh ≤ y → c .fresh ≤ r .fresh
     → Solves k r x (node kind 0 ∷ (unknown (c .fresh) ++ unknown y))
 pair-solves {k = k} {c = c} r kind x y pair f known new l m =
-    let newer : (z : ℕ) → c .fresh ≤ z → Free (x ∷ keys (sols k)) (node 17 z) = λ z h. (ne-eqb x z (λ e. (let d : x ≡ z = e in omega arith)), unmade-free f z h) in
+    let newer : (z : ℕ) → c .fresh ≤ z → Free (x ∷ solvedUnknowns (sols k)) (node 17 z) = λ z h. (ne-eqb x z (λ e. (let d : x ≡ z = e in omega arith)), unmade-free f z h) in
     record {
       made = omega arith;
       unsolved = new;
-      free = (free-kind (x ∷ keys (sols k)) kind 0 pair, (newer (c .fresh) (le-refl (c .fresh)), (newer y l, tt)));
+      free = (other-free (x ∷ solvedUnknowns (sols k)) kind 0 pair, (newer (c .fresh) (le-refl (c .fresh)), (newer y l, tt)));
     }
 
 -- ---- the report

@@ -1,8 +1,8 @@
 -- What a write-out leaves. Assumes nothing.
-use mathlib.Core.Path.{_≡_, refl, sym, ap, ap₂, _∙_, subst}
+use mathlib.Core.Path.{_≡_, refl, sym, ap, ap₂, _∙_}
 use mathlib.Core.Bool.{Bool, true, false, cond, true≢false}
 use mathlib.Core.List.{List, [], _∷_, _++_}
-use Prim.Native.Nat.{ℕ, zero, suc, _+_, _*_, _-_, _≤_, _<_}
+use Prim.Native.Nat.{ℕ, _+_, _*_, _-_, _≤_, _<_}
 use native.Mathlib.Omega.{arith}
 use lib.ListN.{length, take}
 use lib.Seq.{sets, length-sets, take-all}
@@ -10,21 +10,18 @@ use lib.Dec.{leb}
 use borrow.Author.Tests.{le-leb, lt-leb, leb-true}
 use Rattle.nodes.specs.Nodes.{Ty, words, nodesAt}
 use Rattle.nodes.proofs.Laws.{nodesAt-same, nodesAt-below}
-use Rattle.spelling.specs.declared.Triple.{Triple}
 use Rattle.judgment.specs.declared.TypeError.the-variants.{TypeTooLong}
 use Rattle.judgment.specs.Solutions.{writeOut}
-use Rattle.judgment.specs.Board.{Rule, done, zonk, State, state, Outcome, finished, refused}
-use Rattle.judgment.specs.Chain.{performO, zonkO}
-use Rattle.judgment.specs.Result.{limitsWith}
-use Rattle.book.specs.declared.Book.{Book}
+use Rattle.judgment.specs.Board.{done, zonk}
+use Rattle.judgment.specs.Chain.{zonkO}
 use Rattle.book.specs.declared.Wrote.{Wrote}
 use Rattle.book.specs.declared.Wrote.the-variants.{Fits, Over}
-use Rattle.book.specs.Book.{sols, Booked, WriteAsk, wrote, writtenTo}
+use Rattle.book.specs.Book.{sols, WriteAsk, wrote, writtenTo}
 use Rattle.book.proofs.Turns.{fits-told, over-told}
 use Rattle.operations.specs.declared.Halt.{Halt}
 use Rattle.operations.specs.declared.Run.{Run}
 use Rattle.operations.specs.declared.Zonked.{Zonked}
-use Rattle.operations.specs.State.{haltOf, reported, outcomeBy, stateOf, outcomeOf, WellFormed, zonkW, Does, going, stopped, refusedRun, zonkBy, zonkRun, zonkWords, ZonkAsk, Zonks}
+use Rattle.operations.specs.State.{haltOf, stateOf, WellFormed, zonkW, going, stopped, refusedRun, zonkBy, zonkRun, zonkWords, ZonkAsk, Zonks}
 use Rattle.operations.proofs.Latch.{refused-is, came, stays-does}
 
 module _ {k : List ℕ} {c : Run} {s : List ℕ} {at n : ℕ} {rep : List ℕ} {to w : ℕ} (a : ZonkAsk k c s at n rep to w) where

@@ -1,19 +1,21 @@
 -- What the words of board, book and report and a run's counters stand for, and what an operation leaves of them. Assumes nothing: these are definitions.
 use mathlib.Core.Path.{_≡_}
-use mathlib.Core.Bool.{Bool, true, false, cond}
+use mathlib.Core.Bool.{Bool, true, cond}
 use mathlib.Core.List.{List, [], _∷_, _++_}
-use Prim.Native.Nat.{ℕ, zero, suc, _+_, _*_, _-_, _≤_, _<_}
+use Prim.Native.Nat.{ℕ, _+_, _*_, _-_, _≤_, _<_}
 use lib.ListN.{length}
 use lib.Dec.{eqb, leb, ltb}
-use Rattle.nodes.specs.Nodes.{Node, node, Ty, nodesAt}
+use Rattle.sizes.specs.Sizes.{mostNumbers, bookBase}
+use Rattle.nodes.specs.Nodes.{node, Ty, nodesAt}
 use Rattle.nodes.specs.Lists.{All}
 use Rattle.spelling.specs.declared.Triple.{Triple}
 use Rattle.judgment.specs.declared.TypeError.{TypeError}
 use Rattle.judgment.specs.declared.TypeError.the-variants.{UnboundVariable, UnboundDataConstructor, NotAFunction, ArityMismatch, SubtypingError, TypeUnificationError, InstantiationError, IntrinsicArityMismatch, UnknownIntrinsic, BoardFull, TypeTooLong, NoFreshNumber, SolutionsFull}
-use Rattle.judgment.specs.Solutions.{writeOut, Free, keys}
+use Rattle.judgment.specs.Solutions.{writeOut, solvedUnknowns}
 use Rattle.judgment.specs.Board.{Entry, Rule, done, refuse, fresh, push, solve, zonk, look, State, state, Outcome, finished, refused}
 use Rattle.judgment.specs.Chain.{performO}
 use Rattle.judgment.specs.Result.{errorNumber, errorDetails, limitsWith}
+use Rattle.judgment.specs.Good.{Free}
 use Rattle.board.specs.declared.Board.{Board}
 use Rattle.board.specs.Board.{entryOf, entriesOf, Stacked, slotOf}
 use Rattle.board.specs.Board.{fitting as fitsBoard, laid, grown as boardGrown}
@@ -82,8 +84,8 @@ outcomeOf ls b k rep c = outcomeBy (c .halt) rep (stateOf ls b k c)
 pub record WellFormed (b k : List ℕ) (c : Run) : Type 0 where
   pub board : Stacked b (c .board)
   pub book : Booked k (c .book)
-  pub numbers : c .fresh ≤ 1000
-  pub unmade : (j : ℕ) → c .fresh ≤ j → j < 1000 → startOf k j < 2000  -- a number that is not made has no solution
+  pub numbers : c .fresh ≤ mostNumbers
+  pub unmade : (j : ℕ) → c .fresh ≤ j → j < mostNumbers → startOf k j < bookBase  -- a number that is not made has no solution
 
 -- some book goes with the run
 abbrev pub Bookable : List ℕ → Run → Type 0
@@ -100,7 +102,7 @@ abbrev pub made : Run → Run
 made c = record { taken = c .taken; fresh = c .fresh + 1; board = c .board; book = c .book; halt = c .halt }
 
 abbrev pub freshRun : Run → Run
-freshRun c = cond (going (c .halt)) (cond (ltb (c .fresh) 1000) (made c) (stopped c NoFreshNumber)) c
+freshRun c = cond (going (c .halt)) (cond (ltb (c .fresh) mostNumbers) (made c) (stopped c NoFreshNumber)) c
 
 abbrev pub withBoard : Run → Board → Run
 withBoard c b = record { taken = c .taken; fresh = c .fresh; board = b; book = c .book; halt = c .halt }
@@ -207,12 +209,12 @@ Gives k c x t k' r = (r ≡ solveRun c (length t)) × (k' ≡ solveWords k c x t
 -- an unknown that was made and is not solved, and a type with neither it nor a solved one
 pub record Solves (k : List ℕ) (c : Run) (x : ℕ) (t : Ty) : Type 0 where
   pub made : x < c .fresh
-  pub unsolved : Free (keys (sols k)) (node 17 x)
-  pub free : All (Free (x ∷ keys (sols k))) t
+  pub unsolved : Free (solvedUnknowns (sols k)) (node 17 x)
+  pub free : All (Free (x ∷ solvedUnknowns (sols k))) t
 
 pub record SolveAsk (k : List ℕ) (c : Run) (x : ℕ) (s : List ℕ) («from» n : ℕ) : Type 0 where
   pub book : Booked k (c .book)
-  pub numbers : c .fresh ≤ 1000
+  pub numbers : c .fresh ≤ mostNumbers
   pub some : 0 < n
   pub within : «from» + 2 * n ≤ length s
   pub solves : going (c .halt) ≡ true → Solves k c x (nodesAt s «from» n)

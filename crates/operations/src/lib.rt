@@ -1,8 +1,8 @@
 // The operations that the rules are made of (worklist.rs: `fresh_evar`, `push`, `solve_evar`, `zonk`, an error returned). A run that was refused stays as it is, so a
 // rule is straight-line code in the Rust's order.
 ghost use mathlib.Core.Path.{_≡_};
-ghost use mathlib.Core.List.{List, []};
-ghost use Prim.Native.Nat.{ℕ, _+_, _*_, _≤_, _<_};
+ghost use mathlib.Core.List.{[]};
+ghost use Prim.Native.Nat.{_+_, _*_, _≤_, _<_};
 ghost use lib.ListN.{length};
 ghost use Rattle.nodes.specs.Nodes.{node, nodesAt};
 ghost use Rattle.judgment.specs.Solutions.{writeOut};
@@ -17,6 +17,7 @@ use book::write_out;
 use judgment::TypeError;
 use judgment::error_details;
 use judgment::error_number;
+use sizes::MOST_WRITTEN;
 
 // Why a run was refused: the number of the error and its two details. The number 0 is none.
 pub struct Halt {
@@ -54,7 +55,7 @@ pub struct Zonked {
 
 impl Zonked {
     // The nodes of one written-out type, which a run gives as the limit of its write-outs.
-    pub const NODES: usize = 1024;
+    pub const NODES: usize = MOST_WRITTEN;
 }
 
 pub fn is_going(h: Halt) -> bool

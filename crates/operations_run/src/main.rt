@@ -2,7 +2,8 @@
 ghost use mathlib.Core.Path.{_≡_};
 ghost use mathlib.Core.List.{List};
 ghost use Rattle.spelling.specs.declared.Triple.{Triple};
-ghost use Prim.Native.Nat.{_≤_};
+ghost use Rattle.sizes.specs.Sizes.{mostWritten, boardSize, bookSize, reportSize};
+ghost use Prim.Native.Nat.{_*_, _≤_};
 ghost use lib.ListN.{length};
 ghost use Rattle.operations.specs.State.{WellFormed, Does};
 ghost use Rattle.operations_run.specs.Script.{script as scriptRule};
@@ -26,10 +27,13 @@ use operations::push_var;
 use operations::refuse;
 use operations::solve_evar;
 use operations::zonk;
+use sizes::BOARD_SIZE;
+use sizes::BOOK_SIZE;
+use sizes::REPORT_SIZE;
 
 fn script(board: &mut [u32], book: &mut [u32], report: &mut [u32], c: Run) -> Run
-    requires { ⌜ WellFormed (now board) (now book) c × (2048 ≤ length (now report)) ⌝ }
-    ensures { λ r. ⌜ ((ls : List Triple) → Does 1024 ls (now (board .entry)) (now (book .entry)) (now (report .entry)) c scriptRule (now (board .exit)) (now (book .exit)) (now (report .exit)) r) ⌝ }
+    requires { ⌜ WellFormed (now board) (now book) c × (2 * mostWritten ≤ length (now report)) ⌝ }
+    ensures { λ r. ⌜ ((ls : List Triple) → Does mostWritten ls (now (board .entry)) (now (book .entry)) (now (report .entry)) c scriptRule (now (board .exit)) (now (book .exit)) (now (report .exit)) r) ⌝ }
 {
     let a = c.fresh;
     let c1 = fresh_evar(c);
@@ -90,11 +94,11 @@ fn show(board: &[u32], book: &[u32], report: &[u32], c: Run) {
 }
 
 fn run(board: &mut [u32], book: &mut [u32], report: &mut [u32])
-    requires { ⌜ (16384 ≤ length (now board)) × (10192 ≤ length (now book)) × (4096 ≤ length (now report)) ⌝ }
+    requires { ⌜ (boardSize ≤ length (now board)) × (bookSize ≤ length (now book)) × (reportSize ≤ length (now report)) ⌝ }
 {
     clear_board(board);
     clear_book(book);
-    clear_words(report, 0, 4096);
+    clear_words(report, 0, REPORT_SIZE);
     let start = Run {
         taken: 0,
         fresh: 0,
@@ -111,8 +115,8 @@ fn run(board: &mut [u32], book: &mut [u32], report: &mut [u32])
 }
 
 fn main() {
-    let mut board = [7u32; 16386];
-    let mut book = [7u32; 10194];
-    let mut report = [7u32; 4097];
+    let mut board = [7u32; BOARD_SIZE + 2];
+    let mut book = [7u32; BOOK_SIZE + 2];
+    let mut report = [7u32; REPORT_SIZE + 1];
     run(&mut board, &mut book, &mut report);
 }

@@ -5,6 +5,7 @@ use mathlib.Core.List.{List, [], _∷_}
 use Prim.Native.Nat.{ℕ, zero, suc, _+_, _≤_, _<_}
 use native.Mathlib.Omega.{arith}
 use lib.ListN.{length, take, drop}
+use Rattle.sizes.specs.Sizes.{mostNodes}
 use Rattle.nodes.specs.Lists.{All}
 use Rattle.nodes.proofs.ListLaws.{cond-ind}
 use Rattle.nodes.proofs.PartLaws.{length-take}
@@ -56,10 +57,10 @@ some-lines zero ls f = absurd f
 some-lines (suc n) ls f = omega arith
 
 pub entry-at : (ls : List Triple) (x line count : ℕ) → Sheet ls → At line count ≡ findEntry 1 x ls
-    → (0 < count) × (count ≤ 4096) × (line + count ≤ length ls) × All Narrow (take count (drop line ls))
+    → (0 < count) × (count ≤ mostNodes) × (line + count ≤ length ls) × All Narrow (take count (drop line ls))
 unfolding findEntry
 entry-at ls x line count h q =
     let t = found-typed ls 1 x line count (declarations ls 0 0) (h .formed .entries) (sym q) in
     let w : line + count ≤ length ls = found-within ls 1 x line count (length ls) (declarations ls 0 0) (declared-within ls 0 0 (length ls) (omega arith)) (sym q) in
-    let f : length ls ≤ 4096 = h .few in
+    let f : length ls ≤ mostNodes = h .few in
     (some-lines count (drop line ls) t, omega arith, w, type-narrow (take count (drop line ls)) t)

@@ -6,13 +6,14 @@ use Prim.Native.Nat.{ℕ, zero, suc, _+_, _*_, _-_, _≤_}
 use native.Mathlib.Omega.{arith}
 use lib.Dec.{eqb}
 use lib.ListN.{length, take, drop, length-drop}
+use Rattle.sizes.specs.Sizes.{mostNodes, typeWords}
 use Rattle.nodes.specs.Nodes.{Ty, nodesAt}
 use Rattle.nodes.proofs.Laws.{length-nodesAt}
 use Rattle.spelling.specs.declared.Triple.{Triple}
 use Rattle.sheet.specs.Plan.{nodesOf}
 use Rattle.judgment.specs.declared.TypeError.the-variants.{ArityMismatch}
 use Rattle.judgment.specs.Types.{rename, frontNames}
-use Rattle.judgment.specs.Board.{sub, Rule, done, refuse, push, Outcome}
+use Rattle.judgment.specs.Board.{sub, Rule, done, refuse, push}
 use Rattle.judgment.specs.Rules.{Env, signatureFrom, extractSignature, patternParts}
 use Rattle.operations.specs.declared.Run.{Run}
 use Rattle.operations.specs.State.{Came, cameTo, performC, PerformsOnBoard}
@@ -30,14 +31,14 @@ use Rattle.patterns.specs.Readings.{Arity, bodyOf, PartsAsk, Parting}
 
 -- a reference fits a scratch buffer
 -- what is meant ends within the type's lines; an unknown alone is one node
-pub good-within : {ls : List Triple} {r : TypeRef} → Good ls r → (r .at + r .count ≤ r .lines + 1) × (r .at + r .count ≤ 4096)
+pub good-within : {ls : List Triple} {r : TypeRef} → Good ls r → (r .at + r .count ≤ r .lines + 1) × (r .at + r .count ≤ mostNodes)
 good-within {ls} {r} g = by (r .lines) refl
   where
-    by : (n : ℕ) → r .lines ≡ n → (r .at + r .count ≤ r .lines + 1) × (r .at + r .count ≤ 4096)
+    by : (n : ℕ) → r .lines ≡ n → (r .at + r .count ≤ r .lines + 1) × (r .at + r .count ≤ mostNodes)
     by zero e = let a = g .alone e in (omega arith, omega arith)
     by (suc n) e = let w = g .within (omega arith) in let f = g .few in (omega arith, omega arith)
 
-pub good-fits : {ls : List Triple} {r : TypeRef} → Good ls r → r .at + r .count ≤ 4096
+pub good-fits : {ls : List Triple} {r : TypeRef} → Good ls r → r .at + r .count ≤ mostNodes
 good-fits g = good-within g .1
 
 module _ {b : List ℕ} {c : Run} (ls : List Triple) (first n count : ℕ) (want : TypeRef) {l₀ r₀ : List ℕ} (ask : PartsAsk b c ls first n count want l₀ r₀)
@@ -58,14 +59,14 @@ module _ {b : List ℕ} {c : Run} (ls : List Triple) (first n count : ℕ) (want
       let e : o .nodes ≡ n - length (frontNames T) = O .nodes in
       (omega arith, omega arith, e)
 
-  pub few-nodes : (o .nodes ≤ n) × (o .at ≤ 8192) × (o .nodes ≤ 4096)
+  pub few-nodes : (o .nodes ≤ n) × (o .at ≤ typeWords) × (o .nodes ≤ mostNodes)
   few-nodes =
       let f = fronts in
       let e = O .at in
       let m = ask .few in
       (omega arith, omega arith, omega arith)
 
-  pub few-arity : (arity : ℕ) → arity ≡ length (params (o .nodes) X) → arity ≤ 4096
+  pub few-arity : (arity : ℕ) → arity ≡ length (params (o .nodes) X) → arity ≤ mostNodes
   few-arity arity e = let f = few-params (o .nodes) X in let g = few-nodes .2 in omega arith
 
   pub opened-ready : Ready b₁ (o .run)

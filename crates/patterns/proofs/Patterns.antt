@@ -6,6 +6,7 @@ use native.Mathlib.Nat.{not-suc-le-zero}
 use native.Mathlib.Omega.{arith}
 use lib.ListN.{length, getD, take, drop}
 use lib.Seq.{sets}
+use Rattle.sizes.specs.Sizes.{mostNumbers}
 use Rattle.nodes.specs.Nodes.{Ty}
 use Rattle.nodes.specs.Lists.{All}
 use Rattle.spelling.specs.declared.Triple.{Triple}
@@ -25,7 +26,7 @@ use Rattle.patterns.specs.Readings.{envAt, Lining, Reading, Checking}
 use Rattle.patterns.specs.Rooms.{aloneOf}
 use Rattle.patterns.proofs.Steps.{turn-none, turn-then, turn-as}
 
-alone-frame : (ls : List Triple) (u : ℕ) → u ≤ 1000 → Frame ls (aloneOf u)
+alone-frame : (ls : List Triple) (u : ℕ) → u ≤ mostNumbers → Frame ls (aloneOf u)
 unfolding frontNames pendingOf
 alone-frame ls u l = record {
   good = record { stands = omega arith; narrow = tt; few = omega arith; within = λ z. absurd (omega arith); past = omega arith; low = l; alone = λ z. (refl, refl) };
@@ -42,13 +43,13 @@ no-types E [] bs f = refl
 no-types E (x ∷ ls) bs f = refl
 
 module _ (b : List ℕ) (c : Run) (ls : List Triple) (first lines u : ℕ) where
-  first-types : (w w' : List ℕ) → 6 ≤ length w → w' ≡ sets w (6 * 0) (row 0 (aloneOf u)) → u ≤ 1000 → Frames ls w' 1 × (typesOf ls w' 1 ≡ unknown u ∷ [])
+  first-types : (w w' : List ℕ) → 6 ≤ length w → w' ≡ sets w (6 * 0) (row 0 (aloneOf u)) → u ≤ mostNumbers → Frames ls w' 1 × (typesOf ls w' 1 ≡ unknown u ∷ [])
   unfolding Frames typesOf pendingOf typeOf
   first-types w w' h e l =
       let o : refAt w' 0 ≡ aloneOf u = ap (λ (x : List ℕ). refAt x 0) e ∙ ref-stored w 0 0 (aloneOf u) (omega arith) in
       ((subst⁻¹ (Frame ls) o (alone-frame ls u l), tt), ap (λ (x : TypeRef). pendingOf ls x ++ []) o)
 
-  pub read-start : (w w' v : List ℕ) → Ready b c → All Narrow (take lines (drop first ls)) → 6 ≤ length w → w' ≡ sets w (6 * 0) (row 0 (aloneOf u)) → u ≤ 1000 → Reading b c ls first lines u b c w' 1 v 0 0
+  pub read-start : (w w' v : List ℕ) → Ready b c → All Narrow (take lines (drop first ls)) → 6 ≤ length w → w' ≡ sets w (6 * 0) (row 0 (aloneOf u)) → u ≤ mostNumbers → Reading b c ls first lines u b c w' 1 v 0 0
   unfolding bindingsAt
   read-start w w' v ready narrow h e l =
       let t = first-types w w' h e l in

@@ -5,6 +5,7 @@ use mathlib.Core.List.{List, [], _∷_, _++_}
 use Prim.Native.Nat.{ℕ, _+_, _*_, _-_, _≤_, _<_}
 use lib.Dec.{eqb}
 use lib.ListN.{length, getD, take, drop}
+use Rattle.sizes.specs.Sizes.{mostNodes, mostNumbers, typeWords}
 use Rattle.nodes.specs.Nodes.{Ty}
 use Rattle.nodes.specs.Lists.{All}
 use Rattle.spelling.specs.declared.Triple.{Triple}
@@ -32,7 +33,7 @@ envAt ls = envOf (planOf ls)
 -- a sheet that is taken, of few lines
 pub record Sheet (ls : List Triple) : Type 0 where
   pub formed : Formed ls
-  pub few : length ls ≤ 4096
+  pub few : length ls ≤ mostNodes
 
 abbrev pub Arity : List Triple → List ℕ → Run → ℕ → ℕ → Run → Type 0
 Arity ls b c arity count r = Turn {A = ℕ} ls b c (λ f. cond (eqb count arity) (f 0) (refuse (ArityMismatch arity count) [])) b r (λ f. f 0)
@@ -41,12 +42,12 @@ Arity ls b c arity count r = Turn {A = ℕ} ls b c (λ f. cond (eqb count arity)
 pub record PartsAsk (b : List ℕ) (c : Run) (ls : List Triple) (first n count : ℕ) (want : TypeRef) (l r : List ℕ) : Type 0 where
   pub ready : Ready b c
   pub some : 0 < n
-  pub few : n ≤ 4096
+  pub few : n ≤ mostNodes
   pub lines : first + n ≤ length ls
   pub narrow : All Narrow (take n (drop first ls))
   pub small : count < 131072
   pub good : Good ls want
-  pub left : 8192 ≤ length l
+  pub left : typeWords ≤ length l
   pub right : 2 * length ls + 2 ≤ length r
 
 -- the reference to the opened type, of that many nodes
@@ -74,7 +75,7 @@ pub record NameAsk (b : List ℕ) (c : Run) (ls : List Triple) (x count : ℕ) (
   pub good : Good ls want
   pub frames : Frames ls w n
   pub deep : 6 * n + 6 ≤ length w
-  pub left : 8192 ≤ length l
+  pub left : typeWords ≤ length l
   pub right : 2 * length ls + 2 ≤ length r
 
 pub record Naming (b : List ℕ) (c : Run) (ls : List Triple) (x count : ℕ) (t : Ty) (w : List ℕ) (n : ℕ) (b' w' : List ℕ) (o : Named) : Type 0 where
@@ -93,7 +94,7 @@ pub record LineAsk (b : List ℕ) (c : Run) (ls : List Triple) (p : ℕ) (w : Li
   pub deep : 6 * n + 6 ≤ length w
   pub sound : Sound ls v j
   pub rows : 6 * j + 6 ≤ length v
-  pub left : 8192 ≤ length l
+  pub left : typeWords ≤ length l
   pub right : 2 * length ls + 2 ≤ length r
 
 -- what is left of the pattern is the lines after it
@@ -112,10 +113,10 @@ pub record CheckAsk (b : List ℕ) (c : Run) (ls : List Triple) (first lines u :
   pub sheet : Sheet ls
   pub stands : first + lines ≤ length ls
   pub narrow : All Narrow (take lines (drop first ls))
-  pub low : u ≤ 1000
+  pub low : u ≤ mostNumbers
   pub frames : 6 * lines + 12 ≤ length w
   pub rows : 6 * lines + 6 ≤ length v
-  pub left : 8192 ≤ length l
+  pub left : typeWords ≤ length l
   pub right : 2 * length ls + 2 ≤ length r
 
 module _ (b : List ℕ) (c : Run) (ls : List Triple) (first lines u : ℕ) where

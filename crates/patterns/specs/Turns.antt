@@ -2,6 +2,7 @@
 use mathlib.Core.Path.{_≡_}
 use mathlib.Core.List.{List}
 use Prim.Native.Nat.{ℕ, _≤_}
+use Rattle.sizes.specs.Sizes.{mostNumbers}
 use Rattle.spelling.specs.declared.Triple.{Triple}
 use Rattle.judgment.specs.Board.{Rule}
 use Rattle.board.specs.Board.{Stacked}
@@ -11,7 +12,7 @@ use Rattle.operations.specs.State.{cameTo, performC, WellFormed}
 -- what code that has no book asks of board and counters
 pub record Ready (b : List ℕ) (c : Run) : Type 0 where
   pub board : Stacked b (c .board)
-  pub numbers : c .fresh ≤ 1000
+  pub numbers : c .fresh ≤ mostNumbers
 
 -- From p to q, whatever follows: performing q after is performing p before. It holds of a refused run whatever q is, since a refused outcome stays.
 pub record Turn {A : Type 0} (ls : List Triple) (b : List ℕ) (c : Run) (p : (A → Rule) → Rule) (b' : List ℕ) (r : Run) (q : (A → Rule) → Rule) : Type 0 where

@@ -3,6 +3,7 @@ ghost use mathlib.Core.Path.{_≡_};
 ghost use mathlib.Core.List.{List};
 ghost use Prim.Native.Nat.{ℕ, _+_, _*_, _≤_, _<_};
 ghost use lib.ListN.{length, getD, take, drop};
+ghost use Rattle.sizes.specs.Sizes.{mostNodes};
 ghost use Rattle.spelling.specs.declared.Triple.{Triple};
 ghost use Rattle.sheet.specs.Plan.{noTriple, nodesOf, findEntry};
 ghost use Rattle.sheet.specs.Rows.{rows, Ended};
@@ -30,7 +31,7 @@ use tables::put;
 
 // Refuses, unless the counts agree.
 fn check_arity(c: Run, arity: usize, count: usize) -> Run
-    requires { ⌜ (arity ≤ 4096) × (count < 131072) ⌝ }
+    requires { ⌜ (arity ≤ mostNodes) × (count < 131072) ⌝ }
     ensures { λ r. ⌜ ((ls : List Triple) (b : List ℕ) → Ready b c → Arity ls b c arity count r) × (r ≡ arityRun c arity count) ⌝ }
 {
     if count == arity {

@@ -8,8 +8,11 @@ use input::fill;
 use io::write_all;
 use libc::STDERR_FILENO;
 use libc::STDOUT_FILENO;
-
-const CEILING: u32 = 10000;
+use sizes::BOARD_SIZE;
+use sizes::BOOK_SIZE;
+use sizes::HIGHEST_CEILING;
+use sizes::REPORT_SIZE;
+use sizes::SHEET_BYTES;
 
 fn write_out(text: &[u8]) {
     if !write_all(STDOUT_FILENO, text) {
@@ -32,7 +35,7 @@ fn check_input(
             let _told = write_all(STDERR_FILENO, b"plan_check: standard input was not read\n");
         }
         Got::To(n) => {
-            let answer = check_type(&sheet[..n], CEILING, board, book, report);
+            let answer = check_type(&sheet[..n], HIGHEST_CEILING, board, book, report);
             let end = write_answer(text, answer);
             write_out(&text[..end]);
         }
@@ -40,10 +43,10 @@ fn check_input(
 }
 
 fn main() {
-    let mut sheet = [0u8; 58001];
-    let mut board = [0u32; 16384];
-    let mut book = [0u32; 10192];
-    let mut report = [0u32; 4096];
+    let mut sheet = [0u8; SHEET_BYTES + 1];
+    let mut board = [0u32; BOARD_SIZE];
+    let mut book = [0u32; BOOK_SIZE];
+    let mut report = [0u32; REPORT_SIZE];
     let mut text = [0u8; 71];
     check_input(&mut sheet, &mut board, &mut book, &mut report, &mut text);
 }

@@ -2,6 +2,7 @@
 ghost use mathlib.Core.Path.{_≡_};
 ghost use Prim.Native.Nat.{_≤_};
 ghost use lib.ListN.{length};
+ghost use Rattle.sizes.specs.Sizes.{reportSize};
 ghost use Rattle.plan_explain.specs.Told.{Told};
 use checker::check_type;
 use input::Got;
@@ -10,6 +11,11 @@ use io::write_all;
 use libc::STDERR_FILENO;
 use libc::STDOUT_FILENO;
 use sentences::explain;
+use sizes::BOARD_SIZE;
+use sizes::BOOK_SIZE;
+use sizes::HIGHEST_CEILING;
+use sizes::REPORT_SIZE;
+use sizes::SHEET_BYTES;
 
 // What is to be said of a sheet, at the front of `text`. Answers how many bytes that is.
 fn tell(
@@ -19,10 +25,10 @@ fn tell(
     report: &mut [u32],
     text: &mut [u8],
 ) -> usize
-    requires { ⌜ (length (now report) ≡ 4096) × (48000 ≤ length (now text)) ⌝ }
+    requires { ⌜ (length (now report) ≡ reportSize) × (48000 ≤ length (now text)) ⌝ }
     ensures { λ r. ⌜ Told (now (sheet .entry)) (record { board = now (board .entry); book = now (book .entry); report = now (report .entry) }) (now (text .exit)) r ⌝ }
 {
-    let answer = check_type(sheet, 10000, board, book, report);
+    let answer = check_type(sheet, HIGHEST_CEILING, board, book, report);
     explain(text, answer, report)
 }
 
@@ -40,7 +46,7 @@ fn tell_input(
     report: &mut [u32],
     text: &mut [u8],
 )
-    requires { ⌜ (length (now report) ≡ 4096) × (48000 ≤ length (now text)) ⌝ }
+    requires { ⌜ (length (now report) ≡ reportSize) × (48000 ≤ length (now text)) ⌝ }
 {
     match fill(sheet, 0) {
         Got::Failed => {
@@ -57,10 +63,10 @@ fn tell_input(
 }
 
 fn main() {
-    let mut sheet = [0u8; 58001];
-    let mut board = [0u32; 16384];
-    let mut book = [0u32; 10192];
-    let mut report = [0u32; 4096];
+    let mut sheet = [0u8; SHEET_BYTES + 1];
+    let mut board = [0u32; BOARD_SIZE];
+    let mut book = [0u32; BOOK_SIZE];
+    let mut report = [0u32; REPORT_SIZE];
     let mut text = [0u8; 48000];
     tell_input(&mut sheet, &mut board, &mut book, &mut report, &mut text);
 }

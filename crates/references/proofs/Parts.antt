@@ -7,6 +7,7 @@ use native.Mathlib.Omega.{arith}
 use borrow.Author.Tests.{eq-eqb, ne-eqb}
 use lib.Dec.{ltb, leb·suc-suc}
 use lib.ListN.{length, set, take, drop, length-drop}
+use Rattle.sizes.specs.Sizes.{mostNodes}
 use Rattle.nodes.specs.Nodes.{node, Ty, nodeParts, words, nodesAt}
 use Rattle.nodes.proofs.Laws.{nodesAt-same, drop-nodesAt}
 use Rattle.nodes.proofs.PartLaws.{is-take, is-drop, length-take}
@@ -84,7 +85,7 @@ length-type ls r g h =
     let w : r .at + r .count ≤ r .lines = g .within h in
     ap length (type-is ls r h) ∙ length-rename (openedAt t (r .base)) (take (r .count) (drop (r .at) t)) ∙ simp (lib.ListN.length-take, length-drop) (omega arith)
 
-pub frame-some : {ls : List Triple} {r : TypeRef} → Frame ls r → 0 < r .lines → (0 < r .count) × (r .at + r .count ≤ 4096)
+pub frame-some : {ls : List Triple} {r : TypeRef} → Frame ls r → 0 < r .lines → (0 < r .count) × (r .at + r .count ≤ mostNodes)
 frame-some {ls} {r} f h =
     let z : 0 < length (params (r .count) (typeOf ls r)) = subst (λ (l : List Ty). 0 < length l) (pending-is ls r h) (f .some) in
     let w = f .good .within h in
@@ -161,7 +162,7 @@ module _ (ls : List Triple) (r : TypeRef) (f : Frame ls r) (h : 0 < r .lines) (o
       let p : length (frontNames (wholeOf ls r)) ≤ r .at = g .past in
       record { stands = g .stands; narrow = g .narrow; few = g .few; within = λ z. omega arith; past = omega arith; low = g .low; alone = λ z. absurd (omega arith) }
 
-  pub others-fit : (1 + m ≤ r .count) × (r .at + r .count ≤ 4096)
+  pub others-fit : (1 + m ≤ r .count) × (r .at + r .count ≤ mostNodes)
   others-fit = (short, frame-some f h .1)
 
   pub halved : (a : ℕ) → a ≡ length (params (r .count - 1 - m) (nodesAt o (2 * r .at + 2 + 2 * m) (r .count - 1 - m))) → Halved ls r (record { count = m; more = ltb 0 a })

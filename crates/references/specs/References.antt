@@ -6,6 +6,7 @@ use Prim.Native.Nat.{ℕ, _+_, _-_, _≤_, _<_}
 use lib.Dec.{eqb, ltb}
 use lib.ListN.{length, take, drop}
 use lib.Seq.{sets}
+use Rattle.sizes.specs.Sizes.{mostNodes, mostNumbers}
 use Rattle.nodes.specs.Nodes.{Ty}
 use Rattle.nodes.specs.Lists.{All}
 use Rattle.spelling.specs.declared.Triple.{Triple}
@@ -36,10 +37,10 @@ instanceOut ls r o = cond (eqb (r .lines) 0) (sets o 0 (17 ∷ r .base ∷ [])) 
 pub record Good (ls : List Triple) (r : TypeRef) : Type 0 where
   pub stands : r .first + r .lines ≤ length ls
   pub narrow : All Narrow (take (r .lines) (drop (r .first) ls))
-  pub few : r .lines ≤ 4096
+  pub few : r .lines ≤ mostNodes
   pub within : 0 < r .lines → r .at + r .count ≤ r .lines
   pub past : length (frontNames (wholeOf ls r)) ≤ r .at
-  pub low : r .base ≤ 1000
+  pub low : r .base ≤ mostNumbers
   pub alone : r .lines ≡ 0 → (r .at ≡ 0) × (r .count ≡ 1)
 
 -- ---- a frame: a reference that stands for the parameters which its type still has, one or more; an unknown stands for itself

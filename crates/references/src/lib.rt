@@ -2,6 +2,7 @@
 ghost use mathlib.Core.Path.{_≡_};
 ghost use Prim.Native.Nat.{_+_, _*_, _-_, _≤_, _<_};
 ghost use lib.ListN.{length};
+ghost use Rattle.sizes.specs.Sizes.{mostNodes, typeWords};
 ghost use Rattle.nodes.specs.Nodes.{node, nodesAt};
 ghost use Rattle.sheet.specs.Rows.{rows};
 ghost use Rattle.references.specs.Signatures.{arrowHead, params, result, endingOf};
@@ -35,7 +36,7 @@ pub struct Ending {
 
 // Counts the parameters of the type of n nodes at word `at` of k, and finds its result.
 pub fn signature(k: &[u32], at: usize, n: usize) -> Ending
-    requires { ⌜ (at + 2 * n ≤ length (now k)) × (n ≤ 4096) ⌝ }
+    requires { ⌜ (at + 2 * n ≤ length (now k)) × (n ≤ mostNodes) ⌝ }
     ensures { λ r. ⌜ (r .start ≤ n) × (r .arity ≡ length (params n (nodesAt (now (k .entry)) at n))) × (nodesAt (now (k .entry)) (at + 2 * r .start) (n - r .start) ≡ result n (nodesAt (now (k .entry)) at n)) × (r ≡ endingOf n (nodesAt (now (k .entry)) at n)) ⌝ }
 {
     let mut arity = 0;
@@ -76,7 +77,7 @@ pub struct Split {
 
 // Takes apart the parameters that a reference stands for.
 pub fn split_frame(out: &mut [u32], s: &[u64], r: TypeRef) -> Split
-    requires { ⌜ Frame (rows (now s)) r × (0 < r .lines) × (8192 ≤ length (now out)) ⌝ }
+    requires { ⌜ Frame (rows (now s)) r × (0 < r .lines) × (typeWords ≤ length (now out)) ⌝ }
     ensures { λ h. ⌜ Halved (rows (now (s .entry))) r h × (now (out .exit) ≡ instanceOut (rows (now (s .entry))) r (now (out .entry))) ⌝ }
 {
     let at = r.at;

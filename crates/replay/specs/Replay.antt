@@ -1,8 +1,9 @@
 -- What the contracts of the replay cite. Assumes nothing: these are definitions.
 use mathlib.Core.Path.{_≡_}
 use mathlib.Core.List.{List}
-use Prim.Native.Nat.{ℕ, _+_, _%_, _^_, _≤_}
+use Prim.Native.Nat.{ℕ, _+_, _*_, _%_, _^_, _≤_}
 use lib.ListN.{length, take, drop}
+use Rattle.sizes.specs.Sizes.{mostLines, lineLength, mostNodes, boardSize, bookSize, reportSize}
 use Rattle.replay.specs.declared.Plan.{Plan}
 use Rattle.replay.specs.declared.Plan.the-variants as plan
 use Rattle.replay.specs.declared.Solved.{Solved}
@@ -14,26 +15,39 @@ use Rattle.replay.specs.declared.Verdict.{Verdict}
 use Rattle.replay.specs.declared.Verdict.the-variants.{Same, Differs, Malformed}
 use Rattle.replay.specs.declared.Counts.{Counts}
 
--- room for a sheet of 2,001 lines and for the words wanted after a call
+-- where the words wanted of book and report and the seven numbers start, and how many there are; each buffer has some words more than a call needs
+abbrev pub bookFrom : ℕ
+bookFrom = boardSize + 16
+
+abbrev pub reportFrom : ℕ
+reportFrom = bookFrom + bookSize + 8
+
+abbrev pub sevenFrom : ℕ
+sevenFrom = reportFrom + reportSize + 4
+
+abbrev pub wanted : ℕ
+wanted = sevenFrom + 7
+
+-- room for a sheet of one line too many and for the words wanted after a call
 pub record Room (sheet want : List ℕ) : Type 0 where
-  pub sheet-room : 58029 ≤ length sheet
-  pub want-room : 30707 ≤ length want
+  pub sheet-room : lineLength * (mostLines + 1) ≤ length sheet
+  pub want-room : wanted ≤ length want
 
 -- the words wanted: the board's, the book's, the report's, the seven numbers
 pub record Wanted (seven board book report want : List ℕ) : Type 0 where
-  pub board-wanted : board ≡ take 16400 want
-  pub book-wanted : book ≡ take 10200 (drop 16400 want)
-  pub report-wanted : report ≡ take 4100 (drop 26600 want)
-  pub seven-wanted : seven ≡ take 7 (drop 30700 want)
+  pub board-wanted : board ≡ take bookFrom want
+  pub book-wanted : book ≡ take (bookSize + 8) (drop bookFrom want)
+  pub report-wanted : report ≡ take (reportSize + 4) (drop reportFrom want)
+  pub seven-wanted : seven ≡ take 7 (drop sevenFrom want)
 
--- a sheet that was read has at most 2,001 lines
+-- a sheet that was read has at most one line too many
 abbrev pub PlanIn : Plan → Type 0
-PlanIn (plan.Read c n) = n ≤ 2001
+PlanIn (plan.Read c n) = n ≤ mostLines + 1
 PlanIn plan.Bad = Unit {0}
 
--- the book has room for 4,096 nodes
+-- the solutions have no more nodes than a book has room for
 abbrev pub SolvedIn : Solved → Type 0
-SolvedIn (solved.Here p n) = n ≤ 4096
+SolvedIn (solved.Here p n) = n ≤ mostNodes
 SolvedIn solved.Bad = Unit {0}
 
 -- the unread bytes lie in a text of m bytes

@@ -5,8 +5,9 @@ ghost use mathlib.Core.Bool.{true};
 ghost use Prim.Native.Nat.{ℕ, _+_, _*_, _≤_, _<_};
 ghost use lib.ListN.{length, getD, take, drop};
 ghost use lib.Seq.{sets};
-ghost use Rattle.judgment.specs.Wall.{numbers};
-ghost use Rattle.replay.specs.Replay.{Room, Wanted, PlanIn, SolvedIn, UnreadIn, StepIn, counted};
+ghost use Rattle.sizes.specs.Sizes.{lineLength, mostNodes};
+ghost use Rattle.judgment.specs.Result.{numbers};
+ghost use Rattle.replay.specs.Replay.{wanted, Room, Wanted, PlanIn, SolvedIn, UnreadIn, StepIn, counted};
 use checker::check_type;
 use columns::write_line;
 use input::Got;
@@ -18,6 +19,14 @@ use libc::STDERR_FILENO;
 use libc::STDOUT_FILENO;
 use nodes::clear_words;
 use nodes::wide;
+use sizes::BOARD_SIZE;
+use sizes::BOOK_BASE;
+use sizes::BOOK_SIZE;
+use sizes::LINE_LENGTH;
+use sizes::MOST_LINES;
+use sizes::MOST_NODES;
+use sizes::REPORT_NODES;
+use sizes::REPORT_SIZE;
 use spelling::Triple;
 use std::num::wrapping_add_u64;
 
@@ -26,13 +35,13 @@ const DIRT: u32 = 3735928559;
 
 // The words wanted after a call: the board's from 0 on, then the book's, the report's and the seven numbers.
 // Each buffer has some words more than a call needs.
-const BOOK: usize = 16400;
+const BOOK: usize = BOARD_SIZE + 16;
 
-const REPORT: usize = 26600;
+const REPORT: usize = BOOK + BOOK_SIZE + 8;
 
-const SEVEN: usize = 30700;
+const SEVEN: usize = REPORT + REPORT_SIZE + 4;
 
-const WANTED: usize = 30707;
+const WANTED: usize = SEVEN + 7;
 
 // A number's sign and magnitude, and where the next one starts.
 enum Token {
@@ -126,7 +135,7 @@ fn read_words(line: &[u8], at: usize, dst: &mut [u32], to: usize, n: usize) -> N
 
 // Three numbers as a line of a sheet. What its columns can't hold is no line.
 fn sheet_line(line: &[u8], at: usize, sheet: &mut [u8], to: usize) -> Next
-    requires { ⌜ to + 29 ≤ length (now sheet) ⌝ }
+    requires { ⌜ to + lineLength ≤ length (now sheet) ⌝ }
 {
     let Word::Here(kind, p1) = word_at(line, at) else {
         return Next::Bad;
@@ -154,12 +163,12 @@ fn sheet_line(line: &[u8], at: usize, sheet: &mut [u8], to: usize) -> Next
 }
 
 fn sheet_lines(line: &[u8], at: usize, sheet: &mut [u8], n: usize) -> Next
-    requires { ⌜ 29 * n ≤ length (now sheet) ⌝ }
+    requires { ⌜ lineLength * n ≤ length (now sheet) ⌝ }
 {
     let mut next = at;
     let mut i = 0;
     while i < n {
-        let Next::At(p) = sheet_line(line, next, sheet, 29 * i) else {
+        let Next::At(p) = sheet_line(line, next, sheet, LINE_LENGTH * i) else {
             return Next::Bad;
         };
         next = p;
@@ -170,13 +179,13 @@ fn sheet_lines(line: &[u8], at: usize, sheet: &mut [u8], n: usize) -> Next
 
 // A count and that many nodes, as the report's first words.
 fn read_report(line: &[u8], at: usize, want: &mut [u32]) -> Next
-    requires { ⌜ 30707 ≤ length (now want) ⌝ }
+    requires { ⌜ wanted ≤ length (now want) ⌝ }
 {
     let Word::Here(count, next) = word_at(line, at) else {
         return Next::Bad;
     };
     let n = wide(count);
-    if n > 2048 {
+    if n > REPORT_NODES {
         return Next::Bad;
     }
     read_words(line, next, want, REPORT, 2 * n)
@@ -190,7 +199,7 @@ enum Solved {
 
 // An unknown, a count and that many nodes, laid into the book after `nodes` nodes.
 fn read_solution(line: &[u8], at: usize, want: &mut [u32], nodes: usize) -> Solved
-    requires { ⌜ (30707 ≤ length (now want)) × (nodes ≤ 4096) ⌝ }
+    requires { ⌜ (wanted ≤ length (now want)) × (nodes ≤ mostNodes) ⌝ }
     ensures { λ r. ⌜ SolvedIn r ⌝ }
 {
     let Word::Here(unknown, p1) = word_at(line, at) else {
@@ -204,10 +213,10 @@ fn read_solution(line: &[u8], at: usize, want: &mut [u32], nodes: usize) -> Solv
     if k > 999 {
         return Solved::Bad;
     }
-    if n > 4096 - nodes {
+    if n > MOST_NODES - nodes {
         return Solved::Bad;
     }
-    let start = 2000 + 2 * nodes;
+    let start = BOOK_BASE + 2 * nodes;
     want[BOOK + 2 * k] = start as u32;
     want[BOOK + 2 * k + 1] = count;
     let Next::At(p3) = read_words(line, p2, want, BOOK + start, 2 * n) else {
@@ -218,7 +227,7 @@ fn read_solution(line: &[u8], at: usize, want: &mut [u32], nodes: usize) -> Solv
 
 // A count and that many solutions.
 fn read_book(line: &[u8], at: usize, want: &mut [u32]) -> Next
-    requires { ⌜ 30707 ≤ length (now want) ⌝ }
+    requires { ⌜ wanted ≤ length (now want) ⌝ }
 {
     let Word::Here(count, first) = word_at(line, at) else {
         return Next::Bad;
@@ -240,11 +249,11 @@ fn read_book(line: &[u8], at: usize, want: &mut [u32]) -> Next
 
 // What a run leaves: the board 0, the report's types and the book's solutions, then 0.
 fn read_run(line: &[u8], at: usize, want: &mut [u32]) -> Next
-    requires { ⌜ 30707 ≤ length (now want) ⌝ }
+    requires { ⌜ wanted ≤ length (now want) ⌝ }
 {
-    clear_words(want, 0, 16384);
-    clear_words(want, BOOK, 10192);
-    clear_words(want, REPORT, 4096);
+    clear_words(want, 0, BOARD_SIZE);
+    clear_words(want, BOOK, BOOK_SIZE);
+    clear_words(want, REPORT, REPORT_SIZE);
     let Next::At(next) = read_report(line, at, want) else {
         return Next::Bad;
     };
@@ -269,7 +278,7 @@ fn read_no_run(line: &[u8], at: usize) -> Next {
 }
 
 fn read_answer(line: &[u8], at: usize, want: &mut [u32]) -> Next
-    requires { ⌜ 30707 ≤ length (now want) ⌝ }
+    requires { ⌜ wanted ≤ length (now want) ⌝ }
 {
     let Next::At(next) = read_words(line, at, want, SEVEN, 7) else {
         return Next::Bad;
@@ -360,7 +369,7 @@ fn seven_of(a: Answer) -> [u32; 7]
 
 // Whether all numbers and words are those wanted.
 fn is_wanted(seven: &[u32], board: &[u32], book: &[u32], report: &[u32], want: &[u32]) -> bool
-    requires { ⌜ 30707 ≤ length (now want) ⌝ }
+    requires { ⌜ wanted ≤ length (now want) ⌝ }
     ensures { λ r. ⌜ (r ≡ true → Wanted (now (seven .entry)) (now (board .entry)) (now (book .entry)) (now (report .entry)) (now (want .entry))) ⌝ }
 {
     if same(board, &want[..BOOK]) {
@@ -400,7 +409,7 @@ fn is_same(
     report: &mut [u32],
     want: &[u32],
 ) -> bool
-    requires { ⌜ 30707 ≤ length (now want) ⌝ }
+    requires { ⌜ wanted ≤ length (now want) ⌝ }
 {
     let answer = check_type(sheet, ceiling, board, book, report);
     let seven = seven_of(answer);
@@ -421,7 +430,7 @@ fn replay_record(
     let Plan::Read(ceiling, lines) = read_record(line, sheet, want) else {
         return Verdict::Malformed;
     };
-    let end = 29 * lines;
+    let end = LINE_LENGTH * lines;
     if is_same(&sheet[..end], ceiling, board, book, report, want) {
         Verdict::Same
     } else {
@@ -654,11 +663,11 @@ fn replay_all(
 
 fn main() {
     let mut text = [0u8; 65536];
-    let mut sheet = [0u8; 58029];
-    let mut board = [0u32; 16400];
-    let mut book = [0u32; 10200];
-    let mut report = [0u32; 4100];
-    let mut want = [0u32; 30707];
+    let mut sheet = [0u8; LINE_LENGTH * (MOST_LINES + 1)];
+    let mut board = [0u32; BOARD_SIZE + 16];
+    let mut book = [0u32; BOOK_SIZE + 8];
+    let mut report = [0u32; REPORT_SIZE + 4];
+    let mut want = [0u32; WANTED];
     replay_all(
         &mut text,
         &mut sheet,

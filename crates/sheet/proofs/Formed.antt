@@ -2,17 +2,17 @@
 use mathlib.Core.Path.{_≡_, refl, sym, ap, _∙_}
 use mathlib.Core.Logic.{_⊎_, inl, inr}
 use mathlib.Core.Bool.{Bool, true, false, cond, _&&_, _||_}
-use mathlib.Core.List.{List, [], _∷_, _++_, map}
+use mathlib.Core.List.{List, [], _∷_, _++_}
 use Prim.Native.Nat.{ℕ, zero, suc, _+_, _-_, _/_, _%_, _≤_, _<_}
-use native.Mathlib.Nat.{add-zero, zero-add, sub-zero}
+use native.Mathlib.Nat.{zero-add, sub-zero}
 use native.Mathlib.Omega.{arith}
-use lib.ListN.{length, getD, take, drop, drop-of-length-le}
+use lib.ListN.{length, getD, drop, drop-of-length-le}
 use lib.Dec.{eqb, leb, ltb}
-use borrow.Author.Tests.{eqb-true, eqb-false, ltb-true, ltb-false}
-use Rattle.nodes.specs.Parts.{takeParts, dropParts}
+use borrow.Author.Tests.{eqb-true, ltb-true, ltb-false}
+use Rattle.sizes.specs.Sizes.{lineLength}
+use Rattle.nodes.specs.Parts.{takeParts}
 use Rattle.nodes.proofs.PartLaws.{is-take}
 use Rattle.spelling.specs.declared.Triple.{Triple}
-use Rattle.spelling.specs.declared.Line.the-variants.{Spelt}
 use Rattle.spelling.specs.Spelling.{linesFrom, linesOf, firstMisspelt}
 use Rattle.spelling.proofs.Laws.{length-lines}
 use Rattle.kinds.specs.Kinds.{aType, aTerm, partsOf}
@@ -21,10 +21,10 @@ use Rattle.grammar.specs.declared.Declared.the-variants.{Named, Expected, Not}
 use Rattle.grammar.specs.declared.Got.{Got}
 use Rattle.grammar.specs.declared.Got.the-variants.{Next, Refused}
 use Rattle.grammar.specs.declared.Check.{Check}
-use Rattle.grammar.specs.declared.Check.the-variants.{Plan, Length, Misspelt, Unfit}
+use Rattle.grammar.specs.declared.Check.the-variants.{Plan, Length, Misspelt}
 use Rattle.grammar.specs.Grammar.{Item, part, entries, goal, named, declaredBy, stands, entryDue, read, readAt}
 use Rattle.grammar.specs.Check.{lengthOk, endOf, readSheet, fitting, check}
-use Rattle.sheet.specs.Plan.{noTriple, triples, partLine, isEntry, declarations, endFrom, entriesEnd, placesOf}
+use Rattle.sheet.specs.Plan.{noTriple, triples, partLine, isEntry, endFrom, entriesEnd, placesOf}
 use Rattle.sheet.specs.Form.{Forms, IsPart, Typed, Formed}
 use Rattle.sheet.proofs.Lines.{line-from, lines-between, drop-line}
 use Rattle.sheet.proofs.Declarations.{from, here, from-none, from-one, end-none, end-turn}
@@ -149,22 +149,22 @@ end-next n (Next k) = go (eqb k n) refl
     go false e f = absurd (let z : _≡_ {A = ℕ} 0 1 = cc in omega arith)
 end-next n (Refused l) = λ f. absurd (let z : _≡_ {A = ℕ} 0 1 = cc in omega arith)
 
-whole-read : (s : List ℕ) → check s ≡ Plan → readAt s (entries 1 0 ∷ []) 0 ≡ Next (length s / 29)
+whole-read : (s : List ℕ) → check s ≡ Plan → readAt s (entries 1 0 ∷ []) 0 ≡ Next (length s / lineLength)
 unfolding check readSheet
 whole-read s e =
     let m = firstMisspelt (linesOf s) in
     let a = cond-plan (lengthOk (length s)) _ Length e (λ z. (let y : _≡_ {A = ℕ} 0 1 = cc in omega arith)) in
-    end-next (length s / 29) (readAt s (entries 1 0 ∷ []) 0) (fits (ltb m (length s / 29)) (m + 1) (a .1))
+    end-next (length s / lineLength) (readAt s (entries 1 0 ∷ []) 0) (fits (ltb m (length s / lineLength)) (m + 1) (a .1))
   where
-    fits : (b : Bool) (l : ℕ) → cond b (Misspelt l) (fitting (endOf (length s / 29) (readAt s (entries 1 0 ∷ []) 0))) ≡ Plan
-        → fitting (endOf (length s / 29) (readAt s (entries 1 0 ∷ []) 0)) ≡ Plan
+    fits : (b : Bool) (l : ℕ) → cond b (Misspelt l) (fitting (endOf (length s / lineLength) (readAt s (entries 1 0 ∷ []) 0))) ≡ Plan
+        → fitting (endOf (length s / lineLength) (readAt s (entries 1 0 ∷ []) 0)) ≡ Plan
     fits true l e = absurd (let z : _≡_ {A = ℕ} 0 1 = cc in omega arith)
     fits false l e = e
 
 pub sheet-forms : (s : List ℕ) → check s ≡ Plan → Forms (triples s) (entries 1 0 ∷ [])
 unfolding readAt triples linesOf
 sheet-forms s e =
-    let n = length s / 29 in
+    let n = length s / lineLength in
     let k : 0 + length (linesFrom s 0 n) ≡ n = zero-add (length (linesFrom s 0 n)) ∙ length-lines s 0 n in
     let r : read (linesFrom s 0 n) (entries 1 0 ∷ []) 0 ≡ Next (0 + length (linesFrom s 0 n)) = rw (sub-zero n) at (whole-read s e) ∙ ap Next (sym k) in
     read-forms (linesFrom s 0 n) (entries 1 0 ∷ []) 0 r

@@ -1,12 +1,13 @@
 -- Laws of `triples` and `partLine`. Assumes nothing.
 use mathlib.Core.Path.{_≡_, refl, sym, ap, ap₂, _∙_}
-use mathlib.Core.List.{List, [], _∷_, _++_, map}
-use Prim.Native.Nat.{ℕ, zero, suc, _+_, _-_, _/_, _≤_, _<_}
+use mathlib.Core.List.{List, [], _∷_, _++_}
+use Prim.Native.Nat.{ℕ, suc, _+_, _-_, _/_, _≤_, _<_}
 use native.Mathlib.Nat.{add-zero}
 use native.Mathlib.Numerals.{add-one}
 use native.Mathlib.Omega.{arith}
 use lib.ListN.{length, getD, drop, length-map, length-append, length-drop, List·getD-map, drop-of-length-le}
 use lib.Seq.{drop-cons, drop-drop}
+use Rattle.sizes.specs.Sizes.{lineLength}
 use Rattle.nodes.specs.Parts.{takeParts, dropParts}
 use Rattle.nodes.proofs.PartLaws.{take-none, take-turn, take-all, take-take, drop-take, take-drop, length-take, is-drop}
 use Rattle.spelling.specs.declared.Triple.{Triple}
@@ -20,9 +21,9 @@ use Rattle.kinds.proofs.Rows.{few-parts}
 use Rattle.sheet.specs.Plan.{noTriple, tripleOf, triples, partLine}
 
 module _ (s : List ℕ) where
-  pub length-triples : length (triples s) ≡ length s / 29
+  pub length-triples : length (triples s) ≡ length s / lineLength
   unfolding triples linesOf
-  length-triples = length-map (linesOf s) tripleOf ∙ length-lines s 0 (length s / 29)
+  length-triples = length-map (linesOf s) tripleOf ∙ length-lines s 0 (length s / lineLength)
 
   pub triple-is : (i : ℕ) → getD (triples s) i noTriple ≡ tripleOf (lineAt s i)
   unfolding triples

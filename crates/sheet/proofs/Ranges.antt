@@ -8,6 +8,7 @@ use native.Mathlib.Omega.{arith}
 use lib.ListN.{length}
 use lib.Dec.{eqb, leb}
 use borrow.Author.Tests.{eqb-true, ne-eqb, leb-true}
+use Rattle.sizes.specs.Sizes.{mostLines}
 use Rattle.nodes.specs.Lists.{All}
 use Rattle.spelling.specs.declared.Triple.{Triple}
 use Rattle.spelling.specs.declared.Line.the-variants.{Spelt}
@@ -76,10 +77,10 @@ pub part-in-range : (x : ℕ) (ts : List Triple) → IsPart x ts → All InRange
 part-in-range x ts f = forms-in-range ts (part x ∷ []) tt f
 
 -- a plan has at most 2,000 lines
-pub plan-few : (s : List ℕ) → check s ≡ Plan → length (triples s) ≤ 2000
+pub plan-few : (s : List ℕ) → check s ≡ Plan → length (triples s) ≤ mostLines
 unfolding check
 plan-few s e = go (lengthOk (length s)) refl _ e
   where
-    go : (b : Bool) → lengthOk (length s) ≡ b → (x : Check) → cond b x Length ≡ Plan → length (triples s) ≤ 2000
+    go : (b : Bool) → lengthOk (length s) ≡ b → (x : Check) → cond b x Length ≡ Plan → length (triples s) ≤ mostLines
     go true h x q = omega (arith, few-lines (length s) h, length-triples s)
     go false h x q = absurd (let z : _≡_ {A = ℕ} 0 1 = cc in omega arith)

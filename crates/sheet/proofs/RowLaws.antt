@@ -9,11 +9,12 @@ use lib.Dec.{T, ltb, eqb, eqb→eq}
 use borrow.Author.Tests.{ltb-true, ltb-false, eqb-false}
 use lib.ListN.{length, getD, set, drop, length-set, length-replicate, getD-replicate, List·getD-eq-default}
 use lib.Seq.{getD-set-same, getD-set-other, getD-drop, ext-getD}
+use Rattle.sizes.specs.Sizes.{lineLength, mostLines}
 use Rattle.nodes.specs.Nodes.{zeros}
 use Rattle.spelling.specs.declared.Triple.{Triple}
 use Rattle.kinds.specs.Kinds.{partsOf}
 use Rattle.sheet.specs.Plan.{noTriple, triples, partLine}
-use Rattle.sheet.specs.Rows.{packed, rowTriple, rowsFrom, rows, lineCount, endAt, EndsFrom, setRow, Unlinked, rowWords, unlinkedWords}
+use Rattle.sheet.specs.Rows.{packed, rowTriple, rowsFrom, rows, lineCount, EndsFrom, setRow, Unlinked, rowWords, unlinkedWords}
 use Rattle.sheet.proofs.Lines.{length-triples, kind-small, count-small, line-turn, line-within}
 
 -- ---- what a row holds
@@ -239,7 +240,7 @@ module _ (s : List ℕ) (i : ℕ) (h : i < length (triples s)) (t : Triple) (e :
       let n : parts ≡ 1 - 1 + partsOf (getD (triples s) i noTriple) = p ∙ ap partsOf e ∙ sym (zero-add _) in
       q ∙ ap (partLine (triples s) (i + 1)) n ∙ line-turn (triples s) i 1 h (λ x. omega arith)
 
-  pub row-fits : length (triples s) ≤ 2000 → (t .kind < 1000) × (t .count < 100000) × (end ≤ 2001)
+  pub row-fits : length (triples s) ≤ mostLines → (t .kind < 1000) × (t .count < 100000) × (end ≤ mostLines + 1)
   row-fits f =
       let w = line-within (triples s) i 1 (omega arith) in
       let r = row-end in
@@ -247,5 +248,5 @@ module _ (s : List ℕ) (i : ℕ) (h : i < length (triples s)) (t : Triple) (e :
 
 -- the four stores of `read_row`
 pub row-stored : (d s : List ℕ) (i : ℕ) {t : Triple} {end p : ℕ} → t ≡ getD (triples s) i noTriple → p ≡ packed t end → end ≡ partLine (triples s) i 1
-    → set (set (set (set d (2 * i) (t .value)) (2 * i + 1) p) (2 * (length s / 29) + i) 0) (3 * (length s / 29) + i) 0 ≡ setRow d (length (triples s)) i (getD (triples s) i noTriple) (partLine (triples s) i 1)
+    → set (set (set (set d (2 * i) (t .value)) (2 * i + 1) p) (2 * (length s / lineLength) + i) 0) (3 * (length s / lineLength) + i) 0 ≡ setRow d (length (triples s)) i (getD (triples s) i noTriple) (partLine (triples s) i 1)
 row-stored d s i {t} {end} e q f = rw (q, f) (ap₂ (λ (u : Triple) (n : ℕ). setRow d n i u (partLine (triples s) i 1)) e (sym (length-triples s)))

@@ -6,6 +6,7 @@ use mathlib.Core.List.{List, [], _∷_, _++_}
 use Prim.Native.Nat.{ℕ, zero, suc, _+_, _*_, _-_, _/_, _%_, _≤_, _<_}
 use lib.Dec.{eqb, ltb}
 use lib.ListN.{length, getD, set, drop}
+use Rattle.sizes.specs.Sizes.{mostLines}
 use Rattle.nodes.specs.Nodes.{zeros}
 use Rattle.spelling.specs.declared.Triple.{Triple}
 use Rattle.sheet.specs.declared.Found.{Found}
@@ -86,7 +87,7 @@ setRow d n i t end = set (set (set (set d (2 * i) (t .value)) (2 * i + 1) (packe
 -- what line i asks: a row for each line, and the ends of those after it
 pub record RowAsk (d s : List ℕ) (i : ℕ) : Type 0 where
   pub room : length d ≡ 4 * length (triples s)
-  pub few : length (triples s) ≤ 2000
+  pub few : length (triples s) ≤ mostLines
   pub stands : i < length (triples s)
   pub after : EndsFrom (triples s) d (i + 1)
 

@@ -3,17 +3,18 @@
 // they mean as a plan is for a sheet that `grammar::check_sheet` takes.
 use kinds::parts_of;
 use reading::line_of_sheet;
+use sizes::LINE_LENGTH;
 use spelling::Line;
 use spelling::Triple;
 ghost use mathlib.Core.Path.{_≡_};
 ghost use mathlib.Core.Bool.{cond};
 ghost use mathlib.Core.List.{List};
-ghost use Prim.Native.Nat.{ℕ, _+_, _*_, _/_, _%_, _≤_, _<_};
+ghost use Prim.Native.Nat.{_+_, _*_, _/_, _%_, _≤_, _<_};
 ghost use lib.ListN.{length, getD, take, drop};
 ghost use lib.Seq.{sets};
+ghost use Rattle.sizes.specs.Sizes.{lineLength, mostLines};
 ghost use Rattle.nodes.specs.Nodes.{number, words};
 ghost use Rattle.nodes.specs.Lists.{All};
-ghost use Rattle.kinds.specs.Kinds.{partsOf};
 ghost use Rattle.sheet.specs.Plan.{noTriple, triples, partLine, lineNode, nodesOf, Narrow, isEntry, named, declarations, findEntry, entriesEnd, placesOf, isPlain as plainMark};
 ghost use Rattle.sheet.specs.Rows.{packed, rowTriple, rows, endAt, EndsFrom, Ended, setRow, RowAsk, linked, linkEntry, Unlinked, unlinkedWords, linkAll, sheetWords};
 
@@ -106,7 +107,7 @@ fn sign_bit(negative: bool) -> u64
 }
 
 fn pack(t: Triple, end: usize) -> u64
-    requires { ⌜ (t .kind < 1000) × (t .count < 100000) × (end ≤ 2001) ⌝ }
+    requires { ⌜ (t .kind < 1000) × (t .count < 100000) × (end ≤ mostLines + 1) ⌝ }
     ensures { λ r. ⌜ r ≡ packed t end ⌝ }
 {
     let sign = sign_bit(t.negative);
@@ -118,7 +119,7 @@ fn read_row(d: &mut [u64], s: &[u8], i: usize)
     requires { ⌜ RowAsk (now d) (now s) i ⌝ }
     ensures { λ _. ⌜ now (d .exit) ≡ setRow (now (d .entry)) (length (triples (now (s .entry)))) i (getD (triples (now (s .entry))) i noTriple) (partLine (triples (now (s .entry))) i 1) ⌝ }
 {
-    let lines = s.len() / 29;
+    let lines = s.len() / LINE_LENGTH;
     let t = read_line(s, i);
     let parts = parts_of(t) as usize;
     let end = after_parts(d, lines, i + 1, parts);
@@ -130,10 +131,10 @@ fn read_row(d: &mut [u64], s: &[u8], i: usize)
 
 // The lines of a sheet, the last one first.
 fn read_lines(d: &mut [u64], s: &[u8])
-    requires { ⌜ (length (now d) ≡ 4 * (length (now s) / 29)) × (length (now s) / 29 ≤ 2000) ⌝ }
+    requires { ⌜ (length (now d) ≡ 4 * (length (now s) / lineLength)) × (length (now s) / lineLength ≤ mostLines) ⌝ }
     ensures { λ _. ⌜ (rows (now (d .exit)) ≡ triples (now (s .entry))) × EndsFrom (rows (now (d .exit))) (now (d .exit)) 0 × Unlinked (now (d .exit)) × (now (d .exit) ≡ unlinkedWords (triples (now (s .entry)))) ⌝ }
 {
-    let mut i = s.len() / 29;
+    let mut i = s.len() / LINE_LENGTH;
     while 0 < i {
         i -= 1;
         read_row(d, s, i);
@@ -142,7 +143,7 @@ fn read_lines(d: &mut [u64], s: &[u8])
 
 // Reads a sheet: every word is fixed, those of the links too.
 pub fn read_rows(d: &mut [u64], s: &[u8])
-    requires { ⌜ (length (now d) ≡ 4 * (length (now s) / 29)) × (length (now s) / 29 ≤ 2000) ⌝ }
+    requires { ⌜ (length (now d) ≡ 4 * (length (now s) / lineLength)) × (length (now s) / lineLength ≤ mostLines) ⌝ }
     ensures { λ _. ⌜ (rows (now (d .exit)) ≡ triples (now (s .entry))) × Ended (now (d .exit)) × (now (d .exit) ≡ sheetWords (triples (now (s .entry)))) ⌝ }
 {
     read_lines(d, s);

@@ -1,19 +1,19 @@
 -- One byte of a field, and one line of a sheet, taken off the front.
 -- Assumes nothing.
 use mathlib.Core.Path.{_≡_, refl, sym, _∙_, ap, subst⁻¹}
-use mathlib.Core.Bool.{Bool, true, false, cond, _&&_, and-true, and-false, and-assoc, false≢true}
+use mathlib.Core.Bool.{Bool, true, false, cond, _&&_, and-true, and-assoc, false≢true}
 use mathlib.Core.List.{List, [], _∷_}
 use Prim.Native.Nat.{ℕ, zero, suc, _+_, _*_, _-_, _/_, _≤_, _<_}
 use native.Mathlib.Omega.{arith}
 use native.Mathlib.Nat.{add-assoc, add-zero, zero-add, sub-zero}
 use lib.Dec.{T, ltb, eqb, eqb→eq}
-use borrow.Author.Tests.{ltb-true, ltb-false, eq-eqb, ne-eqb}
+use borrow.Author.Tests.{ltb-true, ltb-false, ne-eqb}
 use lib.ListN.{length, getD, List·getD-eq-default}
+use Rattle.sizes.specs.Sizes.{lineLength}
 use Rattle.spelling.specs.Spelling.{fieldFrom, blank, spacesFrom, step, unsigned, magnitude, signOk, lineOf, lineAt, linesFrom, linesOf, firstMisspelt}
 use Rattle.spelling.specs.declared.Field.{Field}
 use Rattle.spelling.specs.declared.Field.the-variants.{Blank}
 use Rattle.spelling.specs.declared.Triple.{Triple}
-use Rattle.spelling.specs.declared.Line.{Line}
 use Rattle.spelling.specs.declared.Line.the-variants.{Spelt, Misspelt}
 
 field-step : (s : List ℕ) (at n m : ℕ) (f : Field) → n ≡ suc m → fieldFrom s at n f ≡ fieldFrom s (at + 1) m (step f (getD s at 0))
@@ -107,11 +107,11 @@ module _ (s : List ℕ) where
       go false e h = skip-none at (suc w)
 
 -- past the last whole line stands no LF
-pub past-end : (s : List ℕ) (i : ℕ) → length s / 29 ≤ i → lineAt s i ≡ Misspelt
+pub past-end : (s : List ℕ) (i : ℕ) → length s / lineLength ≤ i → lineAt s i ≡ Misspelt
 unfolding lineAt lineOf
 past-end s i h =
-    let z : getD s (29 * i + 28) 0 ≡ 0 = List·getD-eq-default s 0 (omega arith) in
-    rw z (none (unsigned (fieldFrom s (29 * i) 3 Blank)) (signOk (fieldFrom s (29 * i + 3) 20 Blank) (magnitude (fieldFrom s (29 * i) 3 Blank))) (unsigned (fieldFrom s (29 * i + 23) 5 Blank)) _)
+    let z : getD s (lineLength * i + 28) 0 ≡ 0 = List·getD-eq-default s 0 (omega arith) in
+    rw z (none (unsigned (fieldFrom s (lineLength * i) 3 Blank)) (signOk (fieldFrom s (lineLength * i + 3) 20 Blank) (magnitude (fieldFrom s (lineLength * i) 3 Blank))) (unsigned (fieldFrom s (lineLength * i + 23) 5 Blank)) _)
   where
     none : (a b c : Bool) (t : Triple) → cond (a && (b && (c && false))) (Spelt t) Misspelt ≡ Misspelt
     none true true true t = refl
@@ -142,19 +142,19 @@ get-line s i (suc n) (suc k) h = let e : i + 1 + k ≡ i + suc k = omega arith i
 -- the line at i, also where there is none
 pub line-of-sheet : (s : List ℕ) (i : ℕ) → getD (linesOf s) i Misspelt ≡ lineAt s i
 unfolding linesOf
-line-of-sheet s i = go (ltb i (length s / 29)) refl
+line-of-sheet s i = go (ltb i (length s / lineLength)) refl
   where
-    go : (t : Bool) → ltb i (length s / 29) ≡ t → getD (linesFrom s 0 (length s / 29)) i Misspelt ≡ lineAt s i
-    go true e = get-line s 0 (length s / 29) i (ltb-true i _ e) ∙ ap (lineAt s) (zero-add i)
+    go : (t : Bool) → ltb i (length s / lineLength) ≡ t → getD (linesFrom s 0 (length s / lineLength)) i Misspelt ≡ lineAt s i
+    go true e = get-line s 0 (length s / lineLength) i (ltb-true i _ e) ∙ ap (lineAt s) (zero-add i)
     go false e =
-        let h = ltb-false i (length s / 29) e in
-        List·getD-eq-default (linesFrom s 0 (length s / 29)) Misspelt (omega (arith, length-lines s 0 (length s / 29))) ∙ sym (past-end s i h)
+        let h = ltb-false i (length s / lineLength) e in
+        List·getD-eq-default (linesFrom s 0 (length s / lineLength)) Misspelt (omega (arith, length-lines s 0 (length s / lineLength))) ∙ sym (past-end s i h)
 
 -- ---- the first misspelt line
 abbrev pub Left : List ℕ → ℕ → ℕ → ℕ
 Left s i n = i + firstMisspelt (linesFrom s i (n - i))
 
-pub first-start : (s : List ℕ) (n : ℕ) → n ≡ length s / 29 → Left s 0 n ≡ firstMisspelt (linesOf s)
+pub first-start : (s : List ℕ) (n : ℕ) → n ≡ length s / lineLength → Left s 0 n ≡ firstMisspelt (linesOf s)
 unfolding linesOf
 first-start s n e = rw (e, zero-add, sub-zero)
 

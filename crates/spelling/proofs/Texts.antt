@@ -7,13 +7,13 @@ use Prim.Native.Nat.{ℕ, zero, suc, _+_, _*_, _-_, _^_, _≤_, _<_}
 use native.Mathlib.Omega.{arith}
 use native.Mathlib.Numerals.{add-one}
 use lib.ListN.{length, getD, take, drop, length-drop, length-take, length-append, List·getD-eq-default}
-use lib.Dec.{T, ltb, leb, eqb}
+use lib.Dec.{ltb, eqb}
 use lib.Seq.{take-add, drop-drop, length-take-le, drop-cons, take-at, drop-at}
 use borrow.Author.Tests.{lt-ltb, ltb-true, eq-eqb, eqb-true}
+use Rattle.sizes.specs.Sizes.{lineLength}
 use Rattle.spelling.specs.declared.Field.{Field}
 use Rattle.spelling.specs.declared.Field.the-variants.{Blank, Minus, Number, Bad}
 use Rattle.spelling.specs.declared.Triple.{Triple}
-use Rattle.spelling.specs.declared.Line.{Line}
 use Rattle.spelling.specs.declared.Line.the-variants.{Spelt, Misspelt}
 use Rattle.spelling.specs.Spelling.{fieldFrom, unsigned, magnitude, minus, signOk, lineOf, lineAt}
 use Rattle.spelling.specs.Text.{front, fieldText, lineText, lineBytes, Fair}
@@ -76,7 +76,7 @@ fields k v c e t = go (unsigned k) refl (signOk v (magnitude k)) refl (unsigned 
 two : (n m p q : ℕ) (s : List ℕ) → p + n ≡ q → take (n + m) (drop p s) ≡ take n (drop p s) ++ take m (drop q s)
 two n m p q s e = take-add n m (drop p s) ∙ rw (drop-drop n p s, e)
 
-four : (p : ℕ) (s : List ℕ) → take 29 (drop p s) ≡ take 3 (drop p s) ++ (take 20 (drop (p + 3) s) ++ (take 5 (drop (p + 23) s) ++ take 1 (drop (p + 28) s)))
+four : (p : ℕ) (s : List ℕ) → take lineLength (drop p s) ≡ take 3 (drop p s) ++ (take 20 (drop (p + 3) s) ++ (take 5 (drop (p + 23) s) ++ take 1 (drop (p + 28) s)))
 four p s =
     two 3 26 p (p + 3) s refl
     ∙ ap (λ (x : List ℕ). take 3 (drop p s) ++ x) (two 20 6 (p + 3) (p + 23) s (omega arith)
@@ -93,13 +93,13 @@ inside s i e = go (ltb i (length s)) refl
         absurd (let y : _≡_ {A = ℕ} 0 10 = sym z ∙ e in omega arith)
 
 module _ (s : List ℕ) (i : ℕ) (t : Triple) (z : lineAt s i ≡ Spelt t) where
-  the-fields : Fields (fieldFrom s (29 * i) 3 Blank) (fieldFrom s (29 * i + 3) 20 Blank) (fieldFrom s (29 * i + 23) 5 Blank) (getD s (29 * i + 28) 0) t
+  the-fields : Fields (fieldFrom s (lineLength * i) 3 Blank) (fieldFrom s (lineLength * i + 3) 20 Blank) (fieldFrom s (lineLength * i + 23) 5 Blank) (getD s (lineLength * i + 28) 0) t
   unfolding lineAt
   the-fields = fields _ _ _ _ t z
 
   -- a line that is read stands whole in the sheet
-  pub whole : 29 * i + 29 ≤ length s
-  whole = let h = inside s (29 * i + 28) (the-fields .ends) in omega arith
+  pub whole : lineLength * i + lineLength ≤ length s
+  whole = let h = inside s (lineLength * i + 28) (the-fields .ends) in omega arith
 
   piece : (at w : ℕ) (n : Bool) (m : ℕ) → at + w ≤ length s → fieldFrom s at w Blank ≡ Number n m → take w (drop at s) ≡ fieldText w (Number n m)
   piece at w n m h e = field-only w (take w (drop at s)) n m (length-take-le w (drop at s) (simp length-drop (omega arith))) (sym (field-run w at s Blank h) ∙ e)
@@ -108,7 +108,7 @@ module _ (s : List ℕ) (i : ℕ) (t : Triple) (z : lineAt s i ≡ Spelt t) wher
   pub only : lineBytes s i ≡ lineText t
   unfolding lineText
   only =
-      let p = 29 * i in
+      let p = lineLength * i in
       let f = the-fields in
       let h = whole in
       let one : take 1 (drop (p + 28) s) ≡ 10 ∷ [] = rw (drop-cons s (p + 28) 0 (omega arith)) (ap (λ (x : ℕ). x ∷ []) (f .ends)) in
@@ -119,9 +119,9 @@ module _ (s : List ℕ) (i : ℕ) (t : Triple) (z : lineAt s i ≡ Spelt t) wher
   fair =
       let f = the-fields in
       let h = whole in
-      let k = narrow 3 (29 * i) s false (t .kind) (omega arith) (f .kind) in
-      let c = narrow 5 (29 * i + 23) s false (t .count) (omega arith) (f .count) in
-      let p = in-range 20 (29 * i + 3) s (t .negative) (t .value) (omega arith) (f .value) in
+      let k = narrow 3 (lineLength * i) s false (t .kind) (omega arith) (f .kind) in
+      let c = narrow 5 (lineLength * i + 23) s false (t .count) (omega arith) (f .count) in
+      let p = in-range 20 (lineLength * i + 3) s (t .negative) (t .value) (omega arith) (f .value) in
       record { kind = k; count = c; value = sign-value (t .negative) (f .sign); minus = sign-minus (t .negative) (f .sign) p }
     where
       sign-value : (n : Bool) → signOk (Number n (t .value)) (t .kind) ≡ true → n ≡ false → t .value < 2 ^ 63
@@ -139,7 +139,7 @@ unfolding fieldText
 length-field zero f = refl
 length-field (suc w) f = length-append (fieldText w (front f)) _ ∙ rw (length-field w (front f)) (add-one w)
 
-pub length-text : (t : Triple) → length (lineText t) ≡ 29
+pub length-text : (t : Triple) → length (lineText t) ≡ lineLength
 unfolding lineText
 length-text t =
     simp (length-append, length-field 3 (Number false (t .kind)), length-field 20 (Number (t .negative) (t .value)), length-field 5 (Number false (t .count)))
@@ -161,8 +161,8 @@ value-text false v h g = field-reads 20 v (omega arith) (let z = h refl in omega
 pub reads-back : (s : List ℕ) (i : ℕ) (t : Triple) → Fair t → lineBytes s i ≡ lineText t → lineAt s i ≡ Spelt t
 unfolding lineAt lineOf lineText
 reads-back s i t y z =
-    let p = 29 * i in
-    let h : 29 * i + 29 ≤ length s = omega (arith, length-text t, ap length z, length-take 29 (drop p s), length-drop p s) in
+    let p = lineLength * i in
+    let h : lineLength * i + lineLength ≤ length s = omega (arith, length-text t, ap length z, length-take lineLength (drop p s), length-drop p s) in
     let len : (w at : ℕ) → at + w ≤ length s → length (take w (drop at s)) ≡ w = λ w at l. length-take-le w (drop at s) (simp length-drop (omega arith)) in
     let k : Field = Number false (t .kind) in
     let v : Field = Number (t .negative) (t .value) in
@@ -183,7 +183,7 @@ reads-back s i t y z =
 
 -- BACK and ONLY of 29 bytes by themselves
 pub text-reads : (t : Triple) → Fair t → lineAt (lineText t) 0 ≡ Spelt t
-text-reads t y = reads-back (lineText t) 0 t y (lib.Seq.take-all 29 (lineText t) (omega (arith, length-text t)))
+text-reads t y = reads-back (lineText t) 0 t y (lib.Seq.take-all lineLength (lineText t) (omega (arith, length-text t)))
 
-pub text-only : (l : List ℕ) (t : Triple) → length l ≡ 29 → lineAt l 0 ≡ Spelt t → l ≡ lineText t
-text-only l t h z = sym (lib.Seq.take-all 29 l (omega arith)) ∙ only l 0 t z
+pub text-only : (l : List ℕ) (t : Triple) → length l ≡ lineLength → lineAt l 0 ≡ Spelt t → l ≡ lineText t
+text-only l t h z = sym (lib.Seq.take-all lineLength l (omega arith)) ∙ only l 0 t z

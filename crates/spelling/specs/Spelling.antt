@@ -5,9 +5,9 @@ use mathlib.Core.List.{List, [], _∷_}
 use Prim.Native.Nat.{ℕ, zero, suc, _+_, _*_, _-_, _/_, _^_}
 use lib.ListN.{length, getD}
 use lib.Dec.{ltb, leb, eqb}
+use Rattle.sizes.specs.Sizes.{lineLength}
 use Rattle.spelling.specs.declared.Field.{Field}
 use Rattle.spelling.specs.declared.Field.the-variants.{Blank, Minus, Number, Bad}
-use Rattle.spelling.specs.declared.Triple.{Triple}
 use Rattle.spelling.specs.declared.Line.{Line}
 use Rattle.spelling.specs.declared.Line.the-variants.{Spelt, Misspelt}
 
@@ -80,8 +80,8 @@ lineOf k v c e =
 -- the line at i, counted from 0: kind in columns 1 to 3, value in 4 to 23, count in 24 to 28, LF
 unfoldable pub lineAt : List ℕ → ℕ → Line
 lineAt s i =
-    lineOf (fieldFrom s (29 * i) 3 Blank) (fieldFrom s (29 * i + 3) 20 Blank) (fieldFrom s (29 * i + 23) 5 Blank)
-    (getD s (29 * i + 28) 0)
+    lineOf (fieldFrom s (lineLength * i) 3 Blank) (fieldFrom s (lineLength * i + 3) 20 Blank) (fieldFrom s (lineLength * i + 23) 5 Blank)
+    (getD s (lineLength * i + 28) 0)
 
 -- the n lines from i on, and all lines of a sheet
 unfoldable pub linesFrom : List ℕ → ℕ → ℕ → List Line
@@ -89,7 +89,7 @@ linesFrom s i zero = []
 linesFrom s i (suc n) = lineAt s i ∷ linesFrom s (i + 1) n
 
 unfoldable pub linesOf : List ℕ → List Line
-linesOf s = linesFrom s 0 (length s / 29)
+linesOf s = linesFrom s 0 (length s / lineLength)
 
 -- how many lines stand before the first misspelt one
 unfoldable pub firstMisspelt : List Line → ℕ

@@ -6,6 +6,7 @@ use mathlib.Core.List.{List, [], _∷_, _++_}
 use Prim.Native.Nat.{ℕ, zero, suc, _+_, _*_, _/_, _%_, _^_, _≤_, _<_}
 use lib.ListN.{take, drop}
 use lib.Dec.{ltb}
+use Rattle.sizes.specs.Sizes.{lineLength}
 use Rattle.spelling.specs.declared.Field.{Field}
 use Rattle.spelling.specs.declared.Field.the-variants.{Blank, Minus, Number, Bad}
 use Rattle.spelling.specs.declared.Triple.{Triple}
@@ -37,7 +38,7 @@ lineText t =
 
 -- the bytes of the line at i, counted from 0
 abbrev pub lineBytes : List ℕ → ℕ → List ℕ
-lineBytes s i = take 29 (drop (29 * i) s)
+lineBytes s i = take lineLength (drop (lineLength * i) s)
 
 -- a triple that a line can say: each field no wider than its columns, the value in signed 64 bits, negative for kind 22 alone
 pub record Fair (t : Triple) : Type 0 where

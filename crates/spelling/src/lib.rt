@@ -1,10 +1,11 @@
 // How a sheet's lines are spelt: fields of decimal numbers, lines of 29 bytes.
 ghost use mathlib.Core.Path.{_≡_};
 ghost use mathlib.Core.Bool.{_&&_};
-ghost use Prim.Native.Nat.{ℕ, _+_, _*_, _-_, _/_, _≤_, _<_};
+ghost use Prim.Native.Nat.{_+_, _*_, _-_, _/_, _≤_, _<_};
 ghost use lib.Dec.{eqb};
-ghost use lib.ListN.{length, getD};
+ghost use lib.ListN.{length};
 ghost use Rattle.spelling.specs.Spelling.{digitStep, otherStep, step, fieldFrom, blank, spacesFrom, unsigned, magnitude, minus, signOk, lineOf, lineAt, linesOf, firstMisspelt};
+use sizes::LINE_LENGTH;
 
 // What the bytes of a field read so far spell.
 pub enum Field {
@@ -237,8 +238,8 @@ fn line_of(k: Field, v: Field, c: Field, e: u8) -> Line
 pub fn line_at(s: &[u8], i: usize) -> Line
     ensures { λ r. ⌜ r ≡ lineAt (now (s .entry)) i ⌝ }
 {
-    if i < s.len() / 29 {
-        let at = 29 * i;
+    if i < s.len() / LINE_LENGTH {
+        let at = LINE_LENGTH * i;
         let k = field_at(s, at, 3);
         let v = field_at(s, at + 3, 20);
         let c = field_at(s, at + 23, 5);
@@ -252,7 +253,7 @@ pub fn line_at(s: &[u8], i: usize) -> Line
 pub fn first_misspelt(s: &[u8]) -> usize
     ensures { λ r. ⌜ r ≡ firstMisspelt (linesOf (now (s .entry))) ⌝ }
 {
-    let n = s.len() / 29;
+    let n = s.len() / LINE_LENGTH;
     let mut i = 0;
     while i < n {
         match line_at(s, i) {

@@ -1,36 +1,40 @@
 -- The rule of a taken entry, by what the entry is. Assumes nothing.
-use mathlib.Core.Path.{_≡_, refl, sym, ap, _∙_, subst, subst⁻¹}
+use mathlib.Core.Path.{_≡_, refl, sym, ap, ap₂, _∙_, subst}
 use mathlib.Core.Logic.{_≢_}
 use mathlib.Core.Bool.{Bool, true, false, cond, _&&_}
 use mathlib.Core.List.{List, [], _∷_}
-use Prim.Native.Nat.{ℕ, zero, suc, _+_, _*_, _/_, _%_, _≤_, _<_}
+use Prim.Native.Nat.{ℕ, _+_, _*_, _/_, _%_, _≤_, _<_}
 use native.Mathlib.Omega.{arith}
-use lib.Dec.{eqb, leb, ltb}
-use lib.ListN.{length, drop, drop-of-length-le}
-use borrow.Author.Tests.{eq-eqb, ne-eqb, leb-true, ltb-true, ltb-false}
+use lib.Dec.{eqb, ltb}
+use lib.ListN.{length, drop-of-length-le}
+use borrow.Author.Tests.{ne-eqb, ltb-true, ltb-false}
 use lib.Seq.{sets}
 use Rattle.nodes.specs.Nodes.{node, Ty, words, nodesAt}
 use Rattle.nodes.specs.Parts.{takeParts}
 use Rattle.nodes.proofs.PartLaws.{take-all}
-use Rattle.nodes.proofs.Laws.{length-nodesAt, nodesAt-same}
+use Rattle.nodes.proofs.Laws.{length-nodesAt}
 use Rattle.spelling.specs.declared.Triple.{Triple}
 use Rattle.kinds.specs.Kinds.{aTerm, partsOf}
 use Rattle.sheet.specs.Rows.{rows}
 use Rattle.sheet.specs.Form.{IsPart}
 use Rattle.judgment.specs.Types.{view}
-use Rattle.judgment.specs.Terms.{termView}
-use Rattle.judgment.specs.Board.{Entry, tvar, var, sub, inf, chk, infApp, Rule, done}
-use Rattle.judgment.specs.Rules.{Env, subtype, inferBy, checkBy, inferApp, rule}
+use Rattle.judgment.specs.Terms.{termView, lambdaOf}
+use Rattle.judgment.specs.Solutions.{writeOut}
+use Rattle.judgment.specs.Board.{tvar, var, sub, inf, chk, infApp, done}
+use Rattle.judgment.specs.Rules.{Env, inferBy, checkBy, rule}
 use Rattle.board.specs.declared.Top.{Top}
 use Rattle.board.specs.Board.{termAt, entryOf}
+use Rattle.book.specs.Book.{sols}
 use Rattle.operations.specs.declared.Run.{Run}
-use Rattle.operations.specs.State.{WellFormed, Does}
+use Rattle.operations.specs.State.{Does}
 use Rattle.operations.proofs.Then.{does-as}
 use Rattle.inference.proofs.Written.{copied}
-use Rattle.patterns.specs.Turns.{Ready}
-use Rattle.subtyping.specs.Subtyping.{Sound, SubtypeAsk}
-use Rattle.checking.specs.Checking.{CheckAsk}
+use Rattle.subtyping.specs.Subtyping.{Sound, subtypeReport, SubtypeAsk}
+use Rattle.checking.specs.Checking.{checkedType, checkedOut, CheckAsk}
+use Rattle.applying.specs.Applying.{appReport}
 use Rattle.inferring.specs.Inferring.{InferAsk}
+use Rattle.inferring.specs.Rooms.{Scratch, scratch, inferScratch}
+use Rattle.stepping.specs.Rooms.{room, judgedRoom}
 use Rattle.stepping.specs.Stepping.{topEntry, EntrySound, JudgeAsk}
 use Rattle.stepping.proofs.Reading.{read-few, read-formed}
 
@@ -134,6 +138,21 @@ module _ {m : ℕ} {s b k rep : List ℕ} {c : Run} {o : Top} {t l r w v : List 
         room = omega arith;
       }
 
+  -- the room after a Sub, an InfApp, a TVar or a Var
+  pub sub-room : o .kind ≡ 3 → {rep' : List ℕ} → rep' ≡ subtypeReport rep c (writeOut (sols k) (nodesAt b (o .at) (o .left))) (writeOut (sols k) (nodesAt b (o .at + 2 * o .left) (o .right))) m
+      → room rep' t l r w v ≡ judgedRoom m s b k c o (room rep t l r w v)
+  unfolding judgedRoom
+  sub-room h q = rw (h, q) refl
+
+  pub app-room : o .kind ≡ 6 → {rep' : List ℕ} → rep' ≡ appReport rep c (writeOut (sols k) (nodesAt b (o .at) (o .left))) (writeOut (sols k) (nodesAt b (o .at + 2 * o .left) (o .right))) m
+      → room rep' t l r w v ≡ judgedRoom m s b k c o (room rep t l r w v)
+  unfolding judgedRoom
+  app-room h q = rw (h, q) refl
+
+  pub other-room : o .kind ≢ 3 → o .kind ≢ 4 → o .kind ≢ 5 → o .kind ≢ 6 → room rep t l r w v ≡ judgedRoom m s b k c o (room rep t l r w v)
+  unfolding judgedRoom
+  other-room e f g h = rw (ne-eqb (o .kind) 3 e, ne-eqb (o .kind) 4 f, ne-eqb (o .kind) 5 g, ne-eqb (o .kind) 6 h) refl
+
   -- the rule of an Inf or a Chk on a copy of the taken type is that of the entry
   module _ {t' : List ℕ} (e : t' ≡ sets t 0 (words (nodesAt b (o .at) (o .left)))) where
     same-type : nodesAt t' 0 (o .left) ≡ nodesAt b (o .at) (o .left)
@@ -141,6 +160,18 @@ module _ {m : ℕ} {s b k rep : List ℕ} {c : Run} {o : Top} {t l r w v : List 
 
     pub inferred : (E : Env) {b' k' rep' : List ℕ} {q : Run} → o .kind ≡ 4 → Does m ls b k rep c (inferBy E (nodesAt t' 0 (o .left)) (termView (termAt ls (o .number)))) b' k' rep' q → Does m ls b k rep c (rule E (topEntry ls b o)) b' k' rep' q
     inferred E h = does-as (λ _. ap (λ (X : Ty). inferBy E X (termView (termAt ls (o .number)))) same-type ∙ ap (rule E) (sym (is-inf ls (o .number) _ _ (o .kind) h)))
+
+    pub inferred-room : o .kind ≡ 4 → {l' r' w' v' : List ℕ} → scratch l' r' w' v' ≡ inferScratch b c s (o .number) (nodesAt t' 0 (o .left)) (scratch l r w v)
+        → room rep t' l' r' w' v' ≡ judgedRoom m s b k c o (room rep t l r w v)
+    unfolding judgedRoom
+    inferred-room h q = rw h (ap₂ (λ (y : List ℕ) (z : Scratch). record { report = rep; type = y; scratch = z }) e (q ∙ ap (λ (X : Ty). inferScratch b c s (o .number) X (scratch l r w v)) same-type))
+
+    pub checked-room : o .kind ≡ 5 → {t″ l' : List ℕ} → t″ ≡ checkedType t' (c .fresh) (view (nodesAt t' 0 (o .left))) → l' ≡ checkedOut l (lambdaOf (termAt ls (o .number))) (view (nodesAt t' 0 (o .left)))
+        → room rep t″ l' r w v ≡ judgedRoom m s b k c o (room rep t l r w v)
+    unfolding judgedRoom
+    checked-room h p q = rw h (ap₂ (λ (y z : List ℕ). room rep y z r w v)
+        (p ∙ ap₂ (λ (y : List ℕ) (X : Ty). checkedType y (c .fresh) (view X)) e same-type)
+        (q ∙ ap (λ (X : Ty). checkedOut l (lambdaOf (termAt ls (o .number))) (view X)) same-type))
 
     pub checked : (E : Env) {b' k' rep' : List ℕ} {q : Run} → o .kind ≡ 5 → Does m ls b k rep c (checkBy E (termAt ls (o .number)) (nodesAt t' 0 (o .left)) (view (nodesAt t' 0 (o .left)))) b' k' rep' q → Does m ls b k rep c (rule E (topEntry ls b o)) b' k' rep' q
     checked E h = does-as (λ _. ap (λ (X : Ty). checkBy E (termAt ls (o .number)) X (view X)) same-type ∙ ap (rule E) (sym (is-chk ls (o .number) _ _ (o .kind) h)))

@@ -24,6 +24,7 @@ use denote.Triple.Clauses.{lasts}
 use Rattle.stepping.specs.declared.Counters.{Counters}
 use Rattle.stepping.specs.declared.Kept.{Kept}
 use Rattle.stepping.specs.declared.Stepped.{Stepped}
+use Rattle.stepping.specs.Rooms.{room}
 use Rattle.stepping.specs.Stepping.{joined, StepAsk, Stepping}
 use Rattle.stepping.proofs.Counters as C
 use Rattle.stepping.proofs.Counters.Laws as C′
@@ -61,7 +62,11 @@ abbrev pub Ask : Counters → Kept → Slices → Type 0
 Ask n k x = StepAsk (k .limit) (x .1 .1 .1 .0 .now) (x .0 .now) (x .1 .0 .now) (x .1 .1 .0 .now) (joined n k) (x .1 .1 .1 .1 .0 .now) (x .1 .1 .1 .1 .1 .0 .now) (x .1 .1 .1 .1 .1 .1 .0 .now) (x .1 .1 .1 .1 .1 .1 .1 .0 .now) (x .1 .1 .1 .1 .1 .1 .1 .1 .0 .now)
 
 abbrev pub Says : Counters → Kept → Slices → Counters → Kept → Lists → Type 0
-Says n k x c d ws = Stepping (k .limit) (x .1 .1 .1 .0 .now) (x .0 .now) (x .1 .0 .now) (x .1 .1 .0 .now) (joined n k) (ws .0) (ws .1 .0) (ws .1 .1 .0) (joined c d)
+Says n k x c d ws =
+    Stepping (k .limit) (x .1 .1 .1 .0 .now) (x .0 .now) (x .1 .0 .now) (joined n k)
+    (room (x .1 .1 .0 .now) (x .1 .1 .1 .1 .0 .now) (x .1 .1 .1 .1 .1 .0 .now) (x .1 .1 .1 .1 .1 .1 .0 .now) (x .1 .1 .1 .1 .1 .1 .1 .0 .now) (x .1 .1 .1 .1 .1 .1 .1 .1 .0 .now))
+    (ws .0) (ws .1 .0) (joined c d)
+    (room (ws .1 .1 .0) (ws .1 .1 .1 .1 .0) (ws .1 .1 .1 .1 .1 .0) (ws .1 .1 .1 .1 .1 .1 .0) (ws .1 .1 .1 .1 .1 .1 .1 .0) (ws .1 .1 .1 .1 .1 .1 .1 .1 .0))
 
 abbrev pub Left : Lft → Counters → Kept → Slices → Lists → Fml
 Left κ n k x ws = lasts apart.ended (κ, tt) (n, (k, x)) (tt, (tt, ws))

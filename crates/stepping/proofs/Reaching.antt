@@ -1,47 +1,39 @@
 -- What every state of a sheet's run has, and so what a step may ask for. Assumes nothing.
-use mathlib.Core.Path.{_≡_, refl, sym, ap, _∙_, subst, subst⁻¹}
-use mathlib.Core.Bool.{Bool, true, false, cond, and-eq-true-iff}
+use mathlib.Core.Path.{_≡_, _∙_, subst, subst⁻¹}
+use mathlib.Core.Bool.{Bool, true, false, cond}
 use mathlib.Core.List.{List, [], _∷_}
-use Prim.Native.Nat.{ℕ, zero, suc, _+_, _*_, _≤_, _<_}
-use lib.ListN.{length}
+use Prim.Native.Nat.{ℕ, _+_, _*_, _≤_, _<_}
 use Rattle.nodes.specs.Nodes.{Node, Ty, nodesAt}
 use Rattle.nodes.specs.Lists.{All}
 use Rattle.nodes.proofs.ListLaws.{all-map, cond-ind}
-use Rattle.spelling.specs.declared.Triple.{Triple}
 use Rattle.sheet.specs.Plan.{lineNode, Binding, _∶_, planOf}
 use Rattle.judgment.specs.Terms.{Term}
-use Rattle.judgment.proofs.TypeLaws.{Lines}
 use Rattle.sheet.specs.Rows.{rows}
-use Rattle.judgment.specs.Solutions.{Solution, Solutions, value}
-use Rattle.judgment.specs.Board.{Entry, tvar, var, sub, inf, chk, infApp, Limits, State, state, Outcome, finished, refused, perform}
+use Rattle.judgment.specs.Solutions.{Solutions, value}
+use Rattle.judgment.specs.Board.{Entry, tvar, var, sub, inf, chk, infApp, Limits, state, Outcome, finished, refused, perform}
 use Rattle.judgment.specs.Board.{Board as Entries}
 use Rattle.judgment.specs.Rules.{Env, rule}
+use Rattle.judgment.specs.Chain.{stepO}
 use Rattle.judgment.specs.Result.{limitsWith}
-use Rattle.judgment.proofs.Invariant.{OK, EntryOK, SolutionOK, Inv, Kept, perform-kept}
+use Rattle.judgment.specs.Good.{IsTy, EntryWhole, Lines, OK, EntryOK, SolutionOK, Inv, StateOK}
+use Rattle.judgment.proofs.Invariant.{Kept, perform-kept}
 use Rattle.judgment.proofs.RuleLaws.{BindingOK, EnvOK, Explains, rule-good}
-use Rattle.judgment.proofs.WholeTypes.{IsTy}
-use Rattle.judgment.proofs.WholeRun.{EntryWhole, EnvWhole, OutcomeWhole, perform-whole, rule-whole}
-use Rattle.judgment.proofs.Promised.{plan-env, plan-inv}
+use Rattle.judgment.proofs.WholeRun.{EnvWhole, OutcomeWhole, perform-whole, rule-whole}
+use Rattle.judgment.proofs.Promised.{plan-env}
 use Rattle.board.specs.Board.{entriesOf}
 use Rattle.book.specs.Book.{sols}
 use Rattle.operations.specs.declared.Halt.{Halt}
 use Rattle.operations.specs.declared.Run.{Run}
-use Rattle.operations.specs.State.{reported, errorOf, going, outcomeBy, outcomeOf, stateOf, WellFormed}
+use Rattle.operations.specs.State.{reported, errorOf, going, outcomeBy, outcomeOf, WellFormed}
 use Rattle.subtyping.specs.Subtyping.{Made, Sound}
 use Rattle.applying.specs.Applying.{envOn}
-use Rattle.stepping.specs.Stepping.{stepO, EntrySound, Standing}
+use Rattle.stepping.specs.Stepping.{EntrySound, Standing}
 use Rattle.stepping.proofs.Reading.{read-good, read-whole}
 
 module _ (Plain : Type 0) where
-  -- unknowns below the counter, whole types
-  pub record StateOK (Γ : Entries) (σ : Solutions) (n : ℕ) : Type 0 where
-    pub inv : Inv Plain Γ σ n
-    pub entries : All EntryWhole Γ
-    pub solutions : All (λ x. IsTy (value x)) σ
-
   abbrev pub OutcomeOK : Outcome → Type 0
-  OutcomeOK (finished (state Γ σ n)) = StateOK Γ σ n
-  OutcomeOK (refused r ts (state Γ σ n)) = StateOK Γ σ n
+  OutcomeOK (finished (state Γ σ n)) = StateOK Plain Γ σ n
+  OutcomeOK (refused r ts (state Γ σ n)) = StateOK Plain Γ σ n
 
   both : (Q : Entries → Solutions → ℕ → Type 0) (o : Outcome) → Kept Plain Q o → OutcomeWhole o → OutcomeOK o
   both Q (finished (state Γ σ n)) k w = record { inv = k .0; entries = w .0; solutions = w .1 }
@@ -57,14 +49,14 @@ module _ (Plain : Type 0) where
   step-ok L E h g (refused r ts s) q = q
 
   -- refused or not
-  pub of-outcome : (h : Halt) (rep : List ℕ) (Γ : Entries) (σ : Solutions) (n : ℕ) → OutcomeOK (outcomeBy h rep (state Γ σ n)) → StateOK Γ σ n
+  pub of-outcome : (h : Halt) (rep : List ℕ) (Γ : Entries) (σ : Solutions) (n : ℕ) → OutcomeOK (outcomeBy h rep (state Γ σ n)) → StateOK Plain Γ σ n
   of-outcome h rep Γ σ n q = by (going h) q
     where
-      by : (g : Bool) → OutcomeOK (cond g (finished (state Γ σ n)) (refused (errorOf h) (nodesAt rep 0 (reported (errorOf h))) (state Γ σ n))) → StateOK Γ σ n
+      by : (g : Bool) → OutcomeOK (cond g (finished (state Γ σ n)) (refused (errorOf h) (nodesAt rep 0 (reported (errorOf h))) (state Γ σ n))) → StateOK Plain Γ σ n
       by true q = q
       by false q = q
 
-  pub to-outcome : (h : Halt) (rep : List ℕ) (Γ : Entries) (σ : Solutions) (n : ℕ) → StateOK Γ σ n → OutcomeOK (outcomeBy h rep (state Γ σ n))
+  pub to-outcome : (h : Halt) (rep : List ℕ) (Γ : Entries) (σ : Solutions) (n : ℕ) → StateOK Plain Γ σ n → OutcomeOK (outcomeBy h rep (state Γ σ n))
   to-outcome h rep Γ σ n q = cond-ind OutcomeOK (going h) (λ _. q) (λ _. q)
 
   -- what a rule asks of its entry, and of the solutions
@@ -118,14 +110,11 @@ module _ (P : Type 0) where
   pub bare-env : {E : Env} → EnvOK P E → EnvOK ⊥ E
   bare-env {E} h = record { constructors = all-map bare-binding (E .constructors) (h .constructors); context = all-map bare-binding (E .context) (h .context) }
 
-pub standing-ok : {s b k : List ℕ} {c : Run} → Standing s b k c → StateOK ⊥ (entriesOf (rows s) b (c .board .entries)) (sols k) (c .fresh)
-standing-ok q = record { inv = q .inv; entries = q .entries; solutions = q .solutions }
-
 -- what a step leaves is standing
 pub stands : (m : ℕ) {s b k : List ℕ} (rep : List ℕ) {c : Run} {b' k' : List ℕ} (rep' : List ℕ) {q : Run} → Standing s b k c → WellFormed b' k' q → outcomeOf (rows s) b' k' rep' q ≡ stepO (limitsWith m) (envOn s) (outcomeOf (rows s) b k rep c) → Standing s b' k' q
 stands m {s} {b} {k} rep {c} {b'} {k'} rep' {q} h f e =
     let p = planOf (rows s) in
     let w = read-whole (h .plan) in
     let o = of-outcome ⊥ (q .halt) rep' (entriesOf (rows s) b' (q .board .entries)) (sols k') (q .fresh)
-    (subst⁻¹ (OutcomeOK ⊥) e (step-ok ⊥ (limitsWith m) (envOn s) (bare-env (p .plain ≡ true) (plan-env p (read-good (h .plan)))) (w .0) (outcomeOf (rows s) b k rep c) (to-outcome ⊥ (c .halt) rep _ _ _ (standing-ok h)))) in
-    record { plan = h .plan; formed = f; inv = o .inv; entries = o .entries; solutions = o .solutions }
+    (subst⁻¹ (OutcomeOK ⊥) e (step-ok ⊥ (limitsWith m) (envOn s) (bare-env (p .plain ≡ true) (plan-env p (read-good (h .plan)))) (w .0) (outcomeOf (rows s) b k rep c) (to-outcome ⊥ (c .halt) rep _ _ _ (h .good)))) in
+    record { plan = h .plan; formed = f; good = o }

@@ -4,6 +4,7 @@ use mathlib.Core.List.{List}
 use Prim.Native.Nat.{ℕ, _/_, _≤_}
 use native.Mathlib.Omega.{arith}
 use lib.ListN.{length}
+use Rattle.sizes.specs.Sizes.{lineLength, mostLines}
 use Rattle.spelling.specs.declared.Triple.{Triple}
 use Rattle.grammar.specs.declared.Check.the-variants.{Plan}
 use Rattle.grammar.specs.Check.{check}
@@ -15,16 +16,17 @@ use Rattle.sheet.proofs.Ranges.{plan-few}
 use Rattle.sheet.proofs.Formed.{formed}
 use Rattle.judgment.specs.Board.{chk}
 use Rattle.judgment.specs.Result.{envOf}
-use Rattle.judgment.proofs.WholeRun.{EntryWhole, EnvWhole, plan-whole}
+use Rattle.judgment.specs.Good.{EntryWhole}
+use Rattle.judgment.proofs.WholeRun.{EnvWhole, plan-whole}
 use Rattle.judgment.proofs.Promised.{GoodPlan, sheet-plan}
 use Rattle.stepping.specs.Stepping.{Read}
 
 -- at most 2,000 lines
-pub plan-lines : (s : List ℕ) → check s ≡ Plan → length s / 29 ≤ 2000
+pub plan-lines : (s : List ℕ) → check s ≡ Plan → length s / lineLength ≤ mostLines
 plan-lines s e = let n = length-triples s in let m = plan-few s e in omega arith
 
 module _ {d : List ℕ} (h : Read d) where
-  pub read-few : length (rows d) ≤ 2000
+  pub read-few : length (rows d) ≤ mostLines
   read-few =
       let n = length-triples (h .sheet) in
       let m = plan-lines (h .sheet) (h .plan) in

@@ -1,38 +1,32 @@
 -- One step in words is one step of the definition's run. Assumes nothing.
-use mathlib.Core.Path.{_≡_, refl, sym, ap, ap₂, _∙_, subst, subst⁻¹}
-use mathlib.Core.Bool.{Bool, true, false, cond}
+use mathlib.Core.Path.{_≡_, ap, _∙_, subst}
 use mathlib.Core.List.{List, [], _∷_}
-use Prim.Native.Nat.{ℕ, zero, suc, _+_, _*_, _-_, _≤_, _<_}
-use native.Mathlib.Numerals.{add-one}
+use Prim.Native.Nat.{ℕ, _+_, _*_, _-_, _≤_, _<_}
 use native.Mathlib.Omega.{arith}
-use lib.ListN.{length}
-use Rattle.nodes.specs.Nodes.{nodesAt}
+use Rattle.sizes.specs.Sizes.{mostNodes}
 use Rattle.nodes.specs.Lists.{All}
 use Rattle.spelling.specs.declared.Triple.{Triple}
 use Rattle.sheet.specs.Rows.{rows}
-use Rattle.judgment.specs.Board.{Entry, State, state, Outcome, finished, refused, perform}
+use Rattle.judgment.specs.Board.{Entry, state}
 use Rattle.judgment.specs.Board.{Board as Entries}
-use Rattle.judgment.specs.Rules.{Env, rule}
-use Rattle.judgment.specs.Chain.{performO, performs}
+use Rattle.judgment.specs.Rules.{rule}
+use Rattle.judgment.specs.Chain.{stepO, performO}
+use Rattle.judgment.proofs.Chained.{performs}
 use Rattle.judgment.specs.Result.{limitsWith}
-use Rattle.judgment.proofs.Invariant.{EntryOK}
-use Rattle.judgment.proofs.WholeRun.{EntryWhole}
+use Rattle.judgment.specs.Good.{EntryWhole, EntryOK}
 use Rattle.board.specs.declared.Board.{Board}
 use Rattle.board.specs.declared.Top.{Top}
-use Rattle.board.specs.Board.{entryOf, entriesOf, Stacked, topOf, size}
+use Rattle.board.specs.Board.{entriesOf, Stacked, topOf}
 use Rattle.board.proofs.Stacks.{top-size, top-entries, top-stacked, top-within}
 use Rattle.book.specs.Book.{sols}
 use Rattle.operations.specs.declared.Run.{Run}
-use Rattle.operations.specs.State.{Came, outcomeBy, outcomeOf, stateOf, WellFormed, Does, going}
+use Rattle.operations.specs.State.{Words, Came, performW, outcomeBy, outcomeOf, stateOf, WellFormed, Does}
 use Rattle.applying.specs.Applying.{envOn}
-use Rattle.stepping.specs.Stepping.{stepO, topEntry, JudgeAsk, Stepping, StepAsk}
-use Rattle.stepping.proofs.Reaching.{entry-sound, solutions-sound, standing-ok, stands}
+use Rattle.stepping.specs.Rooms.{Room, room, judgedRoom}
+use Rattle.stepping.specs.Stepping.{topEntry, taking, JudgeAsk, Stepping, StepAsk}
+use Rattle.stepping.proofs.Reaching.{entry-sound, solutions-sound, stands}
 
--- the run with the newest entry taken
-abbrev pub taking : Run → Top → Run
-taking c o = record { taken = c .taken + 1; fresh = c .fresh; board = o .rest; book = c .book; halt = c .halt }
-
-top-few : {b : List ℕ} {d : Board} → Stacked b d → 0 < d .entries → topOf b d .left + topOf b d .right ≤ 4096
+top-few : {b : List ℕ} {d : Board} → Stacked b d → 0 < d .entries → topOf b d .left + topOf b d .right ≤ mostNodes
 unfolding topOf
 top-few h l = let x = top-size h l in let y = h .fewNodes in omega arith
 
@@ -59,7 +53,7 @@ module _ {m : ℕ} {s b k rep : List ℕ} {c : Run} {t l r w v : List ℕ} (a : 
 
   pub step-asks : JudgeAsk m s b k rep (taking c o) o t l r w v
   step-asks =
-      let q = standing-ok (a .standing) in
+      let q = a .standing .good in
       record {
         plan = a .standing .plan;
         formed = formed-next;
@@ -75,13 +69,22 @@ module _ {m : ℕ} {s b k rep : List ℕ} {c : Run} {t l r w v : List ℕ} (a : 
         solutions = solutions-sound ⊥ (c .fresh) (sols k) (q .inv .solutions) (q .solutions);
       }
 
-  pub step-reached : {b' k' rep' : List ℕ} {q : Run} → Does m ls b k rep (taking c o) (rule (envOn s) (topEntry ls b o)) b' k' rep' q → Stepping m s b k rep c b' k' rep' q
-  step-reached {b'} {k'} {rep'} {q} d =
+  pub step-reached : {b' k' : List ℕ} {q : Run} {x' : Room} → Does m ls b k rep (taking c o) (rule (envOn s) (topEntry ls b o)) b' k' (x' .report) q × (x' ≡ judgedRoom m s b k (taking c o) o (room rep t l r w v))
+      → Stepping m s b k c (room rep t l r w v) b' k' q x'
+  step-reached {b'} {k'} {q} {x'} p =
+      let d = p .0 in
+      let rep' = x' .report in
       let E = envOn s in
       let g = a .goes in
-      let p : Entry = topEntry ls b o in
+      let n : Entry = topEntry ls b o in
       let σ = sols k in
-      let one : performO (limitsWith m) (rule E p) (outcomeBy (c .halt) rep (state below σ (c .fresh))) ≡ stepO (limitsWith m) E (outcomeBy (c .halt) rep (stateOf ls b k c))
-      = rw (g, entries-are) (performs (limitsWith m) (rule E p) below σ (c .fresh)) in
-      let e : outcomeOf ls b' k' rep' q ≡ stepO (limitsWith m) E (outcomeOf ls b k rep c) = ap (λ (x : Came). x .outcome) (d .outcome) ∙ one in
-      record { standing = stands m rep rep' (a .standing) (d .kept) e; outcome = e; taken = d .taken }
+      let one : performO (limitsWith m) (rule E n) (outcomeBy (c .halt) rep (state below σ (c .fresh))) ≡ stepO (limitsWith m) E (outcomeBy (c .halt) rep (stateOf ls b k c))
+      = rw (g, entries-are) (performs (limitsWith m) (rule E n) below σ (c .fresh)) in
+      let f : outcomeOf ls b' k' rep' q ≡ stepO (limitsWith m) E (outcomeOf ls b k rep c) = ap (λ (x : Came). x .outcome) (d .outcome) ∙ one in
+      record {
+        standing = stands m rep rep' (a .standing) (d .kept) f;
+        outcome = f;
+        taken = d .taken;
+        words = subst (λ (y : Top). _≡_ {A = Words} (record { board = b'; book = k'; run = q }) (performW m ls (rule E (topEntry ls b y)) (record { board = b; book = k; run = taking c y }))) e (ap (λ (y : Came). y .words) (d .outcome));
+        room = subst (λ (y : Top). x' ≡ judgedRoom m s b k (taking c y) y (room rep t l r w v)) e (p .1);
+      }

@@ -4,6 +4,7 @@ use mathlib.Core.Bool.{true}
 use mathlib.Core.List.{List, [], _∷_}
 use Prim.Native.Nat.{ℕ, _+_, _*_, _≤_, _<_}
 use lib.ListN.{length}
+use Rattle.sizes.specs.Sizes.{mostNodes, typeWords, boardUsed}
 use Rattle.nodes.specs.Nodes.{nodesAt}
 use Rattle.nodes.specs.Lists.{All}
 use Rattle.spelling.specs.declared.Triple.{Triple}
@@ -14,28 +15,22 @@ use Rattle.sheet.specs.Plan.{triples}
 use Rattle.sheet.specs.Rows.{rows, Ended}
 use Rattle.sheet.specs.Form.{IsPart}
 use Rattle.judgment.specs.Solutions.{value}
-use Rattle.judgment.specs.Board.{Entry, tvar, var, sub, inf, chk, infApp, Limits, state, Outcome, finished, refused, perform}
-use Rattle.judgment.specs.Rules.{Env, rule}
+use Rattle.judgment.specs.Board.{Entry, tvar, var, sub, inf, chk, infApp}
+use Rattle.judgment.specs.Chain.{stepO}
+use Rattle.judgment.specs.Rules.{rule}
 use Rattle.judgment.specs.Result.{limitsWith}
+use Rattle.judgment.specs.Good.{StateOK}
 use Rattle.board.specs.declared.Top.{Top}
-use Rattle.judgment.proofs.Invariant.{Inv}
-use Rattle.judgment.proofs.WholeTypes.{IsTy}
-use Rattle.judgment.proofs.WholeRun.{EntryWhole}
-use Rattle.board.specs.Board.{entryOf, entriesOf}
+use Rattle.board.specs.Board.{entryOf, entriesOf, topOf}
 use Rattle.book.specs.Book.{sols}
 use Rattle.operations.specs.declared.Run.{Run}
-use Rattle.operations.specs.State.{outcomeOf, WellFormed, going}
+use Rattle.operations.specs.State.{outcomeOf, WellFormed, going, performW}
 use Rattle.stepping.specs.declared.Counters.{Counters}
 use Rattle.stepping.specs.declared.Kept.{Kept}
 use Rattle.subtyping.specs.Subtyping.{Sound}
 use Rattle.applying.specs.Applying.{envOn}
 use Rattle.inferring.specs.Inferring.{CaseRoom}
-
--- one more step: the newest entry is taken and its rule performed
-abbrev pub stepO : Limits → Env → Outcome → Outcome
-stepO L E (finished (state [] σ n)) = finished (state [] σ n)
-stepO L E (finished (state (e ∷ Γ) σ n)) = perform L (rule E e) Γ σ n
-stepO L E (refused r ts s) = refused r ts s
+use Rattle.stepping.specs.Rooms.{Room, judgedRoom}
 
 -- ---- a run's counters, and what it has beside them
 abbrev pub joined : Counters → Kept → Run
@@ -63,8 +58,8 @@ pub record Read (d : List ℕ) : Type 0 where
 
 -- the room that the rules are lent: for two types, and for a Case
 pub record Lent (s t l r w v : List ℕ) : Type 0 where
-  pub type : 8192 ≤ length t
-  pub left : 8192 ≤ length l
+  pub type : typeWords ≤ length t
+  pub left : typeWords ≤ length l
   pub room : CaseRoom s r w v
 
 abbrev pub topEntry : List Triple → List ℕ → Top → Entry
@@ -83,33 +78,38 @@ EntrySound n (infApp f e t) = Sound n f × Sound n t
 pub record JudgeAsk (m : ℕ) (s b k rep : List ℕ) (c : Run) (o : Top) (t l r w v : List ℕ) : Type 0 where
   pub plan : Read s
   pub formed : WellFormed b k c
-  pub within : o .at + 2 * (o .left + o .right) ≤ 12288
-  pub few : o .left + o .right ≤ 4096
-  pub limit : m ≤ 4096
+  pub within : o .at + 2 * (o .left + o .right) ≤ boardUsed
+  pub few : o .left + o .right ≤ mostNodes
+  pub limit : m ≤ mostNodes
   pub report : 4 * m ≤ length rep
   pub lent : Lent s t l r w v
   pub entry : EntrySound (c .fresh) (topEntry (rows s) b o)
   pub solutions : All (λ x. Sound (c .fresh) (value x)) (sols k)
 
--- what stands in the words is a state as every state of a run is: whole types, unknowns below the counter, solutions that lead nowhere back
+-- what stands in the words is a good state
 pub record Standing (s b k : List ℕ) (c : Run) : Type 0 where
   pub plan : Read s
   pub formed : WellFormed b k c
-  pub inv : Inv ⊥ (entriesOf (rows s) b (c .board .entries)) (sols k) (c .fresh)
-  pub entries : All EntryWhole (entriesOf (rows s) b (c .board .entries))
-  pub solutions : All (λ x. IsTy (value x)) (sols k)
+  pub good : StateOK ⊥ (entriesOf (rows s) b (c .board .entries)) (sols k) (c .fresh)
 
--- one step of the definition, from the words before to those after
-pub record Stepping (m : ℕ) (s b k rep : List ℕ) (c : Run) (b' k' rep' : List ℕ) (q : Run) : Type 0 where
+-- the run once its newest entry was taken
+abbrev pub taking : Run → Top → Run
+taking c o = record { taken = c .taken + 1; fresh = c .fresh; board = o .rest; book = c .book; halt = c .halt }
+
+-- One step of the definition, from the words before to those after; and every word after it: of board and book as the rule's operations leave them, of the report and the room
+-- (x and x' hold them before and after) as the taken entry has it.
+pub record Stepping (m : ℕ) (s b k : List ℕ) (c : Run) (x : Room) (b' k' : List ℕ) (q : Run) (x' : Room) : Type 0 where
   pub standing : Standing s b' k' q
-  pub outcome : outcomeOf (rows s) b' k' rep' q ≡ stepO (limitsWith m) (envOn s) (outcomeOf (rows s) b k rep c)
+  pub outcome : outcomeOf (rows s) b' k' (x' .report) q ≡ stepO (limitsWith m) (envOn s) (outcomeOf (rows s) b k (x .report) c)
   pub taken : q .taken ≡ c .taken + 1
+  pub words : record { board = b'; book = k'; run = q } ≡ performW m (rows s) (rule (envOn s) (topEntry (rows s) b (topOf b (c .board)))) (record { board = b; book = k; run = taking c (topOf b (c .board)) })
+  pub room : x' ≡ judgedRoom m s b k (taking c (topOf b (c .board))) (topOf b (c .board)) x
 
 pub record StepAsk (m : ℕ) (s b k rep : List ℕ) (c : Run) (t l r w v : List ℕ) : Type 0 where
   pub standing : Standing s b k c
   pub goes : going (c .halt) ≡ true
   pub more : 0 < c .board .entries
   pub counts : c .taken < 4294967295
-  pub limit : m ≤ 4096
+  pub limit : m ≤ mostNodes
   pub report : 4 * m ≤ length rep
   pub lent : Lent s t l r w v

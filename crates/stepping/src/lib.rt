@@ -4,6 +4,7 @@ ghost use Rattle.sheet.specs.Rows.{rows};
 ghost use Rattle.judgment.specs.Rules.{rule};
 ghost use Rattle.operations.specs.State.{Does};
 ghost use Rattle.applying.specs.Applying.{envOn};
+ghost use Rattle.stepping.specs.Rooms.{room, judgedRoom};
 ghost use Rattle.stepping.specs.Stepping.{topEntry, JudgeAsk, Stepping, StepAsk, joined, countersOf, keptOf};
 use applying::solve_inf_app;
 use board::Board;
@@ -53,7 +54,7 @@ fn solve_judgment(
     v: &mut [usize],
 ) -> Run
     requires { ⌜ JudgeAsk limit (now s) (now board) (now book) (now report) c o (now t) (now l) (now r) (now w) (now v) ⌝ }
-    ensures { λ q. ⌜ Does limit (rows (now (s .entry))) (now (board .entry)) (now (book .entry)) (now (report .entry)) c (rule (envOn (now (s .entry))) (topEntry (rows (now (s .entry))) (now (board .entry)) o)) (now (board .exit)) (now (book .exit)) (now (report .exit)) q ⌝ }
+    ensures { λ q. ⌜ Does limit (rows (now (s .entry))) (now (board .entry)) (now (book .entry)) (now (report .entry)) c (rule (envOn (now (s .entry))) (topEntry (rows (now (s .entry))) (now (board .entry)) o)) (now (board .exit)) (now (book .exit)) (now (report .exit)) q × (room (now (report .exit)) (now (t .exit)) (now (l .exit)) (now (r .exit)) (now (w .exit)) (now (v .exit)) ≡ judgedRoom limit (now (s .entry)) (now (board .entry)) (now (book .entry)) c o (room (now (report .entry)) (now (t .entry)) (now (l .entry)) (now (r .entry)) (now (w .entry)) (now (v .entry)))) ⌝ }
 {
     let kind = o.kind;
     let line = o.number;
@@ -129,7 +130,7 @@ fn step_apart<'a>(
     v: &'a mut [usize],
 ) -> Stepped
     requires { ⌜ StepAsk (kept .limit) (now s) (now board) (now book) (now report) (joined c kept) (now t) (now l) (now r) (now w) (now v) ⌝ }
-    ensures { λ q. ⌜ Stepping (kept .limit) (now (s .entry)) (now (board .entry)) (now (book .entry)) (now (report .entry)) (joined c kept) (now (board .exit)) (now (book .exit)) (now (report .exit)) (joined (q .counters) (q .kept)) ⌝ }
+    ensures { λ q. ⌜ Stepping (kept .limit) (now (s .entry)) (now (board .entry)) (now (book .entry)) (joined c kept) (room (now (report .entry)) (now (t .entry)) (now (l .entry)) (now (r .entry)) (now (w .entry)) (now (v .entry))) (now (board .exit)) (now (book .exit)) (joined (q .counters) (q .kept)) (room (now (report .exit)) (now (t .exit)) (now (l .exit)) (now (r .exit)) (now (w .exit)) (now (v .exit))) ⌝ }
 {
     let b = Board {
         entries: c.entries,
@@ -168,7 +169,7 @@ fn step_lent<'c, 'a>(
     v: &'a mut [usize],
 ) -> Kept
     requires { ⌜ StepAsk (kept .limit) (now s) (now board) (now book) (now report) (joined (now c) kept) (now t) (now l) (now r) (now w) (now v) ⌝ }
-    ensures { λ q. ⌜ Stepping (kept .limit) (now (s .entry)) (now (board .entry)) (now (book .entry)) (now (report .entry)) (joined (now (c .entry)) kept) (now (board .exit)) (now (book .exit)) (now (report .exit)) (joined (now (c .exit)) q) ⌝ }
+    ensures { λ q. ⌜ Stepping (kept .limit) (now (s .entry)) (now (board .entry)) (now (book .entry)) (joined (now (c .entry)) kept) (room (now (report .entry)) (now (t .entry)) (now (l .entry)) (now (r .entry)) (now (w .entry)) (now (v .entry))) (now (board .exit)) (now (book .exit)) (joined (now (c .exit)) q) (room (now (report .exit)) (now (t .exit)) (now (l .exit)) (now (r .exit)) (now (w .exit)) (now (v .exit))) ⌝ }
 {
     let q = step_apart(*c, kept, board, book, report, s, t, l, r, w, v);
     *c = q.counters;
@@ -190,7 +191,7 @@ fn lend_step<'a>(
     v: &'a mut [usize],
 ) -> Stepped
     requires { ⌜ StepAsk (kept .limit) (now s) (now board) (now book) (now report) (joined c kept) (now t) (now l) (now r) (now w) (now v) ⌝ }
-    ensures { λ q. ⌜ Stepping (kept .limit) (now (s .entry)) (now (board .entry)) (now (book .entry)) (now (report .entry)) (joined c kept) (now (board .exit)) (now (book .exit)) (now (report .exit)) (joined (q .counters) (q .kept)) ⌝ }
+    ensures { λ q. ⌜ Stepping (kept .limit) (now (s .entry)) (now (board .entry)) (now (book .entry)) (joined c kept) (room (now (report .entry)) (now (t .entry)) (now (l .entry)) (now (r .entry)) (now (w .entry)) (now (v .entry))) (now (board .exit)) (now (book .exit)) (joined (q .counters) (q .kept)) (room (now (report .exit)) (now (t .exit)) (now (l .exit)) (now (r .exit)) (now (w .exit)) (now (v .exit))) ⌝ }
 {
     let mut mine = c;
     let k = step_lent(&mut mine, kept, board, book, report, s, t, l, r, w, v);
@@ -215,7 +216,7 @@ pub fn solve_step(
     v: &mut [usize],
 ) -> Run
     requires { ⌜ StepAsk limit (now s) (now board) (now book) (now report) c (now t) (now l) (now r) (now w) (now v) ⌝ }
-    ensures { λ q. ⌜ Stepping limit (now (s .entry)) (now (board .entry)) (now (book .entry)) (now (report .entry)) c (now (board .exit)) (now (book .exit)) (now (report .exit)) q ⌝ }
+    ensures { λ q. ⌜ Stepping limit (now (s .entry)) (now (board .entry)) (now (book .entry)) c (room (now (report .entry)) (now (t .entry)) (now (l .entry)) (now (r .entry)) (now (w .entry)) (now (v .entry))) (now (board .exit)) (now (book .exit)) q (room (now (report .exit)) (now (t .exit)) (now (l .exit)) (now (r .exit)) (now (w .exit)) (now (v .exit))) ⌝ }
 {
     let counters = counters_of(c);
     let kept = kept_of(c, limit);

@@ -12,10 +12,11 @@ use Rattle.nodes.specs.Nodes.{Ty, nodesAt}
 use Rattle.nodes.specs.Lists.{All}
 use Rattle.spelling.specs.declared.Triple.{Triple}
 use Rattle.judgment.specs.Types.{unknown, first, rest, View, isArrow, isApp, isForall, isUnknown, isOther, view, isMonotype}
-use Rattle.judgment.specs.Solutions.{Free, keys}
+use Rattle.judgment.specs.Solutions.{solvedUnknowns}
 use Rattle.judgment.specs.Board.{Rule, done, solve, look, before}
 use Rattle.judgment.specs.Board.{Board as Entries}
 use Rattle.judgment.specs.Rules.{solveMonotype, instantiateBy, instantiateFrom, instantiate}
+use Rattle.judgment.specs.Good.{Free}
 use Rattle.board.specs.Board.{entriesOf}
 use Rattle.book.specs.Book.{sols}
 use Rattle.operations.specs.declared.Run.{Run}
@@ -74,7 +75,7 @@ module _ {b k rep : List ℕ} {c : Run} {x at n : ℕ} (a : InstAsk b k rep c x 
       let y : ℕ = getD rep (at + 1) 0 in
       let q = unknown-is rep at n (a .some) e in
       let m = subst (All (Made (c .fresh))) q (a .made) in
-      let f = subst (All (Free (x ∷ keys (sols k)))) q (a .solves .free) in
+      let f = subst (All (Free (x ∷ solvedUnknowns (sols k)))) q (a .solves .free) in
       let z : eqb y x ≡ false = ne-eqb y x (λ i. eqb-false x y (f .0 .0) (sym i)) in
       record { made = m .0 refl; unsolved = f .0 .1; free = ((z, a .solves .unsolved), tt) }
 

@@ -1,11 +1,12 @@
 -- A sound type, written out, may be compared; two write-outs one after the other. Assumes nothing.
-use mathlib.Core.Path.{_≡_, refl, sym, ap, ap₂, _∙_, subst⁻¹}
+use mathlib.Core.Path.{_≡_, sym, ap, ap₂, _∙_, subst⁻¹}
 use mathlib.Core.Bool.{Bool, true, false, cond}
 use mathlib.Core.List.{List, [], _∷_}
-use Prim.Native.Nat.{ℕ, zero, suc, _+_, _*_, _≤_, _<_}
+use Prim.Native.Nat.{ℕ, _+_, _*_, _≤_, _<_}
 use native.Mathlib.Nat.{le-trans}
 use native.Mathlib.Omega.{arith}
 use lib.ListN.{length}
+use Rattle.sizes.specs.Sizes.{mostNodes}
 use Rattle.nodes.specs.Nodes.{Node, Ty, nodeParts, nodesAt}
 use Rattle.spelling.specs.declared.Triple.{Triple}
 use Rattle.nodes.proofs.Laws.{length-nodesAt}
@@ -15,7 +16,7 @@ use Rattle.nodes.proofs.ListLaws.{all-map}
 use Rattle.judgment.specs.Types.{view, eqTy}
 use Rattle.judgment.specs.Board.{Rule, done, zonk}
 use Rattle.judgment.specs.Rules.{subtypeBy}
-use Rattle.judgment.specs.Solutions.{Solution, Solutions, value, writeOut}
+use Rattle.judgment.specs.Solutions.{Solution, value, writeOut}
 use Rattle.judgment.proofs.SolutionLaws.{all-written, written-is-free}
 use Rattle.judgment.proofs.WholeTypes.{written-whole}
 use Rattle.book.specs.Book.{sols}
@@ -32,7 +33,7 @@ some-node [] h = absurd (let z : 1 ≡ 0 = h in omega arith)
 some-node (n ∷ t) h = omega arith
 
 pub written-out : {b k : List ℕ} {c : Run} → WellFormed b k c → (n : ℕ) → n ≤ c .fresh → All (λ (x : Solution). Sound n (value x)) (sols k) → (s t : Ty) → Sound n s
-    → t ≡ writeOut (sols k) s → length t ≤ 4096 → Written k c t
+    → t ≡ writeOut (sols k) s → length t ≤ mostNodes → Written k c t
 written-out {b} {k} {c} f n l h s t a e few = record {
   some = subst⁻¹ (λ (x : Ty). 0 < length x) e (some-node (writeOut (sols k) s) (written-whole (sols k) s (all-map (λ x q. q .whole) (sols k) h) (a .whole)));
   few = few;
@@ -96,8 +97,8 @@ module _ {b k rep : List ℕ} {c : Run} {at fn tn w : ℕ} (p : SubtypeAsk b k r
       both-asks g =
           let later : c .fresh ≤ y .run .fresh = let m = grows (D₁ []) in let n = grows (D₂ []) in omega arith in
           let lim = p .limit in
-          let l₁ : length F ≤ 4096 = let s = few₁ in omega (arith, length-nodesAt rep₂ 0 (z .nodes)) in
-          let l₂ : length T ≤ 4096 = let s = zonk-few (z .run) (writeOut (sols k) t) (z .nodes) w e₂ in omega (arith, length-nodesAt rep₂ (2 * z .nodes) (y .nodes)) in
+          let l₁ : length F ≤ mostNodes = let s = few₁ in omega (arith, length-nodesAt rep₂ 0 (z .nodes)) in
+          let l₂ : length T ≤ mostNodes = let s = zonk-few (z .run) (writeOut (sols k) t) (z .nodes) w e₂ in omega (arith, length-nodesAt rep₂ (2 * z .nodes) (y .nodes)) in
           record {
             formed = D₂ [] .kept;
             goes = g;

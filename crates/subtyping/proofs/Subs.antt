@@ -6,14 +6,16 @@ use mathlib.Core.List.{List, [], _∷_, _++_}
 use Prim.Native.Nat.{ℕ, _+_, _*_, _-_, _≤_, _<_}
 use native.Mathlib.Omega.{arith}
 use lib.ListN.{length, getD}
+use Rattle.sizes.specs.Sizes.{mostNodes}
 use Rattle.nodes.specs.Nodes.{node, Ty, nodesAt}
 use Rattle.nodes.specs.Lists.{All}
 use Rattle.nodes.proofs.Laws.{length-nodesAt, nodesAt-append}
 use Rattle.judgment.specs.declared.TypeError.the-variants.{SubtypingError}
 use Rattle.judgment.specs.Types.{unknown, View, isArrow, isApp, isForall, isUnknown, isOther, view, occurs}
-use Rattle.judgment.specs.Solutions.{Free, keys, Avoids}
+use Rattle.judgment.specs.Solutions.{solvedUnknowns}
 use Rattle.judgment.specs.Board.{Rule, refuse}
 use Rattle.judgment.specs.Rules.{left, right, instantiate, mismatch, forallRight, forallLeft, unknownLeft, subtypeBy}
+use Rattle.judgment.specs.Good.{Free, Avoids}
 use Rattle.judgment.proofs.RuleLaws.{occurs-false}
 use Rattle.book.specs.Book.{sols}
 use Rattle.operations.specs.declared.Run.{Run}
@@ -89,7 +91,7 @@ module _ {b k rep : List ℕ} {c : Run} (f : WellFormed b k c) (g : going (c .ha
     solves = record {
       made = u .made .0 refl;
       unsolved = u .free .0;
-      free = both-free x (keys (sols k)) (nodesAt rep at n) (occurs-false x (nodesAt rep at n) o) (w .free);
+      free = both-free x (solvedUnknowns (sols k)) (nodesAt rep at n) (occurs-false x (nodesAt rep at n) o) (w .free);
     };
     made = w .made;
   }
@@ -101,7 +103,7 @@ module _ {b k rep : List ℕ} {c : Run} {l r : ℕ} (a : SubAsk b k rep c l r) w
   abbrev R : Ty
   R = nodesAt rep (2 * l) r
 
-  pub sizes : (0 < l) × (0 < r) × (l ≤ 4096) × (r ≤ 4096)
+  pub sizes : (0 < l) × (0 < r) × (l ≤ mostNodes) × (r ≤ mostNodes)
   sizes =
       let m = length-nodesAt rep 0 l in
       let n = length-nodesAt rep (2 * l) r in

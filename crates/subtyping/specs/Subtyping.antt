@@ -3,16 +3,18 @@ use mathlib.Core.Path.{_≡_}
 use mathlib.Core.Logic.{_≢_}
 use mathlib.Core.Bool.{Bool, true, false, cond}
 use mathlib.Core.List.{List, [], _∷_, _++_}
-use Prim.Native.Nat.{ℕ, zero, suc, _+_, _*_, _-_, _≤_, _<_}
+use Prim.Native.Nat.{ℕ, _+_, _*_, _-_, _≤_, _<_}
 use lib.ListN.{length}
 use lib.Seq.{sets}
+use Rattle.sizes.specs.Sizes.{mostNodes, mostNumbers}
 use Rattle.nodes.specs.Nodes.{Node, node, Ty, kind, number, nodeParts, words, nodesAt}
 use Rattle.nodes.specs.Parts.{Whole}
 use Rattle.nodes.specs.Lists.{All}
 use Rattle.judgment.specs.Types.{unknown, first, rest, View, isArrow, isApp, isForall, isUnknown, isOther, view, eqTy, occurs, isMonotype, substitute}
-use Rattle.judgment.specs.Solutions.{value, Free, keys}
+use Rattle.judgment.specs.Solutions.{value, solvedUnknowns}
 use Rattle.judgment.specs.Board.{tvar, sub, Rule, done, fresh, push, solve, _>>=_, _>>_}
-use Rattle.judgment.specs.Rules.{Side, left, right, onSide, mismatch, unknownRight, subtypeBy}
+use Rattle.judgment.specs.Rules.{Side, left, right, onSide, mismatch, unknownRight}
+use Rattle.judgment.specs.Good.{Free}
 use Rattle.book.specs.Book.{sols, Booked}
 use Rattle.operations.specs.declared.Run.{Run}
 use Rattle.operations.specs.State.{WellFormed, going, Solves, zonkRun, zonkWords}
@@ -126,18 +128,18 @@ pub record SplitAsk (b k : List ℕ) (c : Run) (kind x : ℕ) (t : List ℕ) (at
   pub formed : WellFormed b k c
   pub pair : kind ≢ 17
   pub within : at + 2 * n ≤ length t
-  pub few : n ≤ 4096
+  pub few : n ≤ mostNodes
   pub known : x < c .fresh
-  pub unsolved : Free (keys (sols k)) (node 17 x)
+  pub unsolved : Free (solvedUnknowns (sols k)) (node 17 x)
 
 -- A solution for x, the n nodes at word `at` of the report.
 pub record MonoAsk (k rep : List ℕ) (c : Run) (x at n : ℕ) : Type 0 where
   pub book : Booked k (c .book)
-  pub numbers : c .fresh ≤ 1000
+  pub numbers : c .fresh ≤ mostNumbers
   pub goes : going (c .halt) ≡ true
   pub within : at + 2 * n ≤ length rep
   pub some : 0 < n
-  pub few : n ≤ 4096
+  pub few : n ≤ mostNodes
   pub solves : Solves k c x (nodesAt rep at n)
 
 -- Instantiation of the unknown x with the n nodes at word `at` of the report, which have no quantifier in front: x is unsolved and does not occur.
@@ -146,7 +148,7 @@ pub record InstAsk (b k rep : List ℕ) (c : Run) (x at n : ℕ) : Type 0 where
   pub goes : going (c .halt) ≡ true
   pub within : at + 2 * n ≤ length rep
   pub some : 0 < n
-  pub few : n ≤ 4096
+  pub few : n ≤ mostNodes
   pub flat : shapeOf (view (nodesAt rep at n)) ≢ 3
   pub solves : Solves k c x (nodesAt rep at n)
   pub made : All (Made (c .fresh)) (nodesAt rep at n)
@@ -154,8 +156,8 @@ pub record InstAsk (b k rep : List ℕ) (c : Run) (x at n : ℕ) : Type 0 where
 -- A type of a comparison, written out.
 pub record Written (k : List ℕ) (c : Run) (t : Ty) : Type 0 where
   pub some : 0 < length t
-  pub few : length t ≤ 4096
-  pub free : All (Free (keys (sols k))) t
+  pub few : length t ≤ mostNodes
+  pub free : All (Free (solvedUnknowns (sols k))) t
   pub made : All (Made (c .fresh)) t
 
 -- Two written-out types, one after the other in the report.
@@ -171,16 +173,16 @@ pub record PartsAsk (b : List ℕ) (c : Run) (t : List ℕ) (la ln ra rn : ℕ) 
   pub formed : (k : List ℕ) × WellFormed b k c
   pub left : la + 2 * ln ≤ length t
   pub right : ra + 2 * rn ≤ length t
-  pub fewLeft : ln ≤ 4096
-  pub fewRight : rn ≤ 4096
+  pub fewLeft : ln ≤ mostNodes
+  pub fewRight : rn ≤ mostNodes
 
 -- Two types one after the other in the report, of which one is opened.
 pub record OpenAsk (b rep : List ℕ) (c : Run) (l r : ℕ) : Type 0 where
   pub formed : (k : List ℕ) × WellFormed b k c
   pub goes : going (c .halt) ≡ true
   pub within : 2 * (l + r) ≤ length rep
-  pub fewLeft : l ≤ 4096
-  pub fewRight : r ≤ 4096
+  pub fewLeft : l ≤ mostNodes
+  pub fewRight : r ≤ mostNodes
 
 -- A type that stands on the board, and a solution: one whole type, whose unknowns were made.
 pub record Sound (n : ℕ) (t : Ty) : Type 0 where
@@ -191,7 +193,7 @@ pub record Sound (n : ℕ) (t : Ty) : Type 0 where
 pub record SubtypeAsk (b k rep : List ℕ) (c : Run) (at ln rn w : ℕ) : Type 0 where
   pub formed : WellFormed b k c
   pub within : at + 2 * (ln + rn) ≤ length b
-  pub limit : w ≤ 4096
+  pub limit : w ≤ mostNodes
   pub report : 4 * w ≤ length rep
   pub left : Sound (c .fresh) (nodesAt b at ln)
   pub right : Sound (c .fresh) (nodesAt b (at + 2 * ln) rn)

@@ -9,6 +9,7 @@ use lib.Dec.{eqb, ltb}
 use lib.ListN.{length}
 use lib.Seq.{sets}
 use borrow.Author.Tests.{eq-eqb, ne-eqb, ltb-true, ltb-false}
+use Rattle.sizes.specs.Sizes.{mostNodes}
 use Rattle.nodes.specs.Nodes.{Ty}
 use Rattle.spelling.specs.declared.Triple.{Triple}
 use Rattle.references.specs.declared.TypeRef.{TypeRef}
@@ -21,7 +22,7 @@ none-left : (l : List Ty) → ltb 0 (length l) ≡ false → l ≡ []
 none-left [] e = refl
 none-left (x ∷ l) e = absurd (let z = ltb-false 0 (suc (length l)) e in omega arith)
 
-pub bounds : {ls : List Triple} {r : TypeRef} {h : Split} → Halved ls r h → 0 < r .lines → (1 + h .count ≤ r .count) × (r .at + 1 + h .count ≤ 4096)
+pub bounds : {ls : List Triple} {r : TypeRef} {h : Split} → Halved ls r h → 0 < r .lines → (1 + h .count ≤ r .count) × (r .at + 1 + h .count ≤ mostNodes)
 bounds h z =
     let a = h .others .within z in
     let b = h .others .few in

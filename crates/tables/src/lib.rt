@@ -4,6 +4,7 @@ ghost use mathlib.Core.List.{List, _++_};
 ghost use Prim.Native.Nat.{_+_, _*_, _-_, _≤_, _<_};
 ghost use lib.ListN.{length};
 ghost use lib.Seq.{sets};
+ghost use Rattle.sizes.specs.Sizes.{typeWords};
 ghost use Rattle.nodes.specs.Nodes.{Ty};
 ghost use Rattle.spelling.specs.declared.Triple.{Triple};
 ghost use Rattle.sheet.specs.Rows.{rows};
@@ -105,7 +106,7 @@ pub struct Upcoming {
 
 // Takes the first pending type off the stack of frames. `scratch` is for the nodes of a type.
 pub fn next(s: &[u64], w: &mut [usize], depth: usize, scratch: &mut [u32]) -> Upcoming
-    requires { ⌜ Frames (rows (now s)) (now w) depth × (0 < depth) × (6 * depth ≤ length (now w)) × (8192 ≤ length (now scratch)) ⌝ }
+    requires { ⌜ Frames (rows (now s)) (now w) depth × (0 < depth) × (6 * depth ≤ length (now w)) × (typeWords ≤ length (now scratch)) ⌝ }
     ensures { λ n. ⌜ Taken (rows (now (s .entry))) (now (w .entry)) depth (now (w .exit)) n × (now (scratch .exit) ≡ nextScratch (rows (now (s .entry))) (topOf (now (w .entry)) depth) (now (scratch .entry))) ⌝ }
 {
     let i = depth - 1;

@@ -1,3 +1,4 @@
+pub mod Samples
 pub mod Laws
 pub mod Pieces
 pub mod Fits

@@ -1,12 +1,11 @@
-use mathlib.Core.Path.{_≡_, sym, ap, _∙_, subst⁻¹}
-use mathlib.Core.List.{List}
+use mathlib.Core.Path.{_≡_, ap, _∙_, subst⁻¹}
 use Prim.Native.Nat.{ℕ, _+_, _*_, _-_, _≤_, _<_}
 use native.Mathlib.Omega.{arith}
 use denote.Ref.{now}
-use lib.ListN.{length, take, drop}
+use lib.ListN.{length}
+use Rattle.sizes.specs.Sizes.{mostNodes}
 use Rattle.nodes.specs.Nodes.{Ty, nodesAt}
 use Rattle.nodes.specs.Lists.{All}
-use Rattle.spelling.specs.declared.Triple.{Triple}
 use Rattle.sheet.specs.Plan.{Narrow, partLine}
 use Rattle.sheet.specs.Rows.{rows}
 use Rattle.arms.proofs.Bodies.{body-within, pattern-lines, armed}
@@ -22,7 +21,7 @@ sub-lines c =
     let ls = rows (now (a .s)) in
     let body : ℕ = c .part-line .result in
     let B : (a .first ≤ body) × (body ≤ length ls) = body-within ls (a .first) (p .within) body (c .part-line .ensures) in
-    let few : length ls ≤ 4096 = p .lent .sheet .few in
+    let few : length ls ≤ mostNodes = p .lent .sheet .few in
     omega arith
 
 check-pattern-requires : tie.Need-check-pattern-requires
@@ -32,7 +31,7 @@ check-pattern-requires c κs =
     let ls = rows (now (a .s)) in
     let body : ℕ = c .before .before .before .before .before .part-line .result in
     let B : (a .first ≤ body) × (body ≤ length ls) = body-within ls (a .first) (p .within) body (c .before .before .before .before .before .part-line .ensures) in
-    let few : length ls ≤ 4096 = p .lent .sheet .few in
+    let few : length ls ≤ mostNodes = p .lent .sheet .few in
     let f = p .lent .frames in
     let g = p .lent .rows in (
       record {
@@ -57,7 +56,7 @@ push-vars-requires c κs =
     let ls = rows (now (a .s)) in
     let body : ℕ = c .before .before .before .before .before .before .before .before .before .before .before .before .before .before .before .before .before .before .before .before .part-line .result in
     let B : (a .first ≤ body) × (body ≤ length ls) = body-within ls (a .first) (p .within) body (c .before .before .before .before .before .before .before .before .before .before .before .before .before .before .before .before .before .before .before .before .part-line .ensures) in
-    let few : length ls ≤ 4096 = p .lent .sheet .few in
+    let few : length ls ≤ mostNodes = p .lent .sheet .few in
     let C = c .before .before .before .before .before .before .before .before .before .before .before .before .before .before .check-pattern .ensures .0 in
     let m = C .few in
     let g = p .lent .rows in
@@ -73,7 +72,7 @@ cast-push-chk c =
     let ls = rows (now (a .s)) in
     let body : ℕ = c .before .before .before .before .before .before .before .before .before .before .before .before .before .before .before .before .before .before .before .before .before .before .before .before .before .before .part-line .result in
     let B : (a .first ≤ body) × (body ≤ length ls) = body-within ls (a .first) (p .within) body (c .before .before .before .before .before .before .before .before .before .before .before .before .before .before .before .before .before .before .before .before .before .before .before .before .before .before .part-line .ensures) in
-    let few : length ls ≤ 4096 = p .lent .sheet .few in
+    let few : length ls ≤ mostNodes = p .lent .sheet .few in
     omega arith
 
 push-chk-requires : tie.Need-push-chk-requires
@@ -104,7 +103,7 @@ returns c =
     let ls = rows (now (a .s)) in
     let body : ℕ = c .before .before .before .before .before .before .before .before .before .before .before .before .before .before .before .before .before .before .before .before .before .before .before .before .before .before .before .before .before .before .part-line .result in
     let B : (a .first ≤ body) × (body ≤ length ls) = body-within ls (a .first) (p .within) body (c .before .before .before .before .before .before .before .before .before .before .before .before .before .before .before .before .before .before .before .before .before .before .before .before .before .before .before .before .before .before .part-line .ensures) in
-    let few : length ls ≤ 4096 = p .lent .sheet .few in
+    let few : length ls ≤ mostNodes = p .lent .sheet .few in
     let next : ℕ = c .part-line2 .result in
     let b = c .before .before .before .before .before .before .before .before .before .before .before .before .before .before .before .before .before .before .before .before .before .before .before .before .before .before .before .before .before .before .part-line .ensures in
     let C = c .before .before .before .before .before .before .before .before .before .before .before .before .before .before .before .before .before .before .before .before .before .before .before .before .check-pattern .ensures in

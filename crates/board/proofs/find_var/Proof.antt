@@ -3,6 +3,7 @@ use Prim.Native.Nat.{ℕ, _+_, _*_, _≤_}
 use native.Mathlib.Omega.{arith}
 use denote.Ref.{now}
 use borrow.Author.Needs.{needs}
+use Rattle.sizes.specs.Sizes.{mostNodes, boardBase}
 use Rattle.board.specs.declared.Found.the-variants.{At}
 use Rattle.board.specs.Board.{nodesBelow, varPlace}
 use Rattle.board.proofs.Stacks.{nodes-turn}
@@ -11,7 +12,7 @@ use Rattle.board.proofs.find_var.Statement.{statement}
 use Rattle.board.proofs.find_var.Tie as tie
 
 abbrev Inv-loop : tie.InvT-loop
-Inv-loop board name i₀ start₀ i start = (i ≤ i₀) × (start ≡ 4096 + 2 * nodesBelow board i) × (nodesBelow board i ≤ 4096) × (varPlace name board i₀ ≡ varPlace name board i)
+Inv-loop board name i₀ start₀ i start = (i ≤ i₀) × (start ≡ boardBase + 2 * nodesBelow board i) × (nodesBelow board i ≤ mostNodes) × (varPlace name board i₀ ≡ varPlace name board i)
 
 abbrev μ-loop : tie.MeasureT-loop
 μ-loop board name i₀ start₀ i start = i

@@ -2,6 +2,7 @@ use Prim.Native.Nat.{_*_, _-_}
 use native.Mathlib.Nat.{add-zero}
 use native.Mathlib.Omega.{arith}
 use borrow.Author.Needs.{needs}
+use Rattle.sizes.specs.Sizes.{boardStride}
 use Rattle.board.specs.Board.{topOf}
 use Rattle.board.proofs.Stacks.{top-size}
 use Rattle.board.proofs.pop.Statement.{statement}
@@ -24,7 +25,7 @@ returns : tie.Need-returns
 unfolding topOf
 returns c =
     let a = c .before .before .before .before .before .before .before .before .before .args in
-    rw (c .before .before .before .before .before .wide .ensures, c .before .before .before .wide2 .ensures, add-zero (8 * (a .b .entries - 1)))
+    rw (c .before .before .before .before .before .wide .ensures, c .before .before .before .wide2 .ensures, add-zero (boardStride * (a .b .entries - 1)))
 
 pub pop-spec : {M : Type 1} → statement M
 pop-spec =

@@ -3,6 +3,7 @@ use mathlib.Core.Logic.{inl, inr}
 use Prim.Native.Nat.{_≤_}
 use native.Mathlib.Omega.{arith}
 use denote.Ref.{now}
+use Rattle.sizes.specs.Sizes.{highestCeiling}
 use Rattle.judgment.specs.Result.{Buffers}
 use Rattle.checker.proofs.Answering.{high-ceiling, short-buffer, refused-by, front-asks, answered, line-word}
 use borrow.Author.Needs.{needs}
@@ -30,7 +31,7 @@ run-front-requires c κs =
     let s = now (a .sheet) in
     let B : Buffers = record { board = now (a .board); book = now (a .book); report = now (a .report) } in
     let l = c .before .before .before .before .before .before .before .before .before .before .before .if1 .left in
-    let h : a .ceiling ≤ 10000 = omega arith in
+    let h : a .ceiling ≤ highestCeiling = omega arith in
     let t = c .before .before .before .before .before .before .before .too-short .ensures in
     let q = c .before .before .before .before .before .before .if2 .left in
     front-asks s (a .ceiling) B h t q (sym (c .before .before .before .before .before .check-sheet .ensures) ∙ c .before .before .before .enum-told .given .1)
@@ -51,7 +52,7 @@ returns-3 c =
     let s = now (a .sheet) in
     let B : Buffers = record { board = now (a .board); book = now (a .book); report = now (a .report) } in
     let l = c .before .before .before .before .before .before .before .before .before .before .before .before .before .before .before .before .before .before .if1 .left in
-    let h : a .ceiling ≤ 10000 = omega arith in
+    let h : a .ceiling ≤ highestCeiling = omega arith in
     let t = c .before .before .before .before .before .before .before .before .before .before .before .before .before .before .too-short .ensures in
     let q = c .before .before .before .before .before .before .before .before .before .before .before .before .before .if2 .left in
     answered s (a .ceiling) B h t q (sym (c .before .before .before .before .before .before .before .before .before .before .before .before .check-sheet .ensures) ∙ c .before .before .before .before .before .before .before .before .before .before .enum-told .given .1) (c .before .before .before .before .before .before .run-front .ensures)

@@ -1,10 +1,10 @@
-use mathlib.Core.Path.{_≡_, refl, sym, ap, ap₂, _∙_}
+use mathlib.Core.Path.{_≡_, sym, _∙_}
 use denote.Ref.{now}
 use lib.Seq.{length-take-le, length-front}
+use Rattle.sizes.specs.Sizes.{boardSize, bookSize, reportSize}
 use Rattle.sheet.specs.Plan.{triples}
 use Rattle.judgment.specs.Result.{limits, judge}
 use Rattle.checker.proofs.Answering.{fronted}
-use borrow.Author.Needs.{needs}
 use Rattle.checker.proofs.run_front.Statement.{statement}
 use Rattle.checker.proofs.run_front.Tie as tie
 
@@ -14,7 +14,7 @@ slice-relend-prefix-run-plan c =
 
 slice-aggregate-run-plan : tie.Need-slice-aggregate-run-plan
 slice-aggregate-run-plan c =
-    sym (length-take-le 16384 (now (c .before .before .before .before .before .args .board)) (c .before .before .before .before .before .pre .board))
+    sym (length-take-le boardSize (now (c .before .before .before .before .before .args .board)) (c .before .before .before .before .before .pre .board))
 
 slice-relend-prefix-run-plan-2 : tie.Need-slice-relend-prefix-run-plan-2
 slice-relend-prefix-run-plan-2 c =
@@ -22,7 +22,7 @@ slice-relend-prefix-run-plan-2 c =
 
 slice-aggregate-run-plan-2 : tie.Need-slice-aggregate-run-plan-2
 slice-aggregate-run-plan-2 c =
-    sym (length-take-le 10192 (now (c .before .before .before .before .before .before .args .book)) (c .before .before .before .before .before .before .pre .book))
+    sym (length-take-le bookSize (now (c .before .before .before .before .before .before .args .book)) (c .before .before .before .before .before .before .pre .book))
 
 slice-relend-prefix-run-plan-3 : tie.Need-slice-relend-prefix-run-plan-3
 slice-relend-prefix-run-plan-3 c =
@@ -30,24 +30,24 @@ slice-relend-prefix-run-plan-3 c =
 
 slice-aggregate-run-plan-3 : tie.Need-slice-aggregate-run-plan-3
 slice-aggregate-run-plan-3 c =
-    sym (length-take-le 4096 (now (c .before .before .before .before .before .before .before .args .report)) (c .before .before .before .before .before .before .before .pre .report))
+    sym (length-take-le reportSize (now (c .before .before .before .before .before .before .before .args .report)) (c .before .before .before .before .before .before .before .pre .report))
 
 run-plan-requires : tie.Need-run-plan-requires
 run-plan-requires c κs =
     let p = c .before .before .before .before .before .before .before .pre in
-    record { plan = p .plan; board = length-take-le 16384 (now (c .before .before .before .before .before .before .before .args .board)) (p .board); book = length-take-le 10192 (now (c .before .before .before .before .before .before .before .args .book)) (p .book); report = length-take-le 4096 (now (c .before .before .before .before .before .before .before .args .report)) (p .report) }
+    record { plan = p .plan; board = length-take-le boardSize (now (c .before .before .before .before .before .before .before .args .board)) (p .board); book = length-take-le bookSize (now (c .before .before .before .before .before .before .before .args .book)) (p .book); report = length-take-le reportSize (now (c .before .before .before .before .before .before .before .args .report)) (p .report) }
 
 same-length : tie.Need-same-length
 same-length c =
-    length-front (now (c .before .before .before .before .before .before .before .before .before .before .before .before .before .before .args .board)) (c .before .before .before .before .before .before .run-plan .last .1 .1 .0) 16384 (c .before .before .before .before .before .before .run-plan .kept .1 .1 .0)
+    length-front (now (c .before .before .before .before .before .before .before .before .before .before .before .before .before .before .args .board)) (c .before .before .before .before .before .before .run-plan .last .1 .1 .0) boardSize (c .before .before .before .before .before .before .run-plan .kept .1 .1 .0)
 
 same-length-2 : tie.Need-same-length-2
 same-length-2 c =
-    length-front (now (c .before .before .before .before .before .before .before .before .before .before .before .before .before .before .args .book)) (c .before .before .before .before .before .before .run-plan .last .1 .1 .1 .0) 10192 (c .before .before .before .before .before .before .run-plan .kept .1 .1 .1 .0)
+    length-front (now (c .before .before .before .before .before .before .before .before .before .before .before .before .before .before .args .book)) (c .before .before .before .before .before .before .run-plan .last .1 .1 .1 .0) bookSize (c .before .before .before .before .before .before .run-plan .kept .1 .1 .1 .0)
 
 same-length-3 : tie.Need-same-length-3
 same-length-3 c =
-    length-front (now (c .before .before .before .before .before .before .before .before .before .before .before .before .before .before .args .report)) (c .before .before .before .before .before .before .run-plan .last .1 .1 .1 .1 .0) 4096 (c .before .before .before .before .before .before .run-plan .kept .1 .1 .1 .1 .0)
+    length-front (now (c .before .before .before .before .before .before .before .before .before .before .before .before .before .before .args .report)) (c .before .before .before .before .before .before .run-plan .last .1 .1 .1 .1 .0) reportSize (c .before .before .before .before .before .before .run-plan .kept .1 .1 .1 .1 .0)
 
 returns : tie.Need-returns
 returns c =

@@ -1,6 +1,5 @@
-use mathlib.Core.Path.{_≡_, refl, sym, ap, ap₂, _∙_}
-use Prim.Native.Nat.{ℕ, _+_, _*_, _≤_, _<_}
-use native.Mathlib.Omega.{arith}
+use mathlib.Core.Path.{_≡_, _∙_}
+use Prim.Native.Nat.{_+_, _*_, _≤_, _<_}
 use denote.Ref.{now}
 use Rattle.stepping.proofs.Reading.{plan-lines}
 use Rattle.checker.proofs.Reading.{was-read, case-room, ran-as}

@@ -1,6 +1,5 @@
-use mathlib.Core.Path.{_≡_, refl, sym, ap, ap₂, _∙_}
-use Prim.Native.Nat.{ℕ, _<_}
-use denote.Ref.{now}
+use mathlib.Core.Path.{_≡_, _∙_}
+use Prim.Native.Nat.{_<_}
 use Rattle.checker.proofs.Starting.{begins, copy-asks, line-word, push-asks, begun-is}
 use borrow.Author.Needs.{needs}
 use borrow.Author.Needs.{needs}

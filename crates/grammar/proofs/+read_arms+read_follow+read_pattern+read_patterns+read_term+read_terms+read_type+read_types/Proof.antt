@@ -4,6 +4,7 @@ use native.Mathlib.Omega.{arith}
 use borrow.Author.Needs.{needs}
 use borrow.Author.Tests.{eq-eqb, ne-eqb}
 use lib.ListN.{length}
+use Rattle.sizes.specs.Sizes.{lineLength}
 use Rattle.grammar.proofs.Laws.{done, within, beyond}
 use Rattle.grammar.proofs.Steps.{none, no-arms, more, stop, arm-stop, body-stop, arm-more, no-part, part-inside, parted, types-stop, terms-stop, whole}
 use borrow.Fn.Kinds.{In}
@@ -41,28 +42,28 @@ use Rattle.grammar.proofs.+read_arms+read_follow+read_pattern+read_patt
 }
 
 abbrev μ-read-arms : Measures 1 read-arms-kinds.ps ℕ
-μ-read-arms κs a = 3 * (length (a .0 .now) / 29 - a .1 .0) + 1
+μ-read-arms κs a = 3 * (length (a .0 .now) / lineLength - a .1 .0) + 1
 
 abbrev μ-read-follow : Measures 1 read-follow-kinds.ps ℕ
-μ-read-follow κs a = 3 * (length (a .0 .now) / 29 - a .1 .0) + 2
+μ-read-follow κs a = 3 * (length (a .0 .now) / lineLength - a .1 .0) + 2
 
 abbrev μ-read-pattern : Measures 1 read-pattern-kinds.ps ℕ
-μ-read-pattern κs a = 3 * (length (a .0 .now) / 29 - a .1 .0)
+μ-read-pattern κs a = 3 * (length (a .0 .now) / lineLength - a .1 .0)
 
 abbrev μ-read-patterns : Measures 1 read-patterns-kinds.ps ℕ
-μ-read-patterns κs a = 3 * (length (a .0 .now) / 29 - a .1 .0) + 1
+μ-read-patterns κs a = 3 * (length (a .0 .now) / lineLength - a .1 .0) + 1
 
 abbrev μ-read-term : Measures 1 read-term-kinds.ps ℕ
-μ-read-term κs a = 3 * (length (a .0 .now) / 29 - a .1 .0)
+μ-read-term κs a = 3 * (length (a .0 .now) / lineLength - a .1 .0)
 
 abbrev μ-read-terms : Measures 1 read-terms-kinds.ps ℕ
-μ-read-terms κs a = 3 * (length (a .0 .now) / 29 - a .1 .0) + 1
+μ-read-terms κs a = 3 * (length (a .0 .now) / lineLength - a .1 .0) + 1
 
 abbrev μ-read-type : Measures 1 read-type-kinds.ps ℕ
-μ-read-type κs a = 3 * (length (a .0 .now) / 29 - a .1 .0)
+μ-read-type κs a = 3 * (length (a .0 .now) / lineLength - a .1 .0)
 
 abbrev μ-read-types : Measures 1 read-types-kinds.ps ℕ
-μ-read-types κs a = 3 * (length (a .0 .now) / 29 - a .1 .0) + 1
+μ-read-types κs a = 3 * (length (a .0 .now) / lineLength - a .1 .0) + 1
 
 abbrev read-arms-at : ℕ → In 1 read-arms-kinds.ps
 read-arms-at t = and 1 read-arms-kinds.ps (is 1 read-arms-kinds.ps μ-read-arms t) read-arms.Pre

@@ -3,6 +3,7 @@ use Prim.Native.Nat.{ℕ, _<_, _-_, _/_}
 use native.Mathlib.Omega.{arith}
 use borrow.Author.Needs.{needs}
 use lib.ListN.{length}
+use Rattle.sizes.specs.Sizes.{lineLength}
 use Rattle.grammar.proofs.Laws.{within}
 use Rattle.grammar.proofs.Steps.{not-entry, named, expected, named-inside, expected-inside, entry-stop, entry-more}
 use borrow.Fn.Kinds.{In}
@@ -17,7 +18,7 @@ use Rattle.grammar.proofs.+read_entries.{statement}
 use Rattle.grammar.proofs.+read_entries.Tie.{close}
 
 abbrev μ-read-entries : Measures 1 read-entries-kinds.ps ℕ
-μ-read-entries κs a = length (a .0 .now) / 29 - a .1 .0
+μ-read-entries κs a = length (a .0 .now) / lineLength - a .1 .0
 
 abbrev read-entries-at : ℕ → In 1 read-entries-kinds.ps
 read-entries-at t =

@@ -1,7 +1,8 @@
 use mathlib.Core.Path.{_≡_, _∙_}
-use Prim.Native.Nat.{ℕ, _+_, _*_, _-_, _≤_}
+use Prim.Native.Nat.{_+_, _*_, _-_, _≤_}
 use native.Mathlib.Omega.{arith}
 use denote.Ref.{now}
+use Rattle.sizes.specs.Sizes.{mostNodes, typeWords}
 use Rattle.sheet.specs.Rows.{rows}
 use Rattle.patterns.proofs.Steps.{sub-turn}
 use Rattle.patterns.proofs.Opened.{good-within, few-arity, few-nodes, opened-ready, parting}
@@ -15,7 +16,7 @@ mul-ra c =
     let a = c .before .before .before .before .before .args in
     let p = c .before .before .before .before .before .pre in
     let ls = rows (now (a .s)) in
-    let g : a .want .at + a .want .count ≤ 4096 = good-within (p .good) .1 in
+    let g : a .want .at + a .want .count ≤ mostNodes = good-within (p .good) .1 in
     omega arith
 
 instance-requires : tie.Need-instance-requires
@@ -46,7 +47,7 @@ sub-ln c =
     let ls = rows (now (a .s)) in
     let O = c .before .before .before .before .before .before .before .before .before .instantiate-constructor-type .ensures in
     let o = c .before .before .before .before .before .before .before .before .before .instantiate-constructor-type .result in
-    let f : (o .nodes ≤ a .n) × (o .at ≤ 8192) × (o .nodes ≤ 4096) = few-nodes ls (a .first) (a .n) (a .count) (a .want) p O in
+    let f : (o .nodes ≤ a .n) × (o .at ≤ typeWords) × (o .nodes ≤ mostNodes) = few-nodes ls (a .first) (a .n) (a .count) (a .want) p O in
     let S = c .before .before .signature .ensures in
     let st : c .before .before .signature .result .start ≤ o .nodes = S .0 in
     omega arith
@@ -58,7 +59,7 @@ push-sub-requires c κs =
     let ls = rows (now (a .s)) in
     let O = c .before .before .before .before .before .before .before .before .before .before .before .before .instantiate-constructor-type .ensures in
     let o = c .before .before .before .before .before .before .before .before .before .before .before .before .instantiate-constructor-type .result in
-    let f : (o .nodes ≤ a .n) × (o .at ≤ 8192) × (o .nodes ≤ 4096) = few-nodes ls (a .first) (a .n) (a .count) (a .want) p O in
+    let f : (o .nodes ≤ a .n) × (o .at ≤ typeWords) × (o .nodes ≤ mostNodes) = few-nodes ls (a .first) (a .n) (a .count) (a .want) p O in
     let S = c .before .before .before .before .before .signature .ensures in
     let st : c .before .before .before .before .before .signature .result .start ≤ o .nodes = S .0 in
     let g : a .want .at + a .want .count ≤ a .want .lines + 1 = good-within (p .good) .0 in
@@ -75,7 +76,7 @@ check-arity-requires c κs =
     let ls = rows (now (a .s)) in
     let O = c .before .before .before .before .before .before .before .before .before .before .before .before .before .before .before .instantiate-constructor-type .ensures in
     let o = c .before .before .before .before .before .before .before .before .before .before .before .before .before .before .before .instantiate-constructor-type .result in
-    let f : (o .nodes ≤ a .n) × (o .at ≤ 8192) × (o .nodes ≤ 4096) = few-nodes ls (a .first) (a .n) (a .count) (a .want) p O in
+    let f : (o .nodes ≤ a .n) × (o .at ≤ typeWords) × (o .nodes ≤ mostNodes) = few-nodes ls (a .first) (a .n) (a .count) (a .want) p O in
     let S = c .before .before .before .before .before .before .before .before .signature .ensures in
     let st : c .before .before .before .before .before .before .before .before .signature .result .start ≤ o .nodes = S .0 in
     (few-arity ls (a .first) (a .n) (a .count) (a .want) p O _ (S .1), p .small)
@@ -96,7 +97,7 @@ returns c =
     let ls = rows (now (a .s)) in
     let O = c .before .before .before .before .before .before .before .before .before .before .before .before .before .before .before .before .instantiate-constructor-type .ensures in
     let o = c .before .before .before .before .before .before .before .before .before .before .before .before .before .before .before .before .instantiate-constructor-type .result in
-    let f : (o .nodes ≤ a .n) × (o .at ≤ 8192) × (o .nodes ≤ 4096) = few-nodes ls (a .first) (a .n) (a .count) (a .want) p O in
+    let f : (o .nodes ≤ a .n) × (o .at ≤ typeWords) × (o .nodes ≤ mostNodes) = few-nodes ls (a .first) (a .n) (a .count) (a .want) p O in
     let S = c .before .before .before .before .before .before .before .before .before .signature .ensures in
     let st : c .before .before .before .before .before .before .before .before .before .signature .result .start ≤ o .nodes = S .0 in
     let r1 = opened-ready ls (a .first) (a .n) (a .count) (a .want) p O in

@@ -1,7 +1,8 @@
 use mathlib.Core.Path.{_≡_}
 use native.Mathlib.Omega.{arith}
-use Prim.Native.Nat.{ℕ, _+_, _*_, _-_, _≤_, _<_}
+use Prim.Native.Nat.{_+_, _*_, _-_, _≤_, _<_}
 use denote.Ref.{now}
+use Rattle.sizes.specs.Sizes.{mostNodes}
 use Rattle.sheet.specs.Rows.{rows}
 use Rattle.references.proofs.Parts.{frame-some, others-fit, halved}
 use borrow.Author.Needs.{needs}
@@ -18,55 +19,55 @@ instance-requires c κs =
 mul-p : tie.Need-mul-p
 mul-p c =
     let a = c .before .before .before .before .before .before .args in
-    let f : (0 < a .r .count) × (a .r .at + a .r .count ≤ 4096) = frame-some (c .before .before .before .before .before .before .pre .0) (c .before .before .before .before .before .before .pre .1) in
+    let f : (0 < a .r .count) × (a .r .at + a .r .count ≤ mostNodes) = frame-some (c .before .before .before .before .before .before .pre .0) (c .before .before .before .before .before .before .pre .1) in
     omega arith
 
 add-p : tie.Need-add-p
 add-p c =
     let a = c .before .before .before .before .before .before .args in
-    let f : (0 < a .r .count) × (a .r .at + a .r .count ≤ 4096) = frame-some (c .before .before .before .before .before .before .pre .0) (c .before .before .before .before .before .before .pre .1) in
+    let f : (0 < a .r .count) × (a .r .at + a .r .count ≤ mostNodes) = frame-some (c .before .before .before .before .before .before .pre .0) (c .before .before .before .before .before .before .pre .1) in
     omega arith
 
 sub-first-part : tie.Need-sub-first-part
 sub-first-part c =
     let a = c .before .before .before .before .before .before .before .args in
-    let f : (0 < a .r .count) × (a .r .at + a .r .count ≤ 4096) = frame-some (c .before .before .before .before .before .before .before .pre .0) (c .before .before .before .before .before .before .before .pre .1) in
+    let f : (0 < a .r .count) × (a .r .at + a .r .count ≤ mostNodes) = frame-some (c .before .before .before .before .before .before .before .pre .0) (c .before .before .before .before .before .before .before .pre .1) in
     omega arith
 
 first-part-requires : tie.Need-first-part-requires
 first-part-requires c κs =
     let a = c .before .before .before .before .before .before .before .args in
-    let f : (0 < a .r .count) × (a .r .at + a .r .count ≤ 4096) = frame-some (c .before .before .before .before .before .before .before .pre .0) (c .before .before .before .before .before .before .before .pre .1) in
+    let f : (0 < a .r .count) × (a .r .at + a .r .count ≤ mostNodes) = frame-some (c .before .before .before .before .before .before .before .pre .0) (c .before .before .before .before .before .before .before .pre .1) in
     (search needs, omega arith)
 
 mul-q : tie.Need-mul-q
 mul-q c =
     let a = c .before .before .before .before .before .before .before .before .args in
-    let f : (1 + c .first-part .result ≤ a .r .count) × (a .r .at + a .r .count ≤ 4096) = others-fit (rows (now (a .s))) (a .r) (c .before .before .before .before .before .before .before .before .pre .0) (c .before .before .before .before .before .before .before .before .pre .1) _ (c .before .before .before .before .instance .ensures .0) (c .first-part .result) (c .first-part .ensures) in
+    let f : (1 + c .first-part .result ≤ a .r .count) × (a .r .at + a .r .count ≤ mostNodes) = others-fit (rows (now (a .s))) (a .r) (c .before .before .before .before .before .before .before .before .pre .0) (c .before .before .before .before .before .before .before .before .pre .1) _ (c .before .before .before .before .instance .ensures .0) (c .first-part .result) (c .first-part .ensures) in
     omega arith
 
 add-q : tie.Need-add-q
 add-q c =
     let a = c .before .before .before .before .before .before .before .before .args in
-    let f : (1 + c .first-part .result ≤ a .r .count) × (a .r .at + a .r .count ≤ 4096) = others-fit (rows (now (a .s))) (a .r) (c .before .before .before .before .before .before .before .before .pre .0) (c .before .before .before .before .before .before .before .before .pre .1) _ (c .before .before .before .before .instance .ensures .0) (c .first-part .result) (c .first-part .ensures) in
+    let f : (1 + c .first-part .result ≤ a .r .count) × (a .r .at + a .r .count ≤ mostNodes) = others-fit (rows (now (a .s))) (a .r) (c .before .before .before .before .before .before .before .before .pre .0) (c .before .before .before .before .before .before .before .before .pre .1) _ (c .before .before .before .before .instance .ensures .0) (c .first-part .result) (c .first-part .ensures) in
     omega arith
 
 sub-signature : tie.Need-sub-signature
 sub-signature c =
     let a = c .before .before .before .before .before .before .before .before .before .args in
-    let f : (1 + c .before .first-part .result ≤ a .r .count) × (a .r .at + a .r .count ≤ 4096) = others-fit (rows (now (a .s))) (a .r) (c .before .before .before .before .before .before .before .before .before .pre .0) (c .before .before .before .before .before .before .before .before .before .pre .1) _ (c .before .before .before .before .before .instance .ensures .0) (c .before .first-part .result) (c .before .first-part .ensures) in
+    let f : (1 + c .before .first-part .result ≤ a .r .count) × (a .r .at + a .r .count ≤ mostNodes) = others-fit (rows (now (a .s))) (a .r) (c .before .before .before .before .before .before .before .before .before .pre .0) (c .before .before .before .before .before .before .before .before .before .pre .1) _ (c .before .before .before .before .before .instance .ensures .0) (c .before .first-part .result) (c .before .first-part .ensures) in
     omega arith
 
 sub-signature-2 : tie.Need-sub-signature-2
 sub-signature-2 c =
     let a = c .before .before .before .before .before .before .before .before .before .args in
-    let f : (1 + c .before .first-part .result ≤ a .r .count) × (a .r .at + a .r .count ≤ 4096) = others-fit (rows (now (a .s))) (a .r) (c .before .before .before .before .before .before .before .before .before .pre .0) (c .before .before .before .before .before .before .before .before .before .pre .1) _ (c .before .before .before .before .before .instance .ensures .0) (c .before .first-part .result) (c .before .first-part .ensures) in
+    let f : (1 + c .before .first-part .result ≤ a .r .count) × (a .r .at + a .r .count ≤ mostNodes) = others-fit (rows (now (a .s))) (a .r) (c .before .before .before .before .before .before .before .before .before .pre .0) (c .before .before .before .before .before .before .before .before .before .pre .1) _ (c .before .before .before .before .before .instance .ensures .0) (c .before .first-part .result) (c .before .first-part .ensures) in
     omega arith
 
 signature-requires : tie.Need-signature-requires
 signature-requires c κs =
     let a = c .before .before .before .before .before .before .before .before .before .args in
-    let f : (1 + c .before .first-part .result ≤ a .r .count) × (a .r .at + a .r .count ≤ 4096) = others-fit (rows (now (a .s))) (a .r) (c .before .before .before .before .before .before .before .before .before .pre .0) (c .before .before .before .before .before .before .before .before .before .pre .1) _ (c .before .before .before .before .before .instance .ensures .0) (c .before .first-part .result) (c .before .first-part .ensures) in
+    let f : (1 + c .before .first-part .result ≤ a .r .count) × (a .r .at + a .r .count ≤ mostNodes) = others-fit (rows (now (a .s))) (a .r) (c .before .before .before .before .before .before .before .before .before .pre .0) (c .before .before .before .before .before .before .before .before .before .pre .1) _ (c .before .before .before .before .before .instance .ensures .0) (c .before .first-part .result) (c .before .first-part .ensures) in
     (search needs, omega arith)
 
 returns : tie.Need-returns

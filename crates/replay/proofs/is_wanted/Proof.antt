@@ -3,12 +3,13 @@ use Prim.Native.Nat.{ℕ}
 use native.Mathlib.Omega.{arith}
 use lib.Seq.{length-take-le}
 use borrow.Author.Needs.{needs}
+use Rattle.replay.specs.Replay.{bookFrom}
 use Rattle.replay.proofs.is_wanted.Statement.{statement}
 use Rattle.replay.proofs.is_wanted.Tie as tie
 
 slice-aggregate-same : tie.Need-slice-aggregate-same
 slice-aggregate-same c =
-    sym (length-take-le 16400 (c .before .before .before .before .before .before .args .want .now) (omega arith))
+    sym (length-take-le bookFrom (c .before .before .before .before .before .before .args .want .now) (omega arith))
 
 returns : tie.Need-returns
 returns c =

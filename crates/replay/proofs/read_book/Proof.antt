@@ -1,13 +1,13 @@
 use borrow.Author.Needs.{needs}
-use mathlib.Core.Path.{_≡_, refl, _∙_}
+use mathlib.Core.Path.{_≡_, _∙_}
 use Prim.Native.Nat.{_-_, _≤_}
-use native.Mathlib.Omega.{arith}
-use lib.ListN.{length, length-set}
+use lib.ListN.{length}
+use Rattle.sizes.specs.Sizes.{mostNodes}
 use Rattle.replay.proofs.read_book.Statement.{statement}
 use Rattle.replay.proofs.read_book.Tie as tie
 
 abbrev Inv-loop : tie.InvT-loop
-Inv-loop line at want₀ count first n next₀ nodes₀ i₀ want next nodes i = (i ≤ n) × (nodes ≤ 4096) × (length want ≡ length want₀)
+Inv-loop line at want₀ count first n next₀ nodes₀ i₀ want next nodes i = (i ≤ n) × (nodes ≤ mostNodes) × (length want ≡ length want₀)
 
 abbrev μ-loop : tie.MeasureT-loop
 μ-loop line at want₀ count first n next₀ nodes₀ i₀ want next nodes i = n - i

@@ -1,9 +1,9 @@
 use Prim.Native.Nat.{_*_, _≤_}
 use mathlib.Core.Path.{sym}
 use native.Mathlib.Omega.{arith}
-use lib.ListN.{length}
 use lib.Seq.{length-take-le}
 use borrow.Author.Needs.{needs}
+use Rattle.sizes.specs.Sizes.{lineLength}
 use Rattle.replay.proofs.replay_record.Statement.{statement}
 use Rattle.replay.proofs.replay_record.Tie as tie
 
@@ -22,7 +22,7 @@ slice-aggregate-is-same : tie.Need-slice-aggregate-is-same
 slice-aggregate-is-same c =
     let h = rw (c .before .before .ceiling .given .1) at (c .before .before .before .before .before .before .before .before .read-record .ensures) in
     let k = c .before .before .before .before .before .before .before .before .read-record .kept .1 .0 in
-    sym (length-take-le (29 * c .before .before .ceiling .given .0 .1 .0) (c .before .before .before .before .before .before .before .before .read-record .last .1 .0) (omega (arith, c .before .before .before .before .before .before .before .before .before .before .before .before .before .before .before .before .before .before .before .before .before .before .before .before .before .before .before .before .before .before .pre .sheet-room)))
+    sym (length-take-le (lineLength * c .before .before .ceiling .given .0 .1 .0) (c .before .before .before .before .before .before .before .before .read-record .last .1 .0) (omega (arith, c .before .before .before .before .before .before .before .before .before .before .before .before .before .before .before .before .before .before .before .before .before .before .before .before .before .before .before .before .before .before .pre .sheet-room)))
 
 pub replay-record-spec : {M : Type 1} → statement M
 replay-record-spec =

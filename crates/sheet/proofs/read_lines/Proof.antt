@@ -1,19 +1,17 @@
 use borrow.Author.Needs.{needs}
-use mathlib.Core.Path.{_≡_, sym, _∙_, refl, subst⁻¹}
-use mathlib.Core.List.{List}
-use Prim.Native.Nat.{ℕ, _≤_, _+_, _*_, _-_, _/_}
+use mathlib.Core.Path.{_≡_, _∙_, refl}
+use Prim.Native.Nat.{_≤_, _+_, _*_, _-_, _/_}
 use native.Mathlib.Omega.{arith}
 use lib.ListN.{length, length-set}
-use Rattle.spelling.specs.declared.Triple.{Triple}
+use Rattle.sizes.specs.Sizes.{mostLines}
 use Rattle.sheet.specs.Plan.{triples}
-use Rattle.sheet.specs.Rows.{EndsFrom}
 use Rattle.sheet.proofs.Lines.{length-triples}
 use Rattle.sheet.proofs.RowLaws.{RowsFrom, row-set, row-ends, rows-are, rows-ended, rows-unlinked, rows-words, lines-small}
 use Rattle.sheet.proofs.read_lines.Statement.{statement}
 use Rattle.sheet.proofs.read_lines.Tie as tie
 
 abbrev Inv-loop : tie.InvT-loop
-Inv-loop d₀ s i₀ d i = (i ≤ length (triples s)) × (length d ≡ 4 * length (triples s)) × (length d ≡ length d₀) × (length (triples s) ≤ 2000) × RowsFrom (triples s) d i
+Inv-loop d₀ s i₀ d i = (i ≤ length (triples s)) × (length d ≡ 4 * length (triples s)) × (length d ≡ length d₀) × (length (triples s) ≤ mostLines) × RowsFrom (triples s) d i
 
 abbrev μ-loop : tie.MeasureT-loop
 μ-loop d₀ s i₀ d i = i

@@ -6,7 +6,7 @@ use Rattle.sheet.specs.Rows.{rows}
 use Rattle.judgment.specs.Rules.{rule}
 use Rattle.operations.proofs.Then.{does-as, done-does}
 use Rattle.applying.specs.Applying.{envOn}
-use Rattle.stepping.proofs.Judging.{is-sub, is-app, is-other, subtype-asks, app-asks, infer-asks, check-asks, copy-asks, inferred, checked}
+use Rattle.stepping.proofs.Judging.{is-sub, is-app, is-other, subtype-asks, app-asks, infer-asks, check-asks, copy-asks, sub-room, app-room, other-room, inferred, inferred-room, checked, checked-room}
 use borrow.Author.Needs.{needs}
 use Rattle.stepping.proofs.solve_judgment.Statement.{statement}
 use Rattle.stepping.proofs.solve_judgment.Tie as tie
@@ -22,7 +22,7 @@ returns c =
     let B = now (a .board) in
     let T : Ty = nodesAt B (a .o .at) (a .o .left) in
     let U : Ty = nodesAt B (a .o .at + 2 * a .o .left) (a .o .right) in
-    does-as (λ _. ap (rule E) (sym (is-sub ls (a .o .number) T U (a .o .kind) (c .before .before .before .before .before .before .before .before .before .before .if1 .taken)))) (c .before .before .before .before .before .before .solve-subtype .ensures .0 ls)
+    (does-as (λ _. ap (rule E) (sym (is-sub ls (a .o .number) T U (a .o .kind) (c .before .before .before .before .before .before .before .before .before .before .if1 .taken)))) (c .before .before .before .before .before .before .solve-subtype .ensures .0 ls), sub-room (c .before .before .before .before .before .before .before .before .before .before .before .before .before .before .before .before .before .before .before .before .pre) (c .before .before .before .before .before .before .before .before .before .before .if1 .taken) (c .before .before .before .before .before .before .solve-subtype .ensures .1))
 
 copy-nodes-requires : tie.Need-copy-nodes-requires
 copy-nodes-requires c κs = copy-asks (c .before .before .before .before .before .before .before .before .before .before .before .before .before .pre)
@@ -33,7 +33,7 @@ solve-inference-requires c κs = (infer-asks (c .before .before .before .before 
 returns-2 : tie.Need-returns-2
 returns-2 c =
     let E = envOn (now (c .before .before .before .before .before .before .before .before .before .before .before .before .before .before .before .before .before .before .before .before .before .before .before .before .before .before .before .before .before .before .before .before .before .args .s)) in
-    inferred (c .before .before .before .before .before .before .before .before .before .before .before .before .before .before .before .before .before .before .before .before .before .before .before .before .before .before .before .before .before .before .before .before .before .pre) (c .before .before .before .before .before .before .before .before .before .before .before .before .before .before .before .before .before .before .before .copy-nodes .ensures) E (c .before .before .before .before .before .before .before .before .before .before .before .before .before .before .before .before .before .before .before .before .before .before .if2 .taken) (c .before .before .before .before .before .before .before .before .before .before .solve-inference .ensures .0 _ _ _ (c .before .before .before .before .before .before .before .before .before .before .before .before .before .before .before .before .before .before .before .before .before .before .before .before .before .before .before .before .before .before .before .before .before .pre .formed))
+    (inferred (c .before .before .before .before .before .before .before .before .before .before .before .before .before .before .before .before .before .before .before .before .before .before .before .before .before .before .before .before .before .before .before .before .before .pre) (c .before .before .before .before .before .before .before .before .before .before .before .before .before .before .before .before .before .before .before .copy-nodes .ensures) E (c .before .before .before .before .before .before .before .before .before .before .before .before .before .before .before .before .before .before .before .before .before .before .if2 .taken) (c .before .before .before .before .before .before .before .before .before .before .solve-inference .ensures .0 _ _ _ (c .before .before .before .before .before .before .before .before .before .before .before .before .before .before .before .before .before .before .before .before .before .before .before .before .before .before .before .before .before .before .before .before .before .pre .formed)), inferred-room (c .before .before .before .before .before .before .before .before .before .before .before .before .before .before .before .before .before .before .before .before .before .before .before .before .before .before .before .before .before .before .before .before .before .pre) (c .before .before .before .before .before .before .before .before .before .before .before .before .before .before .before .before .before .before .before .copy-nodes .ensures) (c .before .before .before .before .before .before .before .before .before .before .before .before .before .before .before .before .before .before .before .before .before .before .if2 .taken) (c .before .before .before .before .before .before .before .before .before .before .solve-inference .ensures .1))
 
 copy-nodes-requires-2 : tie.Need-copy-nodes-requires-2
 copy-nodes-requires-2 c κs = copy-asks (c .before .before .before .before .before .before .before .before .before .before .before .before .before .before .pre)
@@ -44,7 +44,7 @@ solve-checking-requires c κs = check-asks (c .before .before .before .before .b
 returns-3 : tie.Need-returns-3
 returns-3 c =
     let E = envOn (now (c .before .before .before .before .before .before .before .before .before .before .before .before .before .before .before .before .before .before .before .before .before .before .before .before .before .before .before .args .s)) in
-    checked (c .before .before .before .before .before .before .before .before .before .before .before .before .before .before .before .before .before .before .before .before .before .before .before .before .before .before .before .pre) (c .before .before .before .before .before .before .before .before .before .before .before .before .copy-nodes2 .ensures) E (c .before .before .before .before .before .before .before .before .before .before .before .before .before .before .before .if3 .taken) (c .before .before .before .before .before .before .solve-checking .ensures .0 _ E _ _ (c .before .before .before .before .before .before .before .before .before .before .before .before .before .before .before .before .before .before .before .before .before .before .before .before .before .before .before .pre .formed))
+    (checked (c .before .before .before .before .before .before .before .before .before .before .before .before .before .before .before .before .before .before .before .before .before .before .before .before .before .before .before .pre) (c .before .before .before .before .before .before .before .before .before .before .before .before .copy-nodes2 .ensures) E (c .before .before .before .before .before .before .before .before .before .before .before .before .before .before .before .if3 .taken) (c .before .before .before .before .before .before .solve-checking .ensures .0 _ E _ _ (c .before .before .before .before .before .before .before .before .before .before .before .before .before .before .before .before .before .before .before .before .before .before .before .before .before .before .before .pre .formed)), checked-room (c .before .before .before .before .before .before .before .before .before .before .before .before .before .before .before .before .before .before .before .before .before .before .before .before .before .before .before .pre) (c .before .before .before .before .before .before .before .before .before .before .before .before .copy-nodes2 .ensures) (c .before .before .before .before .before .before .before .before .before .before .before .before .before .before .before .if3 .taken) (c .before .before .before .before .before .before .solve-checking .ensures .1) (c .before .before .before .before .before .before .solve-checking .ensures .2))
 
 solve-inf-app-requires : tie.Need-solve-inf-app-requires
 solve-inf-app-requires c κs = app-asks (c .before .before .before .before .before .before .before .before .before .before .before .before .before .before .before .before .pre) (c .before .before .before .if4 .taken)
@@ -57,7 +57,7 @@ returns-4 c =
     let B = now (a .board) in
     let T : Ty = nodesAt B (a .o .at) (a .o .left) in
     let U : Ty = nodesAt B (a .o .at + 2 * a .o .left) (a .o .right) in
-    does-as (λ _. ap (rule E) (sym (is-app ls (a .o .number) T U (a .o .kind) (c .before .before .before .before .before .before .before .before .before .before .if4 .taken)))) (c .before .before .before .before .before .before .solve-inf-app .ensures .0 ls E)
+    (does-as (λ _. ap (rule E) (sym (is-app ls (a .o .number) T U (a .o .kind) (c .before .before .before .before .before .before .before .before .before .before .if4 .taken)))) (c .before .before .before .before .before .before .solve-inf-app .ensures .0 ls E), app-room (c .before .before .before .before .before .before .before .before .before .before .before .before .before .before .before .before .before .before .before .before .before .before .before .pre) (c .before .before .before .before .before .before .before .before .before .before .if4 .taken) (c .before .before .before .before .before .before .solve-inf-app .ensures .1))
 
 returns-5 : tie.Need-returns-5
 returns-5 c =
@@ -67,7 +67,7 @@ returns-5 c =
     let B = now (a .board) in
     let T : Ty = nodesAt B (a .o .at) (a .o .left) in
     let U : Ty = nodesAt B (a .o .at + 2 * a .o .left) (a .o .right) in
-    does-as (λ _. is-other ls (a .o .number) T U E (a .o .kind) (c .before .before .before .if1 .left) (c .before .before .if2 .left) (c .before .if3 .left) (c .if4 .left)) (done-does (c .before .before .before .before .before .before .before .before .before .before .before .before .before .pre .formed))
+    (does-as (λ _. is-other ls (a .o .number) T U E (a .o .kind) (c .before .before .before .if1 .left) (c .before .before .if2 .left) (c .before .if3 .left) (c .if4 .left)) (done-does (c .before .before .before .before .before .before .before .before .before .before .before .before .before .pre .formed)), other-room (c .before .before .before .before .before .before .before .before .before .before .before .before .before .pre) (c .before .before .before .if1 .left) (c .before .before .if2 .left) (c .before .if3 .left) (c .if4 .left))
 
 pub solve-judgment-spec : {M : Type 1} → statement M
 solve-judgment-spec =

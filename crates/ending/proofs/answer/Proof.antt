@@ -1,10 +1,10 @@
 use mathlib.Core.List.{List}
 use Prim.Native.Nat.{ℕ}
-use Rattle.checker.specs.Running.{endOf}
-use Rattle.checker.proofs.Finishing.{answer-is}
+use Rattle.ending.specs.Ending.{endOf}
+use Rattle.ending.proofs.Numbers.{answer-is}
 use borrow.Author.Needs.{needs}
-use Rattle.checker.proofs.answer.Statement.{statement}
-use Rattle.checker.proofs.answer.Tie as tie
+use Rattle.ending.proofs.answer.Statement.{statement}
+use Rattle.ending.proofs.answer.Tie as tie
 
 returns : tie.Need-returns
 returns c =

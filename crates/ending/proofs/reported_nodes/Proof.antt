@@ -1,9 +1,9 @@
-use mathlib.Core.Path.{_≡_, refl, sym, ap, ap₂, _∙_}
-use Prim.Native.Nat.{ℕ, _+_}
+use mathlib.Core.Path.{_≡_, sym, ap, _∙_}
+use Prim.Native.Nat.{_+_}
 use Rattle.operations.specs.State.{reported}
 use borrow.Author.Needs.{needs}
-use Rattle.checker.proofs.reported_nodes.Statement.{statement}
-use Rattle.checker.proofs.reported_nodes.Tie as tie
+use Rattle.ending.proofs.reported_nodes.Statement.{statement}
+use Rattle.ending.proofs.reported_nodes.Tie as tie
 
 returns-5 : tie.Need-returns-5
 returns-5 c =

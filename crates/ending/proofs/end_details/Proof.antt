@@ -1,13 +1,13 @@
-use mathlib.Core.Path.{_≡_, refl, sym, ap, _∙_}
+use mathlib.Core.Path.{_≡_, sym, ap, _∙_}
 use mathlib.Core.List.{List}
 use Prim.Native.Nat.{ℕ}
 use mathlib.Core.Bool.{true, false}
 use Rattle.judgment.specs.Result.{errorDetails}
 use Rattle.operations.specs.State.{going}
-use Rattle.checker.proofs.Finishing.{going-details}
+use Rattle.ending.proofs.Numbers.{going-details}
 use borrow.Author.Needs.{needs}
-use Rattle.checker.proofs.end_details.Statement.{statement}
-use Rattle.checker.proofs.end_details.Tie as tie
+use Rattle.ending.proofs.end_details.Statement.{statement}
+use Rattle.ending.proofs.end_details.Tie as tie
 
 returns : tie.Need-returns
 returns c =

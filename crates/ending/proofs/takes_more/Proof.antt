@@ -1,12 +1,11 @@
-use mathlib.Core.Path.{_≡_, refl, sym, ap, ap₂, _∙_}
+use mathlib.Core.Path.{_≡_, refl, sym, _∙_}
 use native.Mathlib.Omega.{arith}
 use Rattle.operations.specs.State.{going}
 use mathlib.Core.Bool.{true, false}
 use borrow.Author.Tests.{lt-ltb, le-ltb}
-use lib.Dec.{ltb}
 use borrow.Author.Needs.{needs}
-use Rattle.checker.proofs.takes_more.Statement.{statement}
-use Rattle.checker.proofs.takes_more.Tie as tie
+use Rattle.ending.proofs.takes_more.Statement.{statement}
+use Rattle.ending.proofs.takes_more.Tie as tie
 
 returns : tie.Need-returns
 returns c =

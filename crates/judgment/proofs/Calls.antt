@@ -3,17 +3,17 @@
 use mathlib.Core.Path.{_≡_, refl}
 use mathlib.Core.List.{List, [], _∷_, _++_, map}
 use Prim.Native.Nat.{ℕ, _+_, _*_}
-use lib.ListN.{length, getD, take, drop, replicate}
-use Rattle.nodes.specs.Nodes.{node, Ty, words, nodesAt}
+use lib.ListN.{getD, take, drop, replicate}
+use Rattle.nodes.specs.Nodes.{Ty, words, nodesAt}
 use Rattle.spelling.specs.Spelling.{fieldFrom, lineOf, lineAt, linesFrom, linesOf, firstMisspelt}
 use Rattle.spelling.specs.Text.{fieldText, lineText}
 use Rattle.kinds.specs.Kinds.{rowOf, find as findRow, table, begins, headOf}
 use Rattle.grammar.specs.Grammar.{declaredBy, isGoal, arms, following, read, readAt}
 use Rattle.grammar.specs.Check.{readSheet, check}
-use Rattle.judgment.specs.Solutions.{Solution, Solutions, key, value}
-use Rattle.judgment.specs.Result.{Buffers, Called, padded, pairsFrom, placeFrom, nodeWords, bookWords, call}
-use Rattle.judgment.specs.Wall.{l, numbers, firstSheet, Row}
-use Rattle.judgment.specs.Telling.{answers}
+use Rattle.judgment.specs.Solutions.{Solution, key, value}
+use Rattle.judgment.specs.Result.{numbers, Buffers, padded, pairsFrom, placeFrom, nodeWords, bookWords, call}
+use Rattle.judgment.proofs.Wall.{l, firstSheet, Row}
+use Rattle.judgment.proofs.Telling.{answers}
 
 abbrev buffers : ℕ → ℕ → ℕ → Buffers
 buffers board book report = record { board = replicate board 7; book = replicate book 7; report = replicate report 7 }

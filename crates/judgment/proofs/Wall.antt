@@ -1,10 +1,10 @@
 -- The plans on the wall (document 01, those with a star), by computation: one sentence about the judgment rules. Assumes nothing.
 use mathlib.Core.Path.{_≡_, refl}
-use mathlib.Core.Bool.{true, false}
+use mathlib.Core.Bool.{false}
 use mathlib.Core.List.{List, [], _∷_, _++_, map}
 use Prim.Native.Nat.{ℕ}
 use lib.ListN.{take, drop}
-use Rattle.nodes.specs.Nodes.{Node, node, Ty, words}
+use Rattle.nodes.specs.Nodes.{node, Ty, words}
 use Rattle.spelling.specs.declared.Triple.{Triple}
 use Rattle.spelling.specs.Spelling.{fieldFrom, lineOf, lineAt, linesFrom, linesOf, firstMisspelt}
 use Rattle.spelling.specs.Text.{fieldText, lineText}
@@ -13,14 +13,13 @@ use Rattle.grammar.specs.declared.Check.the-variants.{Plan}
 use Rattle.grammar.specs.Grammar.{declaredBy, isGoal, arms, following, read, readAt}
 use Rattle.grammar.specs.Check.{readSheet, check}
 use Rattle.sheet.specs.Plan.{triples, planOf, declarations, bindingsIn, endFrom, entriesEnd, placesOf, partLine, isPlain, lookup}
-use Rattle.judgment.specs.declared.Answer.{Answer}
 use Rattle.judgment.specs.Types.{view, occurs, isMonotype, substitute, rename, frontNames, afterFront, canUnify}
 use Rattle.judgment.specs.Terms.{termView, lambdaOf}
-use Rattle.judgment.specs.Solutions.{Solution, _≔_, Solutions, find, links, anySolved, writeOutBy, writeOut, solutionNodes}
+use Rattle.judgment.specs.Solutions.{_≔_, Solutions, find, links, anySolved, writeOutBy, writeOut, solutionNodes}
 use Rattle.judgment.specs.Board.{boardNodes, findVar, before, perform, operations}
 use Rattle.judgment.specs.Rules.{instantiateFrom, subtype, openNames, signatureFrom, insert, pushVars, checkPatterns, checkArms, inferApp}
 use Rattle.judgment.specs.Run.{runFrom, checkType}
-use Rattle.judgment.specs.Result.{Result, resultOf, runOf, judge, limits, padded, placeFrom, pairsFrom, nodeWords, bookWords}
+use Rattle.judgment.specs.Result.{numbers, resultOf, runOf, judge, limits, padded, placeFrom, pairsFrom, nodeWords, bookWords}
 
 abbrev pub l : ℕ → ℕ → ℕ → Triple
 l k v c = record { kind = k; negative = false; value = v; count = c }
@@ -28,9 +27,6 @@ l k v c = record { kind = k; negative = false; value = v; count = c }
 -- the seven numbers, the types reported, the solutions in order of solving
 abbrev pub Row : Type 0
 Row = List ℕ × Ty × Solutions
-
-abbrev pub numbers : Answer → List ℕ
-numbers a = a .number ∷ a .line ∷ a .taken ∷ a .fresh ∷ a .detail1 ∷ a .detail2 ∷ a .plain ∷ []
 
 unfoldable pub row : ℕ → List Triple → Row
 row c ls = let r = judge limits c ls in (numbers (r .answer), r .report, r .solutions)

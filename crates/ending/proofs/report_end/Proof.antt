@@ -1,11 +1,11 @@
 use mathlib.Core.Path.{_≡_, refl, sym, _∙_}
-use mathlib.Core.Bool.{true, false}
+use mathlib.Core.Bool.{true}
 use native.Mathlib.Omega.{arith}
 use Rattle.operations.specs.State.{going}
-use Rattle.checker.proofs.Finishing.{refused-fits, refused-over}
+use Rattle.ending.proofs.Numbers.{refused-fits, refused-over}
 use borrow.Author.Needs.{needs}
-use Rattle.checker.proofs.report_end.Statement.{statement}
-use Rattle.checker.proofs.report_end.Tie as tie
+use Rattle.ending.proofs.report_end.Statement.{statement}
+use Rattle.ending.proofs.report_end.Tie as tie
 
 returns : tie.Need-returns
 returns c = let g : going (c .before .before .args .h) ≡ true = sym (c .before .is-going .ensures) ∙ c .if1 .taken in rw g refl

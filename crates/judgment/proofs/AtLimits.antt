@@ -1,7 +1,7 @@
--- For each limit of document 01 but the ceiling a plan that meets it exactly and one that passes it by one, with the Rust's answers as
--- `reference answer` gives them, by computation. Assumes nothing.
+-- For each limit of document 01 but the ceiling a plan that meets it exactly and one that passes it by one, and those that pass one without limits, with the Rust's answers
+-- as `reference answer` gives them (`--limits` with numbers that no run comes to), by computation. Assumes nothing.
 use mathlib.Core.Path.{_≡_, refl}
-use mathlib.Core.List.{List, [], _∷_, _++_}
+use mathlib.Core.List.{List, [], _∷_, _++_, map}
 use Prim.Native.Nat.{ℕ, zero, suc, _+_}
 use lib.ListN.{length, replicate}
 use Rattle.spelling.specs.declared.Triple.{Triple}
@@ -10,15 +10,18 @@ use Rattle.sheet.specs.Plan.{planOf, declarations, bindingsIn, endFrom, entries
 use Rattle.judgment.specs.Types.{view, occurs, isMonotype, substitute, rename, frontNames, afterFront, canUnify}
 use Rattle.judgment.specs.Terms.{termView, lambdaOf}
 use Rattle.judgment.specs.Solutions.{find, links, anySolved, writeOutBy, writeOut, solutionNodes}
-use Rattle.judgment.specs.Board.{boardNodes, findVar, before, perform, operations}
+use Rattle.judgment.specs.Board.{Limits, boardNodes, findVar, before, perform, operations}
 use Rattle.judgment.specs.Rules.{instantiateFrom, subtype, openNames, signatureFrom, insert, pushVars, checkPatterns, checkArms, inferApp}
 use Rattle.judgment.specs.Run.{runFrom, checkType}
-use Rattle.judgment.specs.Result.{resultOf, runOf, judge, limits}
-use Rattle.judgment.specs.Wall.{l, numbers}
+use Rattle.judgment.specs.Result.{numbers, resultOf, runOf, judge, limits, noLimits}
+use Rattle.judgment.proofs.Wall.{l}
 
 -- the seven numbers, and how many nodes the report and the solutions have
-unfoldable pub short : List Triple → List ℕ × ℕ × ℕ
-short ls = let r = judge limits 10000 ls in (numbers (r .answer), length (r .report), solutionNodes (r .solutions))
+unfoldable pub shortUnder : Limits → List Triple → List ℕ × ℕ × ℕ
+shortUnder L ls = let r = judge L 10000 ls in (numbers (r .answer), length (r .report), solutionNodes (r .solutions))
+
+abbrev short : List Triple → List ℕ × ℕ × ℕ
+short ls = shortUnder limits ls
 
 abbrev times : ℕ → List Triple → List Triple
 times zero ls = []
@@ -68,26 +71,37 @@ large body =
     l 2 40 0 ∷ l 16 0 30 ∷ (times 10 product ++ (replicate 20 (l 12 1 0) ++ goal (l 27 0 1 ∷ when (l 21 40 0 ∷ l 21 40 0 ∷ l 41 0 0 ∷ body))))
 
 pub entries : short (quantified 509) ∷ short (quantified 510) ∷ [] ≡ (0 ∷ 0 ∷ 514 ∷ 510 ∷ 0 ∷ 0 ∷ 0 ∷ [], 0, 1) ∷ (22 ∷ 0 ∷ 2 ∷ 511 ∷ 0 ∷ 0 ∷ 0 ∷ [], 0, 0) ∷ []
-unfolding short judge resultOf runOf checkType runFrom perform operations boardNodes findVar before lookup instantiateFrom subtype openNames signatureFrom insert pushVars checkPatterns checkArms inferApp find links anySolved writeOutBy writeOut solutionNodes view termView lambdaOf occurs isMonotype substitute rename frontNames afterFront canUnify planOf declarations bindingsIn endFrom entriesEnd placesOf partLine isPlain partsOf rowOf findRow table
+unfolding shortUnder judge resultOf runOf checkType runFrom perform operations boardNodes findVar before lookup instantiateFrom subtype openNames signatureFrom insert pushVars checkPatterns checkArms inferApp find links anySolved writeOutBy writeOut solutionNodes view termView lambdaOf occurs isMonotype substitute rename frontNames afterFront canUnify planOf declarations bindingsIn endFrom entriesEnd placesOf partLine isPlain partsOf rowOf findRow table
 entries = refl
 
 pub board-nodes : short (arms 49 wildcard) ∷ short (arms 50 wildcard) ∷ [] ≡ (0 ∷ 0 ∷ 330 ∷ 63 ∷ 0 ∷ 0 ∷ 1 ∷ [], 0, 63) ∷ (22 ∷ 0 ∷ 4 ∷ 3 ∷ 0 ∷ 0 ∷ 1 ∷ [], 0, 0) ∷ []
-unfolding short judge resultOf runOf checkType runFrom perform operations boardNodes findVar before lookup instantiateFrom subtype openNames signatureFrom insert pushVars checkPatterns checkArms inferApp find links anySolved writeOutBy writeOut solutionNodes view termView lambdaOf occurs isMonotype substitute rename frontNames afterFront canUnify planOf declarations bindingsIn endFrom entriesEnd placesOf partLine isPlain partsOf rowOf findRow table
+unfolding shortUnder judge resultOf runOf checkType runFrom perform operations boardNodes findVar before lookup instantiateFrom subtype openNames signatureFrom insert pushVars checkPatterns checkArms inferApp find links anySolved writeOutBy writeOut solutionNodes view termView lambdaOf occurs isMonotype substitute rename frontNames afterFront canUnify planOf declarations bindingsIn endFrom entriesEnd placesOf partLine isPlain partsOf rowOf findRow table
 board-nodes = refl
 
 -- a pattern's arity is tested after its Sub is pushed: 14, and 22 where the Sub does not fit although everything before it does
 pub arity-after-sub : short (arms 51 noParts) ∷ short (arms 52 noParts) ∷ short (arms 52 wildcard) ∷ [] ≡ (14 ∷ 0 ∷ 2 ∷ 2 ∷ 1 ∷ 0 ∷ 1 ∷ [], 0, 0) ∷ (22 ∷ 0 ∷ 2 ∷ 2 ∷ 0 ∷ 0 ∷ 1 ∷ [], 0, 0) ∷ (22 ∷ 0 ∷ 3 ∷ 3 ∷ 0 ∷ 0 ∷ 1 ∷ [], 0, 0) ∷ []
-unfolding short judge resultOf runOf checkType runFrom perform operations boardNodes findVar before lookup instantiateFrom subtype openNames signatureFrom insert pushVars checkPatterns checkArms inferApp find links anySolved writeOutBy writeOut solutionNodes view termView lambdaOf occurs isMonotype substitute rename frontNames afterFront canUnify planOf declarations bindingsIn endFrom entriesEnd placesOf partLine isPlain partsOf rowOf findRow table
+unfolding shortUnder judge resultOf runOf checkType runFrom perform operations boardNodes findVar before lookup instantiateFrom subtype openNames signatureFrom insert pushVars checkPatterns checkArms inferApp find links anySolved writeOutBy writeOut solutionNodes view termView lambdaOf occurs isMonotype substitute rename frontNames afterFront canUnify planOf declarations bindingsIn endFrom entriesEnd placesOf partLine isPlain partsOf rowOf findRow table
 arity-after-sub = refl
 
 pub written-nodes : short (wide 23) ∷ short (wide 24) ∷ [] ≡ (0 ∷ 0 ∷ 15 ∷ 4 ∷ 0 ∷ 0 ∷ 1 ∷ [], 0, 2050) ∷ (23 ∷ 0 ∷ 10 ∷ 4 ∷ 0 ∷ 0 ∷ 1 ∷ [], 0, 2) ∷ []
-unfolding short judge resultOf runOf checkType runFrom perform operations boardNodes findVar before lookup instantiateFrom subtype openNames signatureFrom insert pushVars checkPatterns checkArms inferApp find links anySolved writeOutBy writeOut solutionNodes view termView lambdaOf occurs isMonotype substitute rename frontNames afterFront canUnify planOf declarations bindingsIn endFrom entriesEnd placesOf partLine isPlain partsOf rowOf findRow table
+unfolding shortUnder judge resultOf runOf checkType runFrom perform operations boardNodes findVar before lookup instantiateFrom subtype openNames signatureFrom insert pushVars checkPatterns checkArms inferApp find links anySolved writeOutBy writeOut solutionNodes view termView lambdaOf occurs isMonotype substitute rename frontNames afterFront canUnify planOf declarations bindingsIn endFrom entriesEnd placesOf partLine isPlain partsOf rowOf findRow table
 written-nodes = refl
 
 pub fresh-numbers : short (many 59) ∷ short (many 60) ∷ [] ≡ (0 ∷ 0 ∷ 1080 ∷ 1000 ∷ 0 ∷ 0 ∷ 0 ∷ [], 0, 21) ∷ (24 ∷ 0 ∷ 1073 ∷ 1000 ∷ 0 ∷ 0 ∷ 0 ∷ [], 0, 20) ∷ []
-unfolding short judge resultOf runOf checkType runFrom perform operations boardNodes findVar before lookup instantiateFrom subtype openNames signatureFrom insert pushVars checkPatterns checkArms inferApp find links anySolved writeOutBy writeOut solutionNodes view termView lambdaOf occurs isMonotype substitute rename frontNames afterFront canUnify planOf declarations bindingsIn endFrom entriesEnd placesOf partLine isPlain partsOf rowOf findRow table
+unfolding shortUnder judge resultOf runOf checkType runFrom perform operations boardNodes findVar before lookup instantiateFrom subtype openNames signatureFrom insert pushVars checkPatterns checkArms inferApp find links anySolved writeOutBy writeOut solutionNodes view termView lambdaOf occurs isMonotype substitute rename frontNames afterFront canUnify planOf declarations bindingsIn endFrom entriesEnd placesOf partLine isPlain partsOf rowOf findRow table
 fresh-numbers = refl
 
 pub solution-nodes : short (large (l 24 0 0 ∷ l 23 10 0 ∷ l 12 1 0 ∷ l 21 10 0 ∷ l 22 7 0 ∷ [])) ∷ short (large (times 4 (l 28 1 0 ∷ l 22 1 0 ∷ []) ++ (l 22 1 0 ∷ []))) ∷ [] ≡ (0 ∷ 0 ∷ 56 ∷ 14 ∷ 0 ∷ 0 ∷ 1 ∷ [], 0, 4096) ∷ (25 ∷ 0 ∷ 75 ∷ 17 ∷ 0 ∷ 0 ∷ 1 ∷ [], 0, 3076) ∷ []
-unfolding short judge resultOf runOf checkType runFrom perform operations boardNodes findVar before lookup instantiateFrom subtype openNames signatureFrom insert pushVars checkPatterns checkArms inferApp find links anySolved writeOutBy writeOut solutionNodes view termView lambdaOf occurs isMonotype substitute rename frontNames afterFront canUnify planOf declarations bindingsIn endFrom entriesEnd placesOf partLine isPlain partsOf rowOf findRow table
+unfolding shortUnder judge resultOf runOf checkType runFrom perform operations boardNodes findVar before lookup instantiateFrom subtype openNames signatureFrom insert pushVars checkPatterns checkArms inferApp find links anySolved writeOutBy writeOut solutionNodes view termView lambdaOf occurs isMonotype substitute rename frontNames afterFront canUnify planOf declarations bindingsIn endFrom entriesEnd placesOf partLine isPlain partsOf rowOf findRow table
 solution-nodes = refl
+
+-- without limits each plan that passes one is accepted
+pub without : map (shortUnder noLimits) (quantified 510 ∷ arms 50 wildcard ∷ wide 24 ∷ many 60 ∷ large (times 4 (l 28 1 0 ∷ l 22 1 0 ∷ []) ++ (l 22 1 0 ∷ [])) ∷ []) ≡
+    (0 ∷ 0 ∷ 515 ∷ 511 ∷ 0 ∷ 0 ∷ 0 ∷ [], 0, 1) ∷
+    (0 ∷ 0 ∷ 335 ∷ 64 ∷ 0 ∷ 0 ∷ 1 ∷ [], 0, 64) ∷
+    (0 ∷ 0 ∷ 15 ∷ 4 ∷ 0 ∷ 0 ∷ 1 ∷ [], 0, 2052) ∷
+    (0 ∷ 0 ∷ 1081 ∷ 1001 ∷ 0 ∷ 0 ∷ 0 ∷ [], 0, 21) ∷
+    (0 ∷ 0 ∷ 79 ∷ 17 ∷ 0 ∷ 0 ∷ 1 ∷ [], 0, 4097) ∷
+    []
+unfolding shortUnder judge resultOf runOf checkType runFrom perform operations boardNodes findVar before lookup instantiateFrom subtype openNames signatureFrom insert pushVars checkPatterns checkArms inferApp find links anySolved writeOutBy writeOut solutionNodes view termView lambdaOf occurs isMonotype substitute rename frontNames afterFront canUnify planOf declarations bindingsIn endFrom entriesEnd placesOf partLine isPlain partsOf rowOf findRow table
+without = refl

@@ -1,14 +1,14 @@
-use mathlib.Core.Path.{_≡_, refl, sym, ap, _∙_}
+use mathlib.Core.Path.{_≡_, sym, ap, _∙_}
 use mathlib.Core.List.{List}
 use Prim.Native.Nat.{ℕ}
 use mathlib.Core.Bool.{Bool, true, false, cond}
 use borrow.Author.Tests.{eq-eqb, ne-eqb}
 use Rattle.judgment.specs.Result.{errorNumber}
 use Rattle.operations.specs.State.{going}
-use Rattle.checker.proofs.Finishing.{going-number}
+use Rattle.ending.proofs.Numbers.{going-number}
 use borrow.Author.Needs.{needs}
-use Rattle.checker.proofs.end_number.Statement.{statement}
-use Rattle.checker.proofs.end_number.Tie as tie
+use Rattle.ending.proofs.end_number.Statement.{statement}
+use Rattle.ending.proofs.end_number.Tie as tie
 
 returns : tie.Need-returns
 returns c =

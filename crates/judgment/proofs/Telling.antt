@@ -3,18 +3,18 @@
 use mathlib.Core.Path.{_≡_, refl}
 use mathlib.Core.List.{List, [], _∷_, map}
 use Prim.Native.Nat.{ℕ}
-use Rattle.nodes.specs.Nodes.{Node, node, Ty}
+use Rattle.nodes.specs.Nodes.{node}
 use Rattle.spelling.specs.declared.Triple.{Triple}
 use Rattle.kinds.specs.Kinds.{partsOf, rowOf, find as findRow, table}
 use Rattle.sheet.specs.Plan.{planOf, declarations, bindingsIn, endFrom, entriesEnd, placesOf, partLine, isPlain, lookup}
 use Rattle.judgment.specs.Types.{view, occurs, isMonotype, substitute, rename, frontNames, afterFront, canUnify}
 use Rattle.judgment.specs.Terms.{termView, lambdaOf}
-use Rattle.judgment.specs.Solutions.{Solution, _≔_, Solutions, find, links, anySolved, writeOutBy, writeOut, solutionNodes}
+use Rattle.judgment.specs.Solutions.{_≔_, find, links, anySolved, writeOutBy, writeOut, solutionNodes}
 use Rattle.judgment.specs.Board.{boardNodes, findVar, before, perform, operations}
 use Rattle.judgment.specs.Rules.{instantiateFrom, subtype, openNames, signatureFrom, insert, pushVars, checkPatterns, checkArms, inferApp}
 use Rattle.judgment.specs.Run.{runFrom, checkType}
 use Rattle.judgment.specs.Result.{resultOf, runOf, judge}
-use Rattle.judgment.specs.Wall.{l, Row, row}
+use Rattle.judgment.proofs.Wall.{l, Row, row}
 
 abbrev pub told : List (ℕ × List Triple)
 told =

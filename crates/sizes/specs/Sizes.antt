@@ -1,0 +1,66 @@
+-- Document 01's limits and the sizes of sheet and buffers; src/lib.rt has constants of the same names. Assumes nothing: these are definitions.
+use Prim.Native.Nat.{ℕ, _+_, _*_}
+
+-- ---- the sheet: its lines, and the bytes of one and of all
+abbrev pub mostLines : ℕ
+mostLines = 2000
+
+abbrev pub lineLength : ℕ
+lineLength = 29
+
+abbrev pub sheetBytes : ℕ
+sheetBytes = lineLength * mostLines
+
+-- ---- limits
+abbrev pub highestCeiling : ℕ
+highestCeiling = 10000
+
+-- entries on the board
+abbrev pub mostEntries : ℕ
+mostEntries = 512
+
+-- type nodes on the board, those of all solutions, and so those of one type
+abbrev pub mostNodes : ℕ
+mostNodes = 4096
+
+-- fresh numbers
+abbrev pub mostNumbers : ℕ
+mostNumbers = 1000
+
+-- nodes of one written-out type
+abbrev pub mostWritten : ℕ
+mostWritten = 1024
+
+-- ---- words of a type, two a node
+abbrev pub typeWords : ℕ
+typeWords = 2 * mostNodes
+
+-- ---- the board: so many words an entry, the nodes from the base on, and words that no run uses
+abbrev pub boardStride : ℕ
+boardStride = 8
+
+abbrev pub boardBase : ℕ
+boardBase = boardStride * mostEntries
+
+abbrev pub boardUsed : ℕ
+boardUsed = boardBase + typeWords
+
+abbrev pub boardSize : ℕ
+boardSize = 16384
+
+-- ---- the book: so many words a number, and the nodes from the base on
+abbrev pub bookStride : ℕ
+bookStride = 2
+
+abbrev pub bookBase : ℕ
+bookBase = bookStride * mostNumbers
+
+abbrev pub bookSize : ℕ
+bookSize = bookBase + typeWords
+
+-- ---- the report: two written-out types
+abbrev pub reportNodes : ℕ
+reportNodes = 2 * mostWritten
+
+abbrev pub reportSize : ℕ
+reportSize = 2 * reportNodes
