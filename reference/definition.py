@@ -1,5 +1,5 @@
 #!/usr/bin/env python3
-"""definition.py RECORDS [--chunk N] [--limits E,N,W,F,S]: the definition of the judgment rules beside the Rust's recorded answers.
+"""definition.py RECORDS [--chunk N] [--limits E,N,W,F,S|none]: the definition of the judgment rules beside the Rust's recorded answers.
 
 RECORDS is a file in the format of src/record.rs, as `reference generate --answers` and `reference record` write it. The
 repository is copied to a temporary folder, and there a crate is added whose one theorem says, by computation in the prover,
@@ -8,13 +8,13 @@ before a run (1 to 5) are left out. Run it anywhere inside the repository; it ne
 """
 import argparse, os, shutil, subprocess, sys, tempfile
 
-DEPS = "nodes spelling kinds grammar sheet judgment"
+DEPS = "sizes nodes spelling kinds grammar sheet judgment"
 OPENED = {
     "kinds.specs.Kinds": "partsOf rowOf find=findRow table",
     "sheet.specs.Plan": "planOf declarations bindingsIn endFrom entriesEnd placesOf partLine isPlain lookup",
     "judgment.specs.Types": "view occurs isMonotype substitute rename frontNames afterFront canUnify",
     "judgment.specs.Terms": "termView lambdaOf",
-    "judgment.specs.Solutions": "find replace writeOut solutionNodes",
+    "judgment.specs.Solutions": "find links anySolved writeOutBy writeOut solutionNodes",
     "judgment.specs.Board": "boardNodes findVar before perform operations",
     "judgment.specs.Rules": "instantiateFrom subtype openNames signatureFrom insert pushVars checkPatterns checkArms inferApp",
     "judgment.specs.Run": "runFrom checkType",
@@ -26,16 +26,13 @@ use mathlib.Core.List.{List, [], _∷_, map}
 use Prim.Native.Nat.{ℕ}
 use Rattle.nodes.specs.Nodes.{Node, node, Ty}
 use Rattle.spelling.specs.declared.Triple.{Triple}
-use Rattle.judgment.specs.declared.Answer.{Answer}
 use Rattle.judgment.specs.Solutions.{Solution, _≔_, Solutions}
-use Rattle.judgment.specs.Result.{Result, limits}
+use Rattle.judgment.specs.Board.{upTo}
+use Rattle.judgment.specs.Result.{Result, numbers, limits, noLimits}
 """
 ROW = """
 abbrev t : ℕ → Bool → ℕ → ℕ → Triple
 t k n v c = record { kind = k; negative = n; value = v; count = c }
-
-abbrev numbers : Answer → List ℕ
-numbers a = a .number ∷ a .line ∷ a .taken ∷ a .fresh ∷ a .detail1 ∷ a .detail2 ∷ a .plain ∷ []
 
 abbrev Row : Type 0
 Row = List ℕ × Ty × Solutions
@@ -90,8 +87,10 @@ def groups(plans):
 
 
 def record(limits):
+    if limits == "none":
+        return "noLimits"
     fields = zip("entries nodes written numbers solved".split(), limits.split(","))
-    return "record { " + "; ".join(f"{name} = {int(n)}" for name, n in fields) + " }"
+    return "record { " + "; ".join(f"{name} = upTo {int(n)}" for name, n in fields) + " }"
 
 
 def module(plans, limits):
@@ -111,33 +110,43 @@ def theorem(name, plans, opened):
             f"\npub same{name} : map (λ q. row (q .0) (q .1)) asked{name} ≡ answered{name}\nunfolding row {opened}\nsame{name} = refl\n")
 
 
+def workplace(folder):
+    """A copy of the repository's crates in `folder`, with a crate `compare` above judgment."""
+    top = subprocess.run(["git", "rev-parse", "--show-toplevel"], capture_output=True, text=True, check=True).stdout.strip()
+    shutil.copytree(os.path.join(top, "crates"), os.path.join(folder, "crates"))
+    shutil.copy(os.path.join(top, "crates.txt"), folder)
+    for part in ("src", "specs"):
+        os.makedirs(os.path.join(folder, "crates/compare", part))
+    open(os.path.join(folder, "crates/compare/src/lib.rt"), "w").write("// No code.\n")
+    open(os.path.join(folder, "crates/compare/specs/Lib.antt"), "w").write("pub mod Same\n")
+    with open(os.path.join(folder, "crates.txt"), "a") as f:
+        f.write(f"compare: {DEPS}\n")
+
+
+def proved(folder, text, what):
+    """Has the prover compute the theorems of `text`; ends the program where one does not hold."""
+    open(os.path.join(folder, "crates/compare/specs/Same.antt"), "w", encoding="utf-8").write(text)
+    p = subprocess.run(["rt", "dev", "compare"], cwd=folder, capture_output=True, text=True)
+    said = p.stdout + p.stderr
+    if p.returncode != 0 or "crate compare" not in said or "logic=not-proved" in said:
+        print(f"{what}: DIFFERENT\n{said[-3000:]}")
+        sys.exit(1)
+
+
 def main():
     a = argparse.ArgumentParser(description=__doc__, formatter_class=argparse.RawDescriptionHelpFormatter)
     a.add_argument("records")
     a.add_argument("--chunk", type=int, default=1000)
-    a.add_argument("--limits", help="the limits that the records were made with, where they are not document 01's")
+    a.add_argument("--limits", help="the limits that the records were made with, where they are not document 01's; none for no limit")
     o = a.parse_args()
-    top = subprocess.run(["git", "rev-parse", "--show-toplevel"], capture_output=True, text=True, check=True).stdout.strip()
     plans = [parse(l) for l in open(o.records, encoding="utf-8") if not l.startswith("#")]
     plans = [p for p in plans if p[2][0] not in (1, 2, 3, 4, 5)]
     same = 0
     with tempfile.TemporaryDirectory() as folder:
-        shutil.copytree(os.path.join(top, "crates"), os.path.join(folder, "crates"))
-        shutil.copy(os.path.join(top, "crates.txt"), folder)
-        for part in ("src", "specs"):
-            os.makedirs(os.path.join(folder, "crates/compare", part))
-        open(os.path.join(folder, "crates/compare/src/lib.rt"), "w").write("// No code.\n")
-        open(os.path.join(folder, "crates/compare/specs/Lib.antt"), "w").write("pub mod Same\n")
-        with open(os.path.join(folder, "crates.txt"), "a") as f:
-            f.write(f"compare: {DEPS}\n")
+        workplace(folder)
         for at in range(0, len(plans), o.chunk):
             chunk = plans[at: at + o.chunk]
-            open(os.path.join(folder, "crates/compare/specs/Same.antt"), "w", encoding="utf-8").write(module(chunk, o.limits))
-            p = subprocess.run(["rt", "dev", "compare"], cwd=folder, capture_output=True, text=True)
-            said = p.stdout + p.stderr
-            if p.returncode != 0 or "crate compare" not in said or "logic=not-proved" in said:
-                print(f"plans {at} to {at + len(chunk)}: DIFFERENT\n{said[-3000:]}")
-                sys.exit(1)
+            proved(folder, module(chunk, o.limits), f"plans {at} to {at + len(chunk)}")
             same += len(chunk)
             print(f"{same} of {len(plans)} plans alike", flush=True)
 

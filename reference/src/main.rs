@@ -9,7 +9,8 @@ use std::io::{Read, Write};
 use std::process::ExitCode;
 
 const USAGE: &str = "usage: reference COMMAND
-  answer [--ceiling N]                 the answer to the sheet on standard input
+  answer [--ceiling N] [--limits E,N,W,F,S]
+                                       the answer to the sheet on standard input
   generate --seed S --count N [--kind random|small|limits] [--answers] [--limits E,N,W,F,S]
                                        plans, one a line, in the format of src/record.rs; other
                                        limits: entries, nodes, written out, fresh, solutions
@@ -60,7 +61,10 @@ fn command(arguments: &[String]) -> Result<bool, String> {
     let (name, rest) = arguments.split_first().ok_or("no command")?;
     let options = Options(rest);
     match name.as_str() {
-        "answer" => answer(options.number("--ceiling", Some(MOST_STEPS))?),
+        "answer" => {
+            set_limits(&options)?;
+            answer(options.number("--ceiling", Some(MOST_STEPS))?)
+        }
         "generate" => generate_plans(&options),
         "record" => record_list(options.text("--out").ok_or("--out is lacking")?),
         "wall" => Ok(wall::check()),
@@ -103,8 +107,11 @@ fn spelt(nodes: &[Node]) -> String {
     nodes.iter().map(node).collect()
 }
 
-/// Five numbers, in the order of `limited`'s constants.
-fn set_limits(text: &str) -> Result<(), String> {
+/// Five numbers, in the order of `limited`'s constants, where they are given.
+fn set_limits(options: &Options) -> Result<(), String> {
+    let Some(text) = options.text("--limits") else {
+        return Ok(());
+    };
     let parsed: Result<Vec<usize>, _> = text.split(',').map(str::parse).collect();
     let limits = parsed.ok().and_then(|numbers| numbers.try_into().ok());
     limited::set_limits(limits.ok_or("--limits: five numbers, as 20,60,20,12,40")?);
@@ -113,9 +120,7 @@ fn set_limits(text: &str) -> Result<(), String> {
 
 fn generate_plans(options: &Options) -> Result<bool, String> {
     let answers = options.has("--answers");
-    if let Some(text) = options.text("--limits") {
-        set_limits(text)?;
-    }
+    set_limits(options)?;
     match options.text("--kind").unwrap_or("random") {
         "random" => {
             let (seed, count) = (
