@@ -18,12 +18,18 @@ extern "C" {
 
 /* The number of this interface. It rises with every change that a caller has to
  * follow; kirvoghus_version says the library's. */
-#define KIRVOGHUS_VERSION 1
+#define KIRVOGHUS_VERSION 2
 
-/* The least lengths of the buffers, in words of 32 bits. */
+/* The limit: so many nodes may one type have that is written out. A caller picks
+ * 1 to the highest; the programs that come with the library pick 1,024. */
+#define KIRVOGHUS_LIMIT 1024
+#define KIRVOGHUS_LIMIT_MOST 4096
+
+/* The least lengths of the buffers, in words of 32 bits; the report's goes with
+ * the limit. */
 #define KIRVOGHUS_BOARD_WORDS 16384
 #define KIRVOGHUS_BOOK_WORDS 10192
-#define KIRVOGHUS_REPORT_WORDS 4096
+#define KIRVOGHUS_REPORT_WORDS(limit) (4 * (size_t)(limit))
 
 /* A sheet is 1 to 2,000 lines of 29 bytes, each with its LF. */
 #define KIRVOGHUS_LINE_BYTES 29
@@ -42,7 +48,7 @@ extern "C" {
  * DETAIL1  as told with each result below; else 0.
  * DETAIL2  the same.
  * PLAIN    1 if no line of the sheet has kind 14 (Forall) or 25 (TypeLambda),
- *          else 0; 0 for results 1 to 5.
+ *          else 0; 0 for results 1 to 5 and 32.
  */
 #define KIRVOGHUS_NUMBER 0
 #define KIRVOGHUS_LINE 1
@@ -62,6 +68,8 @@ extern "C" {
  */
 /* The ceiling is above 10,000. */
 #define KIRVOGHUS_CEILING_TOO_HIGH 1
+/* The limit is 0 or above 4,096. */
+#define KIRVOGHUS_LIMIT_OUT_OF_RANGE 32
 /* A buffer is shorter than above. */
 #define KIRVOGHUS_BUFFER_TOO_SHORT 2
 /* The sheet has no byte, over 58,000, or a part of a line. */
@@ -102,7 +110,7 @@ extern "C" {
 #define KIRVOGHUS_CEILING_REACHED 21
 /* A push would pass 512 entries or 4,096 type nodes on the board. */
 #define KIRVOGHUS_BOARD_FULL 22
-/* A written-out type would pass 1,024 nodes. */
+/* A written-out type would have more nodes than the limit. */
 #define KIRVOGHUS_WRITTEN_OUT_TOO_LONG 23
 /* A 1,001st fresh number. */
 #define KIRVOGHUS_NUMBERS_USED_UP 24
@@ -139,16 +147,20 @@ extern "C" {
  * All that is asked of the caller: the pointers are valid for the lengths told
  * (in bytes for the sheet, in words for the buffers; not null, also where a
  * length is 0), `result` has room for seven numbers, and no two of the areas
- * overlap. Any bytes, ceiling, lengths and words held before are taken.
+ * overlap. Any bytes, ceiling, limit, lengths and words held before are taken.
  *
- * After results 1 to 5 board, book and report are as they were. After any other
- * the board's words are 0, the book holds the solutions given in the run and is
- * else 0, and the report holds the types told and is else 0. Of longer buffers
- * the words past the lengths above keep what they held.
+ * After results 1 to 5 and 32 board, book and report are as they were. After
+ * any other the board's words are 0, the book holds the solutions given in the
+ * run and is else 0, and the report holds the types told and is else 0. Of
+ * longer buffers the words past the lengths above keep what they held: of the
+ * report those from KIRVOGHUS_REPORT_WORDS(limit) on.
+ *
+ * A higher limit changes no result but WRITTEN_OUT_TOO_LONG.
  */
 uint32_t kirvoghus_check_type(
     const uint8_t *sheet, size_t sheet_len,
     uint32_t ceiling,
+    uint32_t limit,
     uint32_t *board, size_t board_len,
     uint32_t *book, size_t book_len,
     uint32_t *report, size_t report_len,
@@ -180,10 +192,12 @@ size_t kirvoghus_term_bytes(
 uint32_t kirvoghus_version(void);
 size_t kirvoghus_board_words(void);
 size_t kirvoghus_book_words(void);
-size_t kirvoghus_report_words(void);
+size_t kirvoghus_report_words(uint32_t limit);
 size_t kirvoghus_line_bytes(void);
 size_t kirvoghus_sheet_bytes(void);
 uint32_t kirvoghus_ceiling(void);
+uint32_t kirvoghus_limit(void);
+uint32_t kirvoghus_limit_most(void);
 
 #ifdef __cplusplus
 }

@@ -66,6 +66,11 @@ pub fn ceiling() -> Lines {
     limits::ceiling().swap_remove(0).made.lines
 }
 
+/// 4,096 nodes in one written-out type exactly.
+pub fn written() -> Lines {
+    limits::highest().swap_remove(0).made.lines
+}
+
 fn plan(constructors: &[(u32, Ty)], context: &[(u32, Ty)], expected: &Ty, term: Lines) -> Lines {
     let entries = |list: &[(u32, Ty)]| list.iter().cloned().collect::<Entries>();
     sheet(&entries(constructors), &entries(context), expected, &term)

@@ -12,9 +12,9 @@ mod targets;
 
 use measure::{measure, Turns, FULL, QUICK};
 use plans::{plans, Plan};
-use reference::checks::put;
-use reference::oracle::MOST_STEPS;
-use reference::proved::{proved, Check, SIZES};
+use reference::checks::{put, Call};
+use reference::oracle::{sizes, MOST_STEPS};
+use reference::proved::{proved, Check};
 use reference::sheet::{read, write};
 use reference::with_stack;
 use std::io::Write;
@@ -90,7 +90,13 @@ fn run(options: &Options) -> Result<(), String> {
 /// Puts a plan to both, then measures it; an error if the answers differ.
 fn row(turns: Turns, check: Check, plan: Plan) -> Result<Row, String> {
     let sheet = write(&plan.lines);
-    let put = put(check, &sheet, MOST_STEPS, 1, SIZES);
+    let call = Call {
+        sheet: &sheet,
+        ceiling: MOST_STEPS,
+        limit: plan.limit,
+        lengths: sizes(plan.limit),
+    };
+    let put = put(check, &call, 1);
     if !put.same {
         let (title, rust, ours) = (&plan.title, put.answer.seven(), put.seven);
         return Err(format!(
@@ -98,7 +104,7 @@ fn row(turns: Turns, check: Check, plan: Plan) -> Result<Row, String> {
         ));
     }
     let trees = read(&sheet).map_err(|refusal| format!("{}: {refusal:?}", plan.title))?;
-    let measured = measure(turns, check, &trees, &sheet);
+    let measured = measure(turns, check, &trees, &call);
     Ok(Row {
         plan,
         answer: put.answer,

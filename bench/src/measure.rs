@@ -2,9 +2,10 @@
 
 use crate::clock::time;
 use crate::floor::floor;
+use reference::checks::Call;
 use reference::oracle::{inference, MOST_STEPS};
 use reference::plan::Plan;
-use reference::proved::{Buffers, Check, SIZES};
+use reference::proved::{Buffers, Check};
 use std::hint::black_box;
 use std::time::Duration;
 
@@ -53,8 +54,8 @@ struct Dirty {
 }
 
 impl Dirty {
-    fn new() -> Self {
-        let buffers = SIZES.map(|size| vec![0; size]);
+    fn new(lengths: [usize; 3]) -> Self {
+        let buffers = lengths.map(|length| vec![0; length]);
         Dirty { buffers, calls: 0 }
     }
 
@@ -68,8 +69,9 @@ impl Dirty {
 }
 
 /// The Rust's `check_type`, our whole call, and the floor.
-pub fn measure(turns: Turns, check: Check, plan: &Plan, sheet: &[u8]) -> Measured {
-    let (mut our_buffers, mut floor_buffers) = (Dirty::new(), Dirty::new());
+pub fn measure(turns: Turns, check: Check, plan: &Plan, call: &Call) -> Measured {
+    let (mut our_buffers, mut floor_buffers) = (Dirty::new(call.lengths), Dirty::new(call.lengths));
+    let (sheet, limit) = (call.sheet, call.limit);
     let [rust, ours, floor] = by_turns(
         turns,
         [
@@ -77,7 +79,7 @@ pub fn measure(turns: Turns, check: Check, plan: &Plan, sheet: &[u8]) -> Measure
                 let mut rust = inference(plan);
                 time(|| rust.check_type(black_box(&plan.term), &plan.expected))
             },
-            &mut || our_buffers.time(|buffers| check(black_box(sheet), MOST_STEPS, buffers)),
+            &mut || our_buffers.time(|buffers| check(black_box(sheet), MOST_STEPS, limit, buffers)),
             &mut || floor_buffers.time(|buffers| floor(black_box(sheet), buffers)),
         ],
     );

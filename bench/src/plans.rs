@@ -1,6 +1,7 @@
 //! The plans that are measured, with what is wanted of each.
 
 use crate::families::{self, Family, PLAIN, QUANTIFIED};
+use reference::oracle::{LIMIT, MOST_LIMIT};
 use reference::sheet::Line;
 
 /// What is wanted of our time.
@@ -18,6 +19,8 @@ pub struct Plan {
     /// The family's title and the number of lines that it was asked for.
     pub of: Option<(&'static str, usize)>,
     pub lines: Vec<Line>,
+    /// On one written-out type.
+    pub limit: u32,
     pub target: Target,
 }
 
@@ -44,6 +47,7 @@ pub fn plans() -> Vec<Plan> {
             title: format!("{} {size}", family.title),
             of: Some((family.title, size)),
             lines: (family.make)(size),
+            limit: LIMIT,
             target: Target::Ratio(ratio),
         }));
     }
@@ -57,6 +61,14 @@ pub fn plans() -> Vec<Plan> {
         Target::Nothing,
         families::ceiling(),
     ));
+    plans.push(Plan {
+        limit: MOST_LIMIT,
+        ..single(
+            "4,096 nodes written out",
+            Target::Nothing,
+            families::written(),
+        )
+    });
     plans
 }
 
@@ -65,6 +77,7 @@ fn single(title: &str, target: Target, lines: Vec<Line>) -> Plan {
         title: title.to_string(),
         of: None,
         lines,
+        limit: LIMIT,
         target,
     }
 }
@@ -72,7 +85,7 @@ fn single(title: &str, target: Target, lines: Vec<Line>) -> Plan {
 #[cfg(test)]
 mod tests {
     use super::{plans, Plan};
-    use reference::oracle::{answer_lines, MOST_STEPS};
+    use reference::oracle::{answer_lines, under_limit, MOST_STEPS};
     use reference::sheet::MOST_LINES;
     use reference::with_stack;
 
@@ -89,7 +102,7 @@ mod tests {
             let about = size * 17 / 20..=size * 5 / 4;
             assert!(about.contains(&lines), "{title}: {lines} lines");
         }
-        let answer = answer_lines(&plan.lines, MOST_STEPS);
+        let answer = under_limit(plan.limit, || answer_lines(&plan.lines, MOST_STEPS));
         let number = match title {
             "long type, refused 2000" => 23,
             _ if title.contains("refused") => 15,

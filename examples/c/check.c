@@ -3,9 +3,10 @@
  * in columns of 6, the types that the result reports, and on request the
  * solutions in order of solving.
  *
- *     check [-c CEILING] [-b WORDS] [-s] [FILE]
+ *     check [-c CEILING] [-l LIMIT] [-b WORDS] [-s] [FILE]
  *
- * WORDS is the length of the board, by default the least that is taken.
+ * WORDS is the length of the board, by default the least that is taken. The
+ * report is as long as the limit asks.
  * Exit status: 0 accepted, 1 any other result, 2 not checked.
  *
  * Types are spelt as in the papers: n10 → Int, ∀n10. n10, a product (A × B), a
@@ -30,6 +31,7 @@ static uint8_t *sheet;
 static uint32_t *board;
 static uint32_t *book;
 static uint32_t *report;
+static size_t report_words;
 
 /* Where a type stands, for its parentheses: PART is left of an arrow or in a product. */
 enum place { ANYWHERE, PART, APPLIED, ARGUMENT };
@@ -171,7 +173,7 @@ static int print_type(const char *title, const uint32_t *nodes, uint32_t count)
 /* True if the report has room for so many nodes from a node on. */
 static int in_report(uint32_t from, uint32_t count)
 {
-    const uint32_t room = KIRVOGHUS_REPORT_WORDS / KIRVOGHUS_NODE_WORDS;
+    const size_t room = report_words / KIRVOGHUS_NODE_WORDS;
 
     return from <= room && count <= room - from;
 }
@@ -256,11 +258,13 @@ static void *area(size_t length, size_t size)
     return start;
 }
 
-static int make_buffers(uint32_t board_words)
+/* A limit that the library refuses needs no report. */
+static int make_buffers(uint32_t limit, uint32_t board_words)
 {
+    report_words = limit <= KIRVOGHUS_LIMIT_MOST ? KIRVOGHUS_REPORT_WORDS(limit) : 0;
     return (board = area(board_words, sizeof *board)) != NULL
         && (book = area(KIRVOGHUS_BOOK_WORDS, sizeof *book)) != NULL
-        && (report = area(KIRVOGHUS_REPORT_WORDS, sizeof *report)) != NULL;
+        && (report = area(report_words, sizeof *report)) != NULL;
 }
 
 /* The bytes of the file, or of standard input if there is no name. */
@@ -287,8 +291,15 @@ static int read_sheet(const char *name, size_t *length)
     return 1;
 }
 
+/* After the other results nothing was written to the book. */
+static int was_run(uint32_t number)
+{
+    return number == KIRVOGHUS_ACCEPTED
+        || (number > KIRVOGHUS_UNFIT_LINE && number != KIRVOGHUS_LIMIT_OUT_OF_RANGE);
+}
+
 /* Checks and prints; the exit status. */
-static int check(size_t length, uint32_t ceiling, uint32_t board_words, int solutions)
+static int check(size_t length, uint32_t ceiling, uint32_t limit, uint32_t board_words, int solutions)
 {
     uint32_t result[KIRVOGHUS_NUMBERS];
     uint32_t number;
@@ -296,18 +307,17 @@ static int check(size_t length, uint32_t ceiling, uint32_t board_words, int solu
     int at;
 
     number = kirvoghus_check_type(
-        sheet, length, ceiling,
+        sheet, length, ceiling, limit,
         board, board_words,
         book, KIRVOGHUS_BOOK_WORDS,
-        report, KIRVOGHUS_REPORT_WORDS,
+        report, report_words,
         result);
 
     for (at = 0; at < KIRVOGHUS_NUMBERS; at++)
         printf("%6lu", (unsigned long)result[at]);
     putchar('\n');
     printed = print_report(result);
-    /* After results 1 to 5 nothing was written to the book. */
-    if (solutions && (number == KIRVOGHUS_ACCEPTED || number > KIRVOGHUS_UNFIT_LINE))
+    if (solutions && was_run(number))
         printed = printed && print_solutions();
     if (fflush(stdout) != 0 || ferror(stdout))
         return NOT_CHECKED;
@@ -320,13 +330,14 @@ static int check(size_t length, uint32_t ceiling, uint32_t board_words, int solu
 
 static int usage(void)
 {
-    fputs("usage: check [-c CEILING] [-b WORDS] [-s] [FILE]\n", stderr);
+    fputs("usage: check [-c CEILING] [-l LIMIT] [-b WORDS] [-s] [FILE]\n", stderr);
     return NOT_CHECKED;
 }
 
 int main(int count, char **words)
 {
     uint32_t ceiling = KIRVOGHUS_CEILING;
+    uint32_t limit = KIRVOGHUS_LIMIT;
     uint32_t board_words = KIRVOGHUS_BOARD_WORDS;
     const char *name = NULL;
     size_t length = 0;
@@ -340,6 +351,9 @@ int main(int count, char **words)
         } else if (strcmp(words[at], "-c") == 0) {
             if (++at == count || !read_number(words[at], &ceiling))
                 return usage();
+        } else if (strcmp(words[at], "-l") == 0) {
+            if (++at == count || !read_number(words[at], &limit))
+                return usage();
         } else if (strcmp(words[at], "-b") == 0) {
             if (++at == count || !read_number(words[at], &board_words))
                 return usage();
@@ -349,8 +363,8 @@ int main(int count, char **words)
             name = words[at];
         }
     }
-    if (make_buffers(board_words) && read_sheet(name, &length))
-        status = check(length, ceiling, board_words, solutions);
+    if (make_buffers(limit, board_words) && read_sheet(name, &length))
+        status = check(length, ceiling, limit, board_words, solutions);
     free(sheet);
     free(board);
     free(book);

@@ -46,13 +46,14 @@ def pairs(words):
 
 
 def expected(sheet, options):
-    ceiling = options[options.index("-c") + 1] if "-c" in options else "10000"
-    command = [REFERENCE, "answer", "--ceiling", ceiling]
+    def option(name, default):
+        return int(options[options.index(name) + 1]) if name in options else default
+
+    limit = option("-l", 1024)
+    lengths = f"{option('-b', 16384)},10192,{4 * limit}"
+    command = [REFERENCE, "answer", "--ceiling", str(option("-c", 10000)), "--limit", str(limit), "--lengths", lengths]
     answer = subprocess.run(command, input=sheet, capture_output=True, check=True)
     seven, report, *solutions = answer.stdout.decode().splitlines()
-    # The Rust has no buffers: 2 is document 01's, after 1.
-    if "-b" in options and int(options[options.index("-b") + 1]) < 16384 and int(seven.split()[0]) != 1:
-        return "".join(f"{number:6}" for number in [2, 0, 0, 0, 0, 0, 0]) + "\n"
     number, detail1 = int(seven.split()[0]), seven.split()[4]
     types = pairs(report.split()[1:])
     lines = [seven]

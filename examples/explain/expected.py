@@ -66,7 +66,7 @@ def sentence(number, line, taken, fresh, detail1, detail2, nodes):
     limits = {
         21: "the ceiling was reached, and an entry remains",
         22: "the board would pass 512 entries or 4,096 type nodes",
-        23: "a type written out would pass 1,024 nodes",
+        23: "a type written out would have more nodes than the limit",
         24: "a 1,001st fresh number would be needed",
         25: "the solutions would pass 4,096 nodes",
     }

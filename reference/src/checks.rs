@@ -2,11 +2,14 @@
 //! every word of the three buffers.
 
 use crate::damage::damaged;
-use crate::generate::{limits, random, small, Made};
-use crate::oracle::{answer_sheet, Answer, MOST_STEPS};
-use crate::proved::{proved, Buffers, Check, Proved, SIZES};
+use crate::generate::limits::{self, Found};
+use crate::generate::{random, small, Made};
+use crate::oracle::{
+    answer_call, run_limited, sizes, under_limit, Answer, LIMIT, MOST_LIMIT, MOST_STEPS,
+};
+use crate::proved::{proved, Buffers, Check, Proved};
 use crate::random::Random;
-use crate::sheet::{write, MOST_LINES};
+use crate::sheet::{read_plan, write, Line, MOST_LINES};
 use crate::wall::{self, long_sheet};
 use std::collections::BTreeMap;
 
@@ -20,13 +23,13 @@ fn dirty(salt: u32, lengths: [usize; 3]) -> Buffers {
     })
 }
 
-/// The buffers that the Rust's answer stands for.
-fn expected(answer: &Answer, before: &Buffers) -> Buffers {
+/// The buffers that the Rust's answer under a limit stands for.
+pub fn expected(answer: &Answer, limit: u32, before: &Buffers) -> Buffers {
     let mut after = before.clone();
-    if (1..=5).contains(&answer.number) {
+    if [1, 2, 3, 4, 5, 32].contains(&answer.number) {
         return after;
     }
-    for (buffer, size) in after.iter_mut().zip(SIZES) {
+    for (buffer, size) in after.iter_mut().zip(sizes(limit)) {
         buffer[..size].fill(0);
     }
     let [_, book, report] = &mut after;
@@ -56,21 +59,29 @@ pub struct Put {
     pub same: bool,
 }
 
-/// Puts one sheet to both, with buffers of the lengths given, dirty by the salt.
-pub fn put(check: Check, sheet: &[u8], ceiling: u32, salt: u32, lengths: [usize; 3]) -> Put {
+/// A sheet with what else a call takes: the buffers by their lengths.
+pub struct Call<'a> {
+    pub sheet: &'a [u8],
+    pub ceiling: u32,
+    pub limit: u32,
+    pub lengths: [usize; 3],
+}
+
+/// Puts one call to both, with buffers dirty by the salt.
+pub fn put(check: Check, call: &Call, salt: u32) -> Put {
+    let Call {
+        sheet,
+        ceiling,
+        limit,
+        lengths,
+    } = *call;
     let before = dirty(salt, lengths);
-    let short = lengths
-        .iter()
-        .zip(SIZES)
-        .any(|(length, size)| *length < size);
-    let answer = match short && ceiling <= MOST_STEPS {
-        true => Answer::refused(2, 0),
-        false => answer_sheet(sheet, ceiling),
-    };
+    let answer = answer_call(sheet, ceiling, limit, lengths);
     let mut after = before.clone();
-    let (number, seven) = check(sheet, ceiling, &mut after);
-    let same =
-        number == answer.number && seven == answer.seven() && after == expected(&answer, &before);
+    let (number, seven) = check(sheet, ceiling, limit, &mut after);
+    let same = number == answer.number
+        && seven == answer.seven()
+        && after == expected(&answer, limit, &before);
     Put {
         answer,
         seven,
@@ -78,30 +89,47 @@ pub fn put(check: Check, sheet: &[u8], ceiling: u32, salt: u32, lengths: [usize;
     }
 }
 
-#[derive(Default)]
 struct Tally {
+    check: Check,
     numbers: BTreeMap<u32, usize>,
     compared: usize,
     differences: usize,
 }
 
 impl Tally {
-    fn put(&mut self, check: Check, sheet: &[u8], ceiling: u32, lengths: [usize; 3]) {
-        let put = put(check, sheet, ceiling, self.compared as u32, lengths);
+    fn new(check: Check) -> Self {
+        Tally {
+            check,
+            numbers: BTreeMap::new(),
+            compared: 0,
+            differences: 0,
+        }
+    }
+
+    fn put(&mut self, sheet: &[u8], ceiling: u32, limit: u32, lengths: [usize; 3]) {
+        let call = Call {
+            sheet,
+            ceiling,
+            limit,
+            lengths,
+        };
+        let put = put(self.check, &call, self.compared as u32);
         self.compared += 1;
         *self.numbers.entry(put.answer.number).or_default() += 1;
         if !put.same {
             self.differences += 1;
-            self.show_difference(sheet, &put);
+            self.show_difference(&call, &put);
         }
     }
 
-    fn show_difference(&self, sheet: &[u8], put: &Put) {
+    fn show_difference(&self, call: &Call, put: &Put) {
         const MOST_SHOWN: usize = 10;
         if self.differences <= MOST_SHOWN {
             let rust = put.answer.seven();
             println!("difference: the Rust {rust:?}, proved {:?}", put.seven);
-            println!("{}", sheet.escape_ascii().to_string().replace("\\n", "\n"));
+            println!("ceiling {}, limit {}", call.ceiling, call.limit);
+            let sheet = call.sheet.escape_ascii().to_string();
+            println!("{}", sheet.replace("\\n", "\n"));
         }
     }
 
@@ -115,52 +143,104 @@ impl Tally {
 }
 
 /// Longer than needed by a few words.
-fn longer(at: usize) -> [usize; 3] {
-    [SIZES[0] + at % 3, SIZES[1] + at % 5, SIZES[2] + at % 7]
+fn longer(limit: u32, at: usize) -> [usize; 3] {
+    let [board, book, report] = sizes(limit);
+    [board + at % 3, book + at % 5, report + at % 7]
 }
 
 /// One of the buffers too short, by a word or more.
-fn shorter(at: usize) -> [usize; 3] {
-    let mut lengths = SIZES;
-    lengths[at % 3] -= 1 + at % SIZES[at % 3];
+fn shorter(limit: u32, at: usize) -> [usize; 3] {
+    let mut lengths = sizes(limit);
+    lengths[at % 3] -= 1 + at % lengths[at % 3];
     lengths
 }
 
 /// True if both give the same on random plans, on damaged sheets, on the plans
-/// of the wall and the limits, on every small plan and with short buffers.
+/// of the wall and the limits, on every small plan, with short buffers and under
+/// limits that a caller picks.
 pub fn compare(seed: u64, count: usize, damages: usize) -> bool {
     let Some(Proved { check, .. }) = proved() else {
         return false;
     };
-    let mut tally = Tally::default();
+    let mut tally = Tally::new(check);
+    known(&mut tally);
+    for (at, Made { ceiling, lines }) in random(seed, count).enumerate() {
+        tally.put(&write(&lines), ceiling, LIMIT, longer(LIMIT, at));
+    }
+    refused(&mut tally, seed, damages);
+    picked(&mut tally, seed, count.div_ceil(10));
+    tally.show();
+    tally.differences == 0
+}
+
+/// The wall, the longest sheet, the limits and the small plans.
+fn known(tally: &mut Tally) {
     for plan in wall::plans() {
-        tally.put(check, &write(&plan.lines), plan.ceiling, SIZES);
+        tally.put(&write(&plan.lines), plan.ceiling, LIMIT, sizes(LIMIT));
     }
     for lines in [MOST_LINES, MOST_LINES + 1] {
-        tally.put(check, &write(&long_sheet(lines)), MOST_STEPS, SIZES);
+        tally.put(&write(&long_sheet(lines)), MOST_STEPS, LIMIT, sizes(LIMIT));
     }
-    for found in limits::plans() {
-        tally.put(check, &write(&found.made.lines), found.made.ceiling, SIZES);
+    for Found { made, limit, .. } in [limits::plans(), limits::picked()].concat() {
+        tally.put(&write(&made.lines), made.ceiling, limit, sizes(limit));
     }
     for (at, Made { ceiling, lines }) in small::plans().into_iter().enumerate() {
-        tally.put(check, &write(&lines), ceiling, longer(at));
+        tally.put(&write(&lines), ceiling, LIMIT, longer(LIMIT, at));
     }
-    for (at, Made { ceiling, lines }) in random(seed, count).enumerate() {
-        tally.put(check, &write(&lines), ceiling, longer(at));
-    }
+}
+
+/// Limits that no caller may pick.
+const BAD_LIMITS: [u32; 5] = [0, MOST_LIMIT + 1, 1 << 30, (1 << 30) + 1, u32::MAX];
+
+/// Damaged sheets; with every tenth a call that is refused for its ceiling, its
+/// limit or its buffers, for one of them or for several.
+fn refused(tally: &mut Tally, seed: u64, damages: usize) {
     let mut numbers = Random::new(seed);
     for (at, Made { lines, .. }) in random(seed + 1, damages).enumerate() {
         let (_, sheet) = damaged(&mut numbers, &lines);
-        tally.put(check, &sheet, MOST_STEPS, longer(at));
-        if at % 10 == 0 {
-            tally.put(
-                check,
-                &sheet,
-                MOST_STEPS + (at as u32 / 10) % 2,
-                shorter(at),
-            );
+        tally.put(&sheet, MOST_STEPS, LIMIT, longer(LIMIT, at));
+        if at % 10 != 0 {
+            continue;
+        }
+        let ceiling = MOST_STEPS + (at as u32 / 10) % 2;
+        let limit = pick(&mut numbers);
+        tally.put(&sheet, ceiling, limit, shorter(limit, at));
+        let bad = BAD_LIMITS[at / 10 % BAD_LIMITS.len()];
+        tally.put(&sheet, ceiling, bad, shorter(LIMIT, at / 2));
+        tally.put(&sheet, MOST_STEPS, bad, longer(LIMIT, at));
+    }
+}
+
+/// A limit that a caller may pick, its ends among them.
+fn pick(numbers: &mut Random) -> u32 {
+    const OFTEN: [u32; 8] = [1, 2, 3, 4, 8, 64, LIMIT, MOST_LIMIT];
+    match numbers.below(12) {
+        at @ 0..=7 => OFTEN[at],
+        8..=10 => 1 + numbers.below(40) as u32,
+        _ => 1 + numbers.below(MOST_LIMIT as usize) as u32,
+    }
+}
+
+/// Random plans under a limit picked, under one that the run meets exactly and
+/// under one that it passes by one.
+fn picked(tally: &mut Tally, seed: u64, count: usize) {
+    let mut numbers = Random::new(seed + 2);
+    for (at, Made { ceiling, lines }) in random(seed + 3, count).enumerate() {
+        let sheet = write(&lines);
+        let limit = pick(&mut numbers);
+        tally.put(&sheet, ceiling, limit, longer(limit, at));
+        let most = most_written(&lines, ceiling);
+        for limit in [most, most.saturating_sub(1)] {
+            if limit > 0 {
+                tally.put(&sheet, ceiling, limit, longer(limit, at / 2 % 2 * at));
+            }
         }
     }
-    tally.show();
-    tally.differences == 0
+}
+
+/// The nodes of the largest type that a run under the highest limit writes out.
+fn most_written(lines: &[Line], ceiling: u32) -> u32 {
+    let plan = read_plan(lines).expect("a plan");
+    let run = under_limit(MOST_LIMIT, || run_limited(&plan, ceiling));
+    run.peaks.written as u32
 }

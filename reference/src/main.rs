@@ -1,7 +1,11 @@
 //! Puts plans to the Rust module and gives its answers.
 
-use reference::generate::{self, limits, small, Made};
-use reference::oracle::{answer_lines, answer_sheet, Answer, MOST_STEPS};
+use reference::checks::expected;
+use reference::generate::limits::{self, Found};
+use reference::generate::{self, small, Made};
+use reference::oracle::{
+    answer_call, answer_lines, answer_sheet, sizes, under_limit, Answer, LIMIT, MOST_STEPS,
+};
 use reference::plan::Node;
 use reference::{checks, readers, record, wall, with_stack};
 use std::collections::BTreeMap;
@@ -9,9 +13,13 @@ use std::io::{Read, Write};
 use std::process::ExitCode;
 
 const USAGE: &str = "usage: reference COMMAND
-  answer [--ceiling N] [--limits E,N,W,F,S]
-                                       the answer to the sheet on standard input
-  generate --seed S --count N [--kind random|small|limits] [--answers] [--limits E,N,W,F,S]
+  answer [--ceiling N] [--limit W] [--lengths B,K,R] [--words]
+                                       the answer to a call with the sheet on standard input and
+                                       buffers of so many words; with --words also the report's
+                                       words after it, each of which was 7
+  answer [--ceiling N] --limits E,N,W,F,S
+                                       the answer to the sheet under other limits
+  generate --seed S --count N [--kind random|small|limits|picked] [--answers] [--limits E,N,W,F,S]
                                        plans, one a line, in the format of src/record.rs; other
                                        limits: entries, nodes, written out, fresh, solutions
   record --out FILE                    the recorded list of plans and answers
@@ -61,10 +69,7 @@ fn command(arguments: &[String]) -> Result<bool, String> {
     let (name, rest) = arguments.split_first().ok_or("no command")?;
     let options = Options(rest);
     match name.as_str() {
-        "answer" => {
-            set_limits(&options)?;
-            answer(options.number("--ceiling", Some(MOST_STEPS))?)
-        }
+        "answer" => answer(&options),
         "generate" => generate_plans(&options),
         "record" => record_list(options.text("--out").ok_or("--out is lacking")?),
         "wall" => Ok(wall::check()),
@@ -85,17 +90,34 @@ fn command(arguments: &[String]) -> Result<bool, String> {
     }
 }
 
-fn answer(ceiling: u32) -> Result<bool, String> {
+fn answer(options: &Options) -> Result<bool, String> {
     let mut sheet = Vec::new();
     let read = std::io::stdin().read_to_end(&mut sheet);
     read.map_err(|error| error.to_string())?;
-    let answer = answer_sheet(&sheet, ceiling);
-    println!("{}", seven_columns(&answer));
+    let ceiling = options.number("--ceiling", Some(MOST_STEPS))?;
+    if options.has("--limits") {
+        set_limits(options)?;
+        show_answer(&answer_sheet(&sheet, ceiling));
+        return Ok(true);
+    }
+    let limit = options.number("--limit", Some(LIMIT))?;
+    let lengths = numbers(options, "--lengths")?.unwrap_or(sizes(limit));
+    let answer = answer_call(&sheet, ceiling, limit, lengths);
+    show_answer(&answer);
+    if options.has("--words") {
+        let [_, _, report] = expected(&answer, limit, &lengths.map(|length| vec![7; length]));
+        let words: Vec<_> = report.iter().map(u32::to_string).collect();
+        println!("words {}", words.join(" "));
+    }
+    Ok(true)
+}
+
+fn show_answer(answer: &Answer) {
+    println!("{}", seven_columns(answer));
     println!("report{}", spelt(&answer.report));
     for (unknown, nodes) in &answer.solutions {
         println!("^{unknown} :={}", spelt(nodes));
     }
-    Ok(true)
 }
 
 fn seven_columns(answer: &Answer) -> String {
@@ -107,14 +129,22 @@ fn spelt(nodes: &[Node]) -> String {
     nodes.iter().map(node).collect()
 }
 
-/// Five numbers, in the order of `limited`'s constants, where they are given.
-fn set_limits(options: &Options) -> Result<(), String> {
-    let Some(text) = options.text("--limits") else {
-        return Ok(());
+/// So many numbers with commas between, where they are given.
+fn numbers<const N: usize>(options: &Options, name: &str) -> Result<Option<[usize; N]>, String> {
+    let Some(text) = options.text(name) else {
+        return Ok(None);
     };
     let parsed: Result<Vec<usize>, _> = text.split(',').map(str::parse).collect();
-    let limits = parsed.ok().and_then(|numbers| numbers.try_into().ok());
-    limited::set_limits(limits.ok_or("--limits: five numbers, as 20,60,20,12,40")?);
+    let numbers = parsed.ok().and_then(|numbers| numbers.try_into().ok());
+    let numbers = numbers.ok_or_else(|| format!("{name}: {N} numbers with commas between"))?;
+    Ok(Some(numbers))
+}
+
+/// Five numbers, in the order of `limited`'s constants, where they are given.
+fn set_limits(options: &Options) -> Result<(), String> {
+    if let Some(limits) = numbers(options, "--limits")? {
+        limited::set_limits(limits);
+    }
     Ok(())
 }
 
@@ -136,13 +166,18 @@ fn generate_plans(options: &Options) -> Result<bool, String> {
                 .min(plans.len());
             (0..count).for_each(|at| show(&plans[at * plans.len() / count], answers));
         }
-        "limits" => limits::plans().iter().for_each(|found| {
-            println!("# {}", found.title);
-            show(&found.made, answers);
-        }),
+        "limits" => show_found(&limits::plans(), answers),
+        "picked" => show_found(&limits::picked(), answers),
         other => return Err(format!("unknown kind {other}")),
     }
     Ok(true)
+}
+
+fn show_found(plans: &[Found], answers: bool) {
+    for Found { title, made, limit } in plans {
+        println!("# {title}");
+        under_limit(*limit, || show(made, answers));
+    }
 }
 
 fn show(made: &Made, answers: bool) {

@@ -12,6 +12,15 @@ use std::collections::HashMap;
 
 pub const MOST_STEPS: u32 = 10_000;
 
+/// Document 01's limit on one written-out type, and the highest that a caller picks.
+pub const LIMIT: u32 = limited::WRITTEN as u32;
+pub const MOST_LIMIT: u32 = 4096;
+
+/// The least lengths of board, book and report for a limit.
+pub fn sizes(limit: u32) -> [usize; 3] {
+    [16_384, 10_192, 4 * limit as usize]
+}
+
 /// `check_type` keeps a string of the whole term for each step; it is asked
 /// only where term and run are no longer than this.
 const CHECK_TYPE_LINES: usize = 300;
@@ -59,6 +68,33 @@ pub struct Run {
     pub answer: Answer,
     pub peaks: Peaks,
     pub passed: Option<Passed>,
+}
+
+/// A whole call: 1, 32 and 2 before the sheet is looked at, then the Rust under the limit.
+pub fn answer_call(bytes: &[u8], ceiling: u32, limit: u32, lengths: [usize; 3]) -> Answer {
+    let refused = [
+        (1, ceiling > MOST_STEPS),
+        (32, !(1..=MOST_LIMIT).contains(&limit)),
+        (
+            2,
+            lengths
+                .iter()
+                .zip(sizes(limit))
+                .any(|(length, size)| *length < size),
+        ),
+    ];
+    if let Some((number, _)) = refused.into_iter().find(|(_, refused)| *refused) {
+        return Answer::refused(number, 0);
+    }
+    under_limit(limit, || answer_sheet(bytes, ceiling))
+}
+
+/// With another limit on written-out types.
+pub fn under_limit<T>(limit: u32, run: impl FnOnce() -> T) -> T {
+    limited::set_written(limit as usize);
+    let result = run();
+    limited::set_written(limited::WRITTEN);
+    result
 }
 
 pub fn answer_sheet(bytes: &[u8], ceiling: u32) -> Answer {

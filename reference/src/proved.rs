@@ -3,14 +3,11 @@
 
 use crate::sheet::Refusal;
 
-/// The least lengths of board, book and report.
-pub const SIZES: [usize; 3] = [16_384, 10_192, 4_096];
-
 /// Board, book and report.
 pub type Buffers = [Vec<u32>; 3];
 
-/// Sheet, ceiling and buffers to the number returned and the seven.
-pub type Check = fn(&[u8], u32, &mut Buffers) -> (u32, [u32; 7]);
+/// Sheet, ceiling, limit and buffers to the number returned and the seven.
+pub type Check = fn(&[u8], u32, u32, &mut Buffers) -> (u32, [u32; 7]);
 
 /// Number and line, both 0 for a plan.
 pub type Read = fn(&[u8]) -> Refusal;
@@ -48,6 +45,7 @@ mod linked {
             sheet: *const u8,
             sheet_len: usize,
             ceiling: u32,
+            limit: u32,
             board: *mut u32,
             board_len: usize,
             book: *mut u32,
@@ -65,7 +63,7 @@ mod linked {
         Refusal { number, line }
     }
 
-    pub fn check(sheet: &[u8], ceiling: u32, buffers: &mut Buffers) -> (u32, [u32; 7]) {
+    pub fn check(sheet: &[u8], ceiling: u32, limit: u32, buffers: &mut Buffers) -> (u32, [u32; 7]) {
         let [board, book, report] = buffers;
         let mut result = [u32::MAX; 7];
         // The library stays within the lengths that it is told.
@@ -74,6 +72,7 @@ mod linked {
                 sheet.as_ptr(),
                 sheet.len(),
                 ceiling,
+                limit,
                 board.as_mut_ptr(),
                 board.len(),
                 book.as_mut_ptr(),

@@ -1,6 +1,7 @@
 //! The buffers that a call is lent, and the solutions in the book.
 
 use crate::types::Type;
+use crate::{LIMIT, MOST_LIMIT};
 
 /// The least length of the board, in words.
 pub const BOARD_WORDS: usize = 16_384;
@@ -8,8 +9,10 @@ pub const BOARD_WORDS: usize = 16_384;
 /// The least length of the book, in words.
 pub const BOOK_WORDS: usize = 10_192;
 
-/// The least length of the report, in words.
-pub const REPORT_WORDS: usize = 4_096;
+/// The least length of the report for a limit, in words.
+pub const fn report_words(limit: u32) -> usize {
+    4 * limit as usize
+}
 
 /// The unknowns that the book has a pair of words for.
 const UNKNOWNS: usize = 1_000;
@@ -26,9 +29,17 @@ pub struct Buffers {
 }
 
 impl Buffers {
-    /// Buffers of the least lengths that a call takes, all words 0.
+    /// Buffers of the least lengths that [`check`](crate::check) takes, all
+    /// words 0.
     pub fn new() -> Self {
-        Self::with_lengths(BOARD_WORDS, BOOK_WORDS, REPORT_WORDS)
+        Self::for_limit(LIMIT)
+    }
+
+    /// Buffers of the least lengths that a call with this limit takes, all
+    /// words 0. A limit above [`MOST_LIMIT`] is refused by any call, so its
+    /// report is as long as for that one.
+    pub fn for_limit(limit: u32) -> Self {
+        Self::with_lengths(BOARD_WORDS, BOOK_WORDS, report_words(limit.min(MOST_LIMIT)))
     }
 
     /// Buffers of these lengths in words, all words 0. A call refuses shorter

@@ -13,6 +13,7 @@ extern "C" {
         sheet: *const u8,
         sheet_len: usize,
         ceiling: u32,
+        limit: u32,
         board: *mut u32,
         board_len: usize,
         book: *mut u32,
@@ -33,6 +34,7 @@ extern "C" {
 pub fn check_type(
     sheet: &[u8],
     ceiling: u32,
+    limit: u32,
     board: &mut [u32],
     book: &mut [u32],
     report: &mut [u32],
@@ -44,6 +46,7 @@ pub fn check_type(
             sheet.as_ptr(),
             sheet.len(),
             ceiling,
+            limit,
             board.as_mut_ptr(),
             board.len(),
             book.as_mut_ptr(),
@@ -79,17 +82,19 @@ pub fn version() -> u32 {
 #[cfg(test)]
 mod tests {
     use crate::{
-        version, BOARD_WORDS, BOOK_WORDS, LINE_BYTES, MOST_STEPS, REPORT_WORDS, SHEET_BYTES,
-        VERSION,
+        report_words, version, BOARD_WORDS, BOOK_WORDS, LIMIT, LINE_BYTES, MOST_LIMIT, MOST_STEPS,
+        SHEET_BYTES, VERSION,
     };
 
     extern "C" {
         fn kirvoghus_board_words() -> usize;
         fn kirvoghus_book_words() -> usize;
-        fn kirvoghus_report_words() -> usize;
+        fn kirvoghus_report_words(limit: u32) -> usize;
         fn kirvoghus_line_bytes() -> usize;
         fn kirvoghus_sheet_bytes() -> usize;
         fn kirvoghus_ceiling() -> u32;
+        fn kirvoghus_limit() -> u32;
+        fn kirvoghus_limit_most() -> u32;
     }
 
     #[test]
@@ -99,10 +104,14 @@ mod tests {
         unsafe {
             assert_eq!(kirvoghus_board_words(), BOARD_WORDS);
             assert_eq!(kirvoghus_book_words(), BOOK_WORDS);
-            assert_eq!(kirvoghus_report_words(), REPORT_WORDS);
+            for limit in 0..=MOST_LIMIT {
+                assert_eq!(kirvoghus_report_words(limit), report_words(limit));
+            }
             assert_eq!(kirvoghus_line_bytes(), LINE_BYTES);
             assert_eq!(kirvoghus_sheet_bytes(), SHEET_BYTES);
             assert_eq!(kirvoghus_ceiling(), MOST_STEPS);
+            assert_eq!(kirvoghus_limit(), LIMIT);
+            assert_eq!(kirvoghus_limit_most(), MOST_LIMIT);
         }
     }
 }

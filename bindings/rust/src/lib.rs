@@ -26,16 +26,22 @@ mod foreign;
 mod outcome;
 mod types;
 
-pub use buffers::{Buffers, Solutions, BOARD_WORDS, BOOK_WORDS, REPORT_WORDS};
+pub use buffers::{report_words, Buffers, Solutions, BOARD_WORDS, BOOK_WORDS};
 pub use outcome::{Outcome, Verdict};
 pub use types::{Name, Type};
 
 /// The number of the interface that this crate is made for; it rises with every
 /// change that a caller has to follow.
-pub const VERSION: u32 = 1;
+pub const VERSION: u32 = 2;
 
 /// The highest ceiling: so many entries may be taken at most.
 pub const MOST_STEPS: u32 = 10_000;
+
+/// The limit of [`check`]: so many nodes may one type have that is written out.
+pub const LIMIT: u32 = 1_024;
+
+/// The highest limit that a caller may pick; the lowest is 1.
+pub const MOST_LIMIT: u32 = 4_096;
 
 /// The bytes of a sheet's line, with its LF.
 pub const LINE_BYTES: usize = 29;
@@ -43,17 +49,25 @@ pub const LINE_BYTES: usize = 29;
 /// The most bytes of a sheet: 2,000 lines.
 pub const SHEET_BYTES: usize = 58_000;
 
-/// Checks the plan on a sheet, with at most `ceiling` entries taken.
+/// Checks the plan on a sheet, with at most `ceiling` entries taken, and at most
+/// [`LIMIT`] nodes in a type that is written out.
 ///
 /// Any bytes, any ceiling, any lengths and contents of the buffers are taken.
-/// A call that is refused before a run (verdicts 1 to 5) leaves the buffers as
-/// they were. After any other the board is 0, the book holds the solutions
-/// given in the run, the report the types told, both else 0; words past
-/// [`BOARD_WORDS`], [`BOOK_WORDS`] and [`REPORT_WORDS`] keep what they held.
+/// A call that is refused before a run (verdicts 1 to 5 and 32) leaves the
+/// buffers as they were. After any other the board is 0, the book holds the
+/// solutions given in the run, the report the types told, both else 0; words
+/// past [`BOARD_WORDS`], [`BOOK_WORDS`] and [`report_words`] keep what they held.
 pub fn check(sheet: &[u8], ceiling: u32, buffers: &mut Buffers) -> Outcome {
+    check_with(sheet, ceiling, LIMIT, buffers)
+}
+
+/// The same with at most `limit` nodes in a type that is written out. A higher
+/// limit changes no verdict but [`Verdict::WrittenOutTooLong`].
+pub fn check_with(sheet: &[u8], ceiling: u32, limit: u32, buffers: &mut Buffers) -> Outcome {
     let numbers = foreign::check_type(
         sheet,
         ceiling,
+        limit,
         &mut buffers.board,
         &mut buffers.book,
         &mut buffers.report,

@@ -82,12 +82,14 @@ pub enum Verdict {
     CeilingReached,
     /// 22: a push would pass 512 entries or 4,096 type nodes on the board.
     BoardFull,
-    /// 23: a written-out type would pass 1,024 nodes.
+    /// 23: a written-out type would have more nodes than the limit.
     WrittenOutTooLong,
     /// 24: the run wants a 1,001st fresh number.
     NumbersUsedUp,
     /// 25: the solutions would pass 4,096 nodes.
     BookFull,
+    /// 32: the limit is 0 or above [`MOST_LIMIT`](crate::MOST_LIMIT).
+    LimitOutOfRange,
     /// A number, or a report, of another library than this crate is made for.
     Other {
         /// The first of the seven numbers.
@@ -104,6 +106,7 @@ impl Verdict {
             3 => Verdict::BadLength,
             4 => Verdict::Misspelt { line },
             5 => Verdict::Unfit { line },
+            32 => Verdict::LimitOutOfRange,
             _ => Verdict::Other { number },
         })
     }

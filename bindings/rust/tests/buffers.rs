@@ -4,15 +4,22 @@ mod common;
 
 use common::{dirty, sheet, SEVEN_AS_INT};
 use kirvoghus::{
-    check, Buffers, Verdict, BOARD_WORDS, BOOK_WORDS, LINE_BYTES, MOST_STEPS, REPORT_WORDS,
+    check, check_with, report_words, Buffers, Verdict, BOARD_WORDS, BOOK_WORDS, LIMIT, LINE_BYTES,
+    MOST_LIMIT, MOST_STEPS,
 };
+
+const REPORT_WORDS: usize = report_words(LIMIT);
 
 const BOOL: [i64; 12] = [3, 0, 0, 12, 2, 0, 4, 0, 0, 22, 7, 0];
 
 /// A refused call: all numbers but the first are 0 and no word is written.
-fn refused(sheet: &[u8], ceiling: u32, mut buffers: Buffers) -> Verdict {
+fn refused(sheet: &[u8], ceiling: u32, buffers: Buffers) -> Verdict {
+    refused_with(sheet, ceiling, LIMIT, buffers)
+}
+
+fn refused_with(sheet: &[u8], ceiling: u32, limit: u32, mut buffers: Buffers) -> Verdict {
     let before = buffers.clone();
-    let outcome = check(sheet, ceiling, &mut buffers);
+    let outcome = check_with(sheet, ceiling, limit, &mut buffers);
     assert_eq!(buffers, before);
     let [_, _, rest @ ..] = outcome.numbers();
     assert_eq!(rest, [0; 5]);
@@ -120,6 +127,60 @@ fn tails_kept() {
         longer.report()[REPORT_WORDS..],
         before.report()[REPORT_WORDS..]
     );
+}
+
+#[test]
+fn limits_out_of_range() {
+    let good = sheet(&SEVEN_AS_INT);
+    for limit in [0, MOST_LIMIT + 1, 1 << 30, u32::MAX] {
+        let out_of_range = |sheet, buffers| {
+            let verdict = refused_with(sheet, MOST_STEPS, limit, buffers);
+            assert_eq!(verdict, Verdict::LimitOutOfRange);
+        };
+        out_of_range(&good, Buffers::for_limit(limit));
+        // Before the buffers and the sheet, after the ceiling.
+        out_of_range(b"", dirty(0, 0, 0));
+        assert_eq!(
+            refused_with(&good, MOST_STEPS + 1, limit, dirty(0, 0, 0)),
+            Verdict::CeilingTooHigh
+        );
+    }
+}
+
+#[test]
+fn the_report_goes_with_the_limit() {
+    let good = sheet(&SEVEN_AS_INT);
+    for limit in [1, 2, 64, LIMIT, MOST_LIMIT] {
+        let mut buffers = Buffers::for_limit(limit);
+        assert!(check_with(&good, MOST_STEPS, limit, &mut buffers).is_accepted());
+        let short = dirty(BOARD_WORDS, BOOK_WORDS, report_words(limit) - 1);
+        let verdict = refused_with(&good, MOST_STEPS, limit, short);
+        assert_eq!(verdict, Verdict::BufferTooShort);
+    }
+}
+
+#[test]
+fn a_low_limit_keeps_the_tail() {
+    let mut buffers = least();
+    let before = buffers.clone();
+    let outcome = check_with(&sheet(&BOOL), MOST_STEPS, 1, &mut buffers);
+    assert!(matches!(outcome.verdict, Verdict::SubtypingError { .. }));
+    assert_eq!(buffers.report()[..4], [12, 1, 12, 2]);
+    assert_eq!(buffers.report()[4..], before.report()[4..]);
+}
+
+#[test]
+fn a_type_written_out_meets_its_limit() {
+    // 7 as Int → Int: three nodes are written out.
+    let arrow = sheet(&[3, 0, 0, 13, 0, 0, 12, 1, 0, 12, 1, 0, 4, 0, 0, 22, 7, 0]);
+    for limit in 1..6 {
+        let mut buffers = Buffers::for_limit(limit);
+        let verdict = check_with(&arrow, MOST_STEPS, limit, &mut buffers).verdict;
+        match limit < 3 {
+            true => assert_eq!(verdict, Verdict::WrittenOutTooLong),
+            false => assert!(matches!(verdict, Verdict::SubtypingError { .. })),
+        }
+    }
 }
 
 #[test]

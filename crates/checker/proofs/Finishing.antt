@@ -1,5 +1,5 @@
 -- The seven numbers and the buffers, read off the end of a run. Assumes nothing.
-use mathlib.Core.Path.{_≡_, refl, sym, ap, _∙_}
+use mathlib.Core.Path.{_≡_, refl, sym, ap, subst, _∙_}
 use mathlib.Core.Bool.{Bool, true, false, cond}
 use mathlib.Core.List.{List, [], _∷_, _++_, append-nil}
 use Prim.Native.Nat.{ℕ, zero, suc, _+_, _*_, _-_, _≤_, _<_}
@@ -10,7 +10,7 @@ use lib.ListN.{length, getD, take, replicate, length-append, length-replicate, d
 use lib.Seq.{sets, length-sets, sets-eq, take-all, length-take-le, getD-take, getD-append-add, ext-getD}
 use lib.ListN.{List·getD-append, getD-replicate}
 use borrow.Author.Tests.{ltb-true, ltb-false}
-use Rattle.sizes.specs.Sizes.{boardSize, bookSize, reportNodes, reportSize}
+use Rattle.sizes.specs.Sizes.{boardSize, bookSize, reportStride}
 use Rattle.nodes.specs.Nodes.{words, nodesAt, zeros}
 use Rattle.nodes.proofs.ListLaws.{cond-ind}
 use Rattle.nodes.proofs.Laws.{length-words, length-nodesAt, getD-sets-below, getD-sets-in}
@@ -22,7 +22,7 @@ use Rattle.judgment.specs.Board.{State, state}
 use Rattle.judgment.specs.Run.{runFrom, checkType}
 use Rattle.judgment.specs.Run.{Run as Steps, run as steps}
 use Rattle.judgment.specs.Chain.{Told, told}
-use Rattle.judgment.specs.Result.{startOf, Result, endReport, resultOf, runOf, judge, limits, padded, bookWords, reportWords, boardWords}
+use Rattle.judgment.specs.Result.{startOf, Result, endReport, resultOf, runOf, judge, limitsWith, padded, bookWords, reportWords, boardWords}
 use Rattle.judgment.proofs.Words.{length-board}
 use Rattle.book.specs.declared.Book.{Book}
 use Rattle.book.specs.Book.{sols, Booked}
@@ -53,16 +53,16 @@ unfolding resultOf
 result-told plain (steps ss e (state Γ σ n)) =
     ap (λ (m : ℕ). resultTold plain (record { end = e; taken = m; last = state Γ σ n })) (sym (zero-add (length ss)))
 
-pub judged : (s : List ℕ) (C : ℕ) (b k rep : List ℕ) (c : Run) → told 0 (runFrom limits (envOn s) C (startOf (rows s))) ≡ record { end = endOf rep c; taken = c .taken; last = stateOf (rows s) b k c }
-    → judge limits C (rows s) ≡ record {
+pub judged : (s : List ℕ) (C limit : ℕ) (b k rep : List ℕ) (c : Run) → told 0 (runFrom (limitsWith limit) (envOn s) C (startOf (rows s))) ≡ record { end = endOf rep c; taken = c .taken; last = stateOf (rows s) b k c }
+    → judge (limitsWith limit) C (rows s) ≡ record {
       answer = answerBy (planOf (rows s) .plain) (endOf rep c) (c .taken) (c .fresh);
       report = endReport (endOf rep c);
       solutions = sols k;
     }
 unfolding judge runOf checkType
-judged s C b k rep c e =
+judged s C limit b k rep c e =
     let p = planOf (rows s) in
-    result-told (p .plain) (runFrom limits (envOn s) C (startOf (rows s))) ∙ ap (resultTold (p .plain)) e
+    result-told (p .plain) (runFrom (limitsWith limit) (envOn s) C (startOf (rows s))) ∙ ap (resultTold (p .plain)) e
 
 -- ---- the buffers
 -- all words of a buffer of that length
@@ -78,9 +78,12 @@ pub whole-book : {k : List ℕ} {d : Book} → Booked k d → length k ≡ bookS
 whole-book {k} {d} h e = sym (take-all bookSize k (omega arith)) ∙ book-words k d h
 
 -- the report: n nodes, and then 0
-module _ (rep : List ℕ) (len : length rep ≡ reportSize) (n : ℕ) where
+module _ (limit : ℕ) (rep : List ℕ) (len : length rep ≡ reportStride * limit) (n : ℕ) where
+  abbrev size : ℕ
+  size = reportStride * limit
+
   abbrev end : ℕ
-  end = cond (ltb n reportNodes) (2 * n) reportSize
+  end = cond (ltb (2 * n) size) (2 * n) size
 
   abbrev W : List ℕ
   W = words (nodesAt rep 0 n)
@@ -89,69 +92,86 @@ module _ (rep : List ℕ) (len : length rep ≡ reportSize) (n : ℕ) where
   long = length-words (nodesAt rep 0 n) ∙ ap (λ (m : ℕ). 2 * m) (length-nodesAt rep 0 n)
 
   -- a word of the types
-  in-types : (i : ℕ) → i < 2 * n → getD (W ++ replicate reportSize 0) i 0 ≡ getD rep i 0
+  in-types : (i : ℕ) → i < 2 * n → getD (W ++ replicate size 0) i 0 ≡ getD rep i 0
   in-types i h =
       let l = long in
-      List·getD-append W (replicate reportSize 0) 0 i (omega arith) ∙ words-at rep 0 n i h ∙ ap (λ (j : ℕ). getD rep j 0) (zero-add i)
+      List·getD-append W (replicate size 0) 0 i (omega arith) ∙ words-at rep 0 n i h ∙ ap (λ (j : ℕ). getD rep j 0) (zero-add i)
 
-  word-is : (i : ℕ) → i < reportSize → (b : Bool) → ltb n reportNodes ≡ b → getD (sets rep (cond b (2 * n) reportSize) (zeros (reportSize - cond b (2 * n) reportSize))) i 0 ≡ getD (W ++ replicate reportSize 0) i 0
+  word-is : (i : ℕ) → i < size → (b : Bool) → ltb (2 * n) size ≡ b → getD (sets rep (cond b (2 * n) size) (zeros (size - cond b (2 * n) size))) i 0 ≡ getD (W ++ replicate size 0) i 0
   unfolding zeros
   word-is i h true e = go (ltb i (2 * n)) refl
     where
-      go : (b : Bool) → ltb i (2 * n) ≡ b → getD (sets rep (2 * n) (replicate (reportSize - 2 * n) 0)) i 0 ≡ getD (W ++ replicate reportSize 0) i 0
-      go true q = let x = ltb-true i (2 * n) q in getD-sets-below rep (2 * n) (replicate (reportSize - 2 * n) 0) i x ∙ sym (in-types i x)
+      go : (b : Bool) → ltb i (2 * n) ≡ b → getD (sets rep (2 * n) (replicate (size - 2 * n) 0)) i 0 ≡ getD (W ++ replicate size 0) i 0
+      go true q = let x = ltb-true i (2 * n) q in getD-sets-below rep (2 * n) (replicate (size - 2 * n) 0) i x ∙ sym (in-types i x)
       go false q =
           let x = ltb-false i (2 * n) q in
-          let y = ltb-true n reportNodes e in
+          let y = ltb-true (2 * n) size e in
           let l = long in
           let z : 2 * n + (i - 2 * n) ≡ i = omega arith in
           let u : i ≡ length W + (i - 2 * n) = omega arith in
-          let m = length-replicate {A = ℕ} (reportSize - 2 * n) 0 in
-          ap (λ (j : ℕ). getD (sets rep (2 * n) (replicate (reportSize - 2 * n) 0)) j 0) (sym z)
-          ∙ getD-sets-in rep (2 * n) (replicate (reportSize - 2 * n) 0) (i - 2 * n) (omega arith) (omega arith)
-          ∙ getD-replicate (reportSize - 2 * n) (i - 2 * n) 0 0 (omega arith)
-          ∙ sym (ap (λ (j : ℕ). getD (W ++ replicate reportSize 0) j 0) u ∙ getD-append-add W (replicate reportSize 0) (i - 2 * n) 0 ∙ getD-replicate reportSize (i - 2 * n) 0 0 (omega arith))
+          let m = length-replicate {A = ℕ} (size - 2 * n) 0 in
+          ap (λ (j : ℕ). getD (sets rep (2 * n) (replicate (size - 2 * n) 0)) j 0) (sym z)
+          ∙ getD-sets-in rep (2 * n) (replicate (size - 2 * n) 0) (i - 2 * n) (omega arith) (omega arith)
+          ∙ getD-replicate (size - 2 * n) (i - 2 * n) 0 0 (omega arith)
+          ∙ sym (ap (λ (j : ℕ). getD (W ++ replicate size 0) j 0) u ∙ getD-append-add W (replicate size 0) (i - 2 * n) 0 ∙ getD-replicate size (i - 2 * n) 0 0 (omega arith))
   word-is i h false e =
-      let x = ltb-false n reportNodes e in
-      getD-sets-below rep reportSize (replicate (reportSize - reportSize) 0) i h ∙ sym (in-types i (omega arith))
+      let x = ltb-false (2 * n) size e in
+      getD-sets-below rep size (replicate (size - size) 0) i h ∙ sym (in-types i (omega arith))
 
-  pub report-is : sets rep end (zeros (reportSize - end)) ≡ reportWords (nodesAt rep 0 n)
+  pub report-is : sets rep end (zeros (size - end)) ≡ reportWords limit (nodesAt rep 0 n)
   unfolding reportWords padded
   report-is =
-      let l = length-append W (replicate reportSize 0) in
-      let r = length-replicate {A = ℕ} reportSize 0 in
-      let m = length-take-le reportSize (W ++ replicate reportSize 0) (omega arith) in
-      let a = length-sets rep end (zeros (reportSize - end)) in
-      ext-getD 0 (sets rep end (zeros (reportSize - end))) (take reportSize (W ++ replicate reportSize 0)) (a ∙ len ∙ sym m)
+      let l = length-append W (replicate size 0) in
+      let r = length-replicate {A = ℕ} size 0 in
+      let m = length-take-le size (W ++ replicate size 0) (omega arith) in
+      let a = length-sets rep end (zeros (size - end)) in
+      ext-getD 0 (sets rep end (zeros (size - end))) (take size (W ++ replicate size 0)) (a ∙ len ∙ sym m)
       (λ i q.
-      let h : i < reportSize = omega arith in
-      word-is i h (ltb n reportNodes) refl ∙ sym (getD-take reportSize (W ++ replicate reportSize 0) i 0 h))
+      let h : i < size = omega arith in
+      word-is i h (ltb (2 * n) size) refl ∙ sym (getD-take size (W ++ replicate size 0) i 0 h))
+
+-- no types
+front-0 : (size : ℕ) (b : Bool) → ltb 0 size ≡ b → cond b 0 size ≡ 0
+front-0 size true e = refl
+front-0 size false e = let x = ltb-false 0 size e in omega arith
 
 -- at any end
-pub ended-report : (rep : List ℕ) → length rep ≡ reportSize → (h : Halt) (i : ℕ) → sets rep (reportEnd h) (zeros (reportSize - reportEnd h)) ≡ reportWords (endReport (endBy h i rep))
-unfolding nodesAt
-ended-report rep len h i = go (going h) refl i
+pub ended-report : (limit : ℕ) (rep : List ℕ) → length rep ≡ reportStride * limit → (h : Halt) (i : ℕ)
+    → (let e = reportEnd (reportStride * limit) h in sets rep e (zeros (reportStride * limit - e)) ≡ reportWords limit (endReport (endBy h i rep)))
+unfolding nodesAt reportEnd
+ended-report limit rep len h i = go (going h) refl i
   where
-    go : (g : Bool) → going h ≡ g → (i : ℕ) → sets rep (reportEnd h) (zeros (reportSize - reportEnd h)) ≡ reportWords (endReport (endBy h i rep))
-    go true g zero = rw g (report-is rep len 0)
-    go true g (suc i) = rw g (report-is rep len 0)
-    go false g i = rw g (report-is rep len (reported (errorOf h)))
+    none : sets rep 0 (zeros (reportStride * limit - 0)) ≡ reportWords limit []
+    none = let s = reportStride * limit in subst (λ (e : ℕ). sets rep e (zeros (s - e)) ≡ reportWords limit []) (front-0 s (ltb 0 s) refl) (report-is limit rep len 0)
 
-pub end-small : (h : Halt) → reportEnd h ≤ reportSize
-end-small h = cond-ind (λ (n : ℕ). n ≤ reportSize) (going h) (λ _. omega arith)
-    (λ _. cond-ind (λ (n : ℕ). n ≤ reportSize) (ltb (reported (errorOf h)) reportNodes) (λ q. let x = ltb-true (reported (errorOf h)) reportNodes q in omega arith) (λ _. omega arith))
+    go : (g : Bool) → going h ≡ g → (i : ℕ) → (let e = reportEnd (reportStride * limit) h in sets rep e (zeros (reportStride * limit - e)) ≡ reportWords limit (endReport (endBy h i rep)))
+    go true g zero = rw g none
+    go true g (suc i) = rw g none
+    go false g i = rw g (report-is limit rep len (reported (errorOf h)))
+
+pub end-within : {n size : ℕ} (h : Halt) → n ≡ reportEnd size h → n ≤ size
+unfolding reportEnd
+end-within {n} {size} h e =
+    let x : reportEnd size h ≤ size = cond-ind (λ (n : ℕ). n ≤ size) (going h) (λ _. omega arith)
+    (λ _. cond-ind (λ (n : ℕ). n ≤ size) (ltb (2 * reported (errorOf h)) size) (λ q. let x = ltb-true (2 * reported (errorOf h)) size q in omega arith) (λ _. omega arith)) in
+    rw e x
+
+pub end-clears : {n size l : ℕ} (h : Halt) → n ≡ reportEnd size h → size ≡ l → n + (size - n) ≤ l
+end-clears h e q = let x = end-within h e in omega arith
 
 -- ---- all of it
-pub ran : (s : List ℕ) (C : ℕ) {b k : List ℕ} (rep : List ℕ) (c : Run) {b' rep' : List ℕ} {a : Answer} {plain : Bool} {n : ℕ}
-    → WellFormed b k c × (told 0 (runFrom limits (envOn s) C (startOf (rows s))) ≡ record { end = endOf rep c; taken = c .taken; last = stateOf (rows s) b k c })
-    → length k ≡ bookSize → length rep ≡ reportSize → b' ≡ boardWords → n ≡ reportEnd (c .halt) → rep' ≡ sets rep n (zeros (reportSize - n))
-    → plain ≡ isPlain (rows s) → ((rep : List ℕ) → a ≡ answerBy plain (endOf rep c) (c .taken) (c .fresh)) → Ran (judge limits C (rows s)) b' k rep' a
+pub ran : (s : List ℕ) (C limit : ℕ) {b k : List ℕ} (rep : List ℕ) (c : Run) {b' rep' : List ℕ} {a : Answer} {plain : Bool} {size n : ℕ}
+    → WellFormed b k c × (told 0 (runFrom (limitsWith limit) (envOn s) C (startOf (rows s))) ≡ record { end = endOf rep c; taken = c .taken; last = stateOf (rows s) b k c })
+    → length k ≡ bookSize → length rep ≡ reportStride * limit → b' ≡ boardWords → size ≡ length rep → n ≡ reportEnd size (c .halt) → rep' ≡ sets rep n (zeros (size - n))
+    → plain ≡ isPlain (rows s) → ((rep : List ℕ) → a ≡ answerBy plain (endOf rep c) (c .taken) (c .fresh)) → Ran limit (judge (limitsWith limit) C (rows s)) b' k rep' a
 unfolding planOf
-ran s C {b} {k} rep c h lk lr eb en er ep ea =
-    let j = judged s C b k rep c (h .1) in
+ran s C limit {b} {k} rep c {size} {n} h lk lr eb es en er ep ea =
+    let j = judged s C limit b k rep c (h .1) in
+    let z : size ≡ reportStride * limit = es ∙ lr in
     record {
       answer = ea rep ∙ ap (λ (p : Bool). answerBy p (endOf rep c) (c .taken) (c .fresh)) ep ∙ sym (ap (λ (r : Result). r .answer) j);
       board = eb;
       book = whole-book (h .0 .book) lk ∙ sym (ap (λ (r : Result). bookWords (r .solutions)) j);
-      report = er ∙ ap (λ (m : ℕ). sets rep m (zeros (reportSize - m))) en ∙ ended-report rep lr (c .halt) (c .board .entries) ∙ sym (ap (λ (r : Result). reportWords (r .report)) j);
+      report = er ∙ ap (λ (m : ℕ). sets rep m (zeros (size - m))) en ∙ ap (λ (m : ℕ). sets rep (reportEnd m (c .halt)) (zeros (m - reportEnd m (c .halt)))) z
+          ∙ ended-report limit rep lr (c .halt) (c .board .entries) ∙ sym (ap (λ (r : Result). reportWords limit (r .report)) j);
     }

@@ -13,7 +13,7 @@ use Rattle.sheet.specs.Plan.{triples}
 use Rattle.sheet.specs.Rows.{rows, Ended}
 use Rattle.sheet.proofs.Lines.{length-triples}
 use Rattle.judgment.specs.declared.Answer.{Answer}
-use Rattle.judgment.specs.Result.{limits, judge}
+use Rattle.judgment.specs.Result.{limitsWith, judge}
 use Rattle.inferring.specs.Inferring.{CaseRoom}
 use Rattle.stepping.specs.Stepping.{Read}
 use Rattle.checker.specs.Calling.{RunAsk, RowsAsk, Ran}
@@ -29,9 +29,9 @@ case-room s e x y z =
     record { right = omega arith; frames = omega arith; bound = omega arith }
 
 -- rows and room that are long enough
-pub rows-asks : (d : List ℕ) {s b k rep r w v : List ℕ} → RunAsk s b k rep → 4 * (length s / lineLength) ≤ length d → 2 * (length s / lineLength) + 2 ≤ length r → 6 * (length s / lineLength) + 12 ≤ length w → 6 * (length s / lineLength) + 6 ≤ length v
-    → RowsAsk s b k rep (take (4 * (length s / lineLength)) d) r w v
-rows-asks d {s} p h x y z = record { run = p; rows = length-take-le (4 * (length s / lineLength)) d h; right = x; frames = y; bound = z }
+pub rows-asks : (d : List ℕ) {limit : ℕ} {s b k rep r w v : List ℕ} → RunAsk limit s b k rep → 4 * (length s / lineLength) ≤ length d → 2 * (length s / lineLength) + 2 ≤ length r → 6 * (length s / lineLength) + 12 ≤ length w → 6 * (length s / lineLength) + 6 ≤ length v
+    → RowsAsk limit s b k rep (take (4 * (length s / lineLength)) d) r w v
+rows-asks d {limit} {s} p h x y z = record { run = p; rows = length-take-le (4 * (length s / lineLength)) d h; right = x; frames = y; bound = z }
 
-pub ran-as : {ls ms : List Triple} (c : ℕ) {b k rep : List ℕ} {a : Answer} → ls ≡ ms → Ran (judge limits c ls) b k rep a → Ran (judge limits c ms) b k rep a
-ran-as c {b} {k} {rep} {a} e r = subst (λ (ls : List Triple). Ran (judge limits c ls) b k rep a) e r
+pub ran-as : {ls ms : List Triple} (c limit : ℕ) {b k rep : List ℕ} {a : Answer} → ls ≡ ms → Ran limit (judge (limitsWith limit) c ls) b k rep a → Ran limit (judge (limitsWith limit) c ms) b k rep a
+ran-as c limit {b} {k} {rep} {a} e r = subst (λ (ls : List Triple). Ran limit (judge (limitsWith limit) c ls) b k rep a) e r

@@ -22,10 +22,10 @@ use Rattle.sheet.specs.Form.{Forms, IsPart}
 use Rattle.sheet.proofs.Forming.{split}
 use Rattle.sheet.proofs.TypeLines.{type-narrow}
 use mathlib.Core.Bool.{Bool, true, false, cond, true≢false}
-use Rattle.judgment.specs.Board.{State, Outcome, finished, refused}
+use Rattle.judgment.specs.Board.{Limits, State, Outcome, finished, refused}
 use Rattle.judgment.specs.Run.{runFrom}
 use Rattle.judgment.proofs.Promised.{plan-inv}
-use Rattle.judgment.specs.Result.{startOf, bookWords, limits}
+use Rattle.judgment.specs.Result.{startOf, bookWords}
 use Rattle.applying.specs.Applying.{envOn}
 use Rattle.board.specs.declared.Board.{Board}
 use Rattle.board.specs.Board.{termAt, entryOf, entriesOf, Stacked, laid, grown, PushAsk}
@@ -205,9 +205,9 @@ start-stands s b k c h q =
     (record { plan = h; formed = q .0; good = o }, e .0)
 
 -- its run is the sheet's
-pub start-told : (s b k : List ℕ) (c : Run) (C : ℕ) → WellFormed b k c × (c .taken ≡ 0) × ((rep : List ℕ) → outcomeOf (rows s) b k rep c ≡ finished (startOf (rows s)))
-    → told 0 (runFrom limits (envOn s) C (startOf (rows s))) ≡ told (c .taken) (runFrom limits (envOn s) (C - c .taken) (stateOf (rows s) b k c))
-start-told s b k c C q =
+pub start-told : (L : Limits) (s b k : List ℕ) (c : Run) (C : ℕ) → WellFormed b k c × (c .taken ≡ 0) × ((rep : List ℕ) → outcomeOf (rows s) b k rep c ≡ finished (startOf (rows s)))
+    → told 0 (runFrom L (envOn s) C (startOf (rows s))) ≡ told (c .taken) (runFrom L (envOn s) (C - c .taken) (stateOf (rows s) b k c))
+start-told L s b k c C q =
     let e = start-is s b k c q in
     let z : C ≡ C - 0 = omega arith in
-    sym (ap₂ (λ (m : ℕ) (x : State). told m (runFrom limits (envOn s) (C - m) x)) (q .1) (e .1) ∙ ap (λ (m : ℕ). told 0 (runFrom limits (envOn s) m (startOf (rows s)))) (sym z))
+    sym (ap₂ (λ (m : ℕ) (x : State). told m (runFrom L (envOn s) (C - m) x)) (q .1) (e .1) ∙ ap (λ (m : ℕ). told 0 (runFrom L (envOn s) m (startOf (rows s)))) (sym z))

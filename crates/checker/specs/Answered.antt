@@ -6,11 +6,12 @@ use Rattle.grammar.specs.declared.Check.the-variants.{Plan}
 use Rattle.grammar.specs.Check.{check}
 use Rattle.sheet.specs.Plan.{triples, planOf}
 use Rattle.judgment.specs.declared.Answer.{Answer}
-use Rattle.judgment.specs.Result.{Buffers, limits, startOf, runOf, call}
+use Rattle.judgment.specs.Result.{Buffers, limitsWith, startOf, runOf, call}
 use Rattle.judgment.specs.Promise.{Promise}
 
 -- Answer and buffers are the definition's, refusals too; and the promise holds of the run that they are read off.
-pub record Answered (s : List ℕ) (c : ℕ) (before : Buffers) (a : Answer) (after : Buffers) : Type 0 where
-  pub answer : a ≡ call s c before .answer
-  pub buffers : after ≡ call s c before .after
-  pub promise : check s ≡ Plan → Promise (startOf (triples s)) (planOf (triples s) .plain) (runOf limits c (planOf (triples s)))
+-- s is the sheet, c the ceiling and w the limit of a written-out type.
+pub record Answered (s : List ℕ) (c w : ℕ) (before : Buffers) (a : Answer) (after : Buffers) : Type 0 where
+  pub answer : a ≡ call s c w before .answer
+  pub buffers : after ≡ call s c w before .after
+  pub promise : check s ≡ Plan → Promise (startOf (triples s)) (planOf (triples s) .plain) (runOf (limitsWith w) c (planOf (triples s)))

@@ -4,7 +4,7 @@ use mathlib.Core.List.{List}
 use Prim.Native.Nat.{ℕ, _+_, _*_, _/_, _≤_}
 use lib.ListN.{length}
 use lib.Seq.{sets}
-use Rattle.sizes.specs.Sizes.{lineLength, typeWords, boardUsed, boardSize, bookSize, reportSize}
+use Rattle.sizes.specs.Sizes.{lineLength, typeWords, boardUsed, highestLimit, boardSize, bookSize, reportStride}
 use Rattle.grammar.specs.declared.Check.the-variants.{Plan}
 use Rattle.grammar.specs.Check.{check}
 use Rattle.judgment.specs.declared.Answer.{Answer}
@@ -25,45 +25,48 @@ pub record StartAsk (s b k t : List ℕ) : Type 0 where
   pub book : bookSize ≤ length k
   pub type : typeWords ≤ length t
 
--- what the run of a plan that was read asks: the buffers at their own lengths
-pub record PlanAsk (d b k rep t l r w v : List ℕ) : Type 0 where
+-- what the run of a plan that was read asks, with a limit of written-out types: the buffers at their own lengths
+pub record PlanAsk (limit : ℕ) (d b k rep t l r w v : List ℕ) : Type 0 where
   pub plan : Read d
+  pub limited : limit ≤ highestLimit
   pub board : length b ≡ boardSize
   pub book : length k ≡ bookSize
-  pub report : length rep ≡ reportSize
+  pub report : length rep ≡ reportStride * limit
   pub lent : Lent d t l r w v
 
 -- the same of a sheet that is still to be read
-pub record RunAsk (s b k rep : List ℕ) : Type 0 where
+pub record RunAsk (limit : ℕ) (s b k rep : List ℕ) : Type 0 where
   pub plan : check s ≡ Plan
+  pub limited : limit ≤ highestLimit
   pub board : length b ≡ boardSize
   pub book : length k ≡ bookSize
-  pub report : length rep ≡ reportSize
+  pub report : length rep ≡ reportStride * limit
 
 -- rows for its lines, and the room of a Case
-pub record RowsAsk (s b k rep d r w v : List ℕ) : Type 0 where
-  pub run : RunAsk s b k rep
+pub record RowsAsk (limit : ℕ) (s b k rep d r w v : List ℕ) : Type 0 where
+  pub run : RunAsk limit s b k rep
   pub rows : length d ≡ 4 * (length s / lineLength)
   pub right : 2 * (length s / lineLength) + 2 ≤ length r
   pub frames : 6 * (length s / lineLength) + 12 ≤ length w
   pub bound : 6 * (length s / lineLength) + 6 ≤ length v
 
 -- the answer and every word of the buffers
-pub record Ran (o : Result) (b k rep : List ℕ) (a : Answer) : Type 0 where
+pub record Ran (limit : ℕ) (o : Result) (b k rep : List ℕ) (a : Answer) : Type 0 where
   pub answer : a ≡ o .answer
   pub board : b ≡ boardWords
   pub book : k ≡ bookWords (o .solutions)
-  pub report : rep ≡ reportWords (o .report)
+  pub report : rep ≡ reportWords limit (o .report)
 
 -- the same of buffers that may be longer
-pub record FrontAsk (s b k rep : List ℕ) : Type 0 where
+pub record FrontAsk (limit : ℕ) (s b k rep : List ℕ) : Type 0 where
   pub plan : check s ≡ Plan
+  pub limited : limit ≤ highestLimit
   pub board : boardSize ≤ length b
   pub book : bookSize ≤ length k
-  pub report : reportSize ≤ length rep
+  pub report : reportStride * limit ≤ length rep
 
-pub record Fronted (o : Result) (b k rep b' k' rep' : List ℕ) (a : Answer) : Type 0 where
+pub record Fronted (limit : ℕ) (o : Result) (b k rep b' k' rep' : List ℕ) (a : Answer) : Type 0 where
   pub answer : a ≡ o .answer
   pub board : b' ≡ sets b 0 boardWords
   pub book : k' ≡ sets k 0 (bookWords (o .solutions))
-  pub report : rep' ≡ sets rep 0 (reportWords (o .report))
+  pub report : rep' ≡ sets rep 0 (reportWords limit (o .report))

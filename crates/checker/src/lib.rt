@@ -4,12 +4,12 @@ ghost use mathlib.Core.Bool.{true};
 ghost use mathlib.Core.List.{List};
 ghost use Prim.Native.Nat.{ℕ, _+_, _-_, _*_, _/_, _<_, _≤_};
 ghost use lib.ListN.{length};
-ghost use Rattle.sizes.specs.Sizes.{lineLength, mostNodes};
+ghost use Rattle.sizes.specs.Sizes.{lineLength, mostNodes, highestLimit};
 ghost use Rattle.sheet.specs.Plan.{triples};
 ghost use Rattle.sheet.specs.Rows.{rows};
 ghost use Rattle.judgment.specs.Run.{runFrom};
 ghost use Rattle.judgment.specs.Chain.{told};
-ghost use Rattle.judgment.specs.Result.{limits, limitsWith, startOf, judge, refusedAt, tooShort};
+ghost use Rattle.judgment.specs.Result.{limitsWith, startOf, judge, refusedAt, limitBad, tooShort};
 ghost use Rattle.operations.specs.State.{outcomeOf, stateOf, WellFormed, going};
 ghost use Rattle.applying.specs.Applying.{envOn};
 ghost use Rattle.judgment.specs.Board.{finished};
@@ -30,7 +30,6 @@ use judgment::Answer;
 use nodes::clear_words;
 use operations::Halt;
 use operations::Run;
-use operations::Zonked;
 use sheet::copy_type;
 use sheet::find_places;
 use sheet::is_plain;
@@ -39,9 +38,10 @@ use sheet::read_rows;
 use sizes::BOARD_SIZE;
 use sizes::BOOK_SIZE;
 use sizes::HIGHEST_CEILING;
+use sizes::HIGHEST_LIMIT;
 use sizes::LINE_LENGTH;
 use sizes::MOST_LINES;
-use sizes::REPORT_SIZE;
+use sizes::REPORT_STRIDE;
 use sizes::TYPE_WORDS;
 use stepping::solve_step;
 
@@ -102,6 +102,7 @@ fn start(board: &mut [u32], book: &mut [u32], s: &[u64], t: &mut [u32]) -> Run
 fn check_plan(
     s: &[u64],
     ceiling: u32,
+    limit: usize,
     board: &mut [u32],
     book: &mut [u32],
     report: &mut [u32],
@@ -111,28 +112,16 @@ fn check_plan(
     w: &mut [usize],
     v: &mut [usize],
 ) -> Answer
-    requires { ⌜ PlanAsk (now s) (now board) (now book) (now report) (now t) (now l) (now r) (now w) (now v) ⌝ }
-    ensures { λ o. ⌜ Ran (judge limits ceiling (rows (now (s .entry)))) (now (board .exit)) (now (book .exit)) (now (report .exit)) o ⌝ }
+    requires { ⌜ PlanAsk limit (now s) (now board) (now book) (now report) (now t) (now l) (now r) (now w) (now v) ⌝ }
+    ensures { λ o. ⌜ Ran limit (judge (limitsWith limit) ceiling (rows (now (s .entry)))) (now (board .exit)) (now (book .exit)) (now (report .exit)) o ⌝ }
 {
     let c = start(board, book, s, t);
-    let o = solve(
-        board,
-        book,
-        report,
-        c,
-        s,
-        ceiling,
-        Zonked::NODES,
-        t,
-        l,
-        r,
-        w,
-        v,
-    );
+    let o = solve(board, book, report, c, s, ceiling, limit, t, l, r, w, v);
     clear_board(board);
     let halt = o.halt;
-    let end = report_end(halt);
-    clear_words(report, end, REPORT_SIZE - end);
+    let size = report.len();
+    let end = report_end(halt, size);
+    clear_words(report, end, size - end);
     answer(o, is_plain(s))
 }
 
@@ -140,6 +129,7 @@ fn check_plan(
 fn run_rows(
     s: &[u8],
     ceiling: u32,
+    limit: usize,
     board: &mut [u32],
     book: &mut [u32],
     report: &mut [u32],
@@ -148,25 +138,38 @@ fn run_rows(
     w: &mut [usize],
     v: &mut [usize],
 ) -> Answer
-    requires { ⌜ RowsAsk (now s) (now board) (now book) (now report) (now d) (now r) (now w) (now v) ⌝ }
-    ensures { λ o. ⌜ Ran (judge limits ceiling (triples (now (s .entry)))) (now (board .exit)) (now (book .exit)) (now (report .exit)) o ⌝ }
+    requires { ⌜ RowsAsk limit (now s) (now board) (now book) (now report) (now d) (now r) (now w) (now v) ⌝ }
+    ensures { λ o. ⌜ Ran limit (judge (limitsWith limit) ceiling (triples (now (s .entry)))) (now (board .exit)) (now (book .exit)) (now (report .exit)) o ⌝ }
 {
     read_rows(d, s);
     let mut t = [0u32; TYPE_WORDS];
     let mut l = [0u32; TYPE_WORDS];
-    check_plan(d, ceiling, board, book, report, &mut t, &mut l, r, w, v)
+    check_plan(
+        d,
+        ceiling,
+        limit,
+        board,
+        book,
+        report,
+        &mut t,
+        &mut l,
+        r,
+        w,
+        v,
+    )
 }
 
 // A sheet of at most SHORT_LINES lines. A room is cleared before it is lent, so it is no larger than the sheet asks.
 fn run_short(
     s: &[u8],
     ceiling: u32,
+    limit: usize,
     board: &mut [u32],
     book: &mut [u32],
     report: &mut [u32],
 ) -> Answer
-    requires { ⌜ RunAsk (now s) (now board) (now book) (now report) × (length (now s) / lineLength ≤ shortLines) ⌝ }
-    ensures { λ o. ⌜ Ran (judge limits ceiling (triples (now (s .entry)))) (now (board .exit)) (now (book .exit)) (now (report .exit)) o ⌝ }
+    requires { ⌜ RunAsk limit (now s) (now board) (now book) (now report) × (length (now s) / lineLength ≤ shortLines) ⌝ }
+    ensures { λ o. ⌜ Ran limit (judge (limitsWith limit) ceiling (triples (now (s .entry)))) (now (board .exit)) (now (book .exit)) (now (report .exit)) o ⌝ }
 {
     let mut d = [0u64; 4 * SHORT_LINES];
     let mut r = [0u32; 2 * SHORT_LINES + 2];
@@ -175,6 +178,7 @@ fn run_short(
     run_rows(
         s,
         ceiling,
+        limit,
         board,
         book,
         report,
@@ -189,12 +193,13 @@ fn run_short(
 fn run_middle(
     s: &[u8],
     ceiling: u32,
+    limit: usize,
     board: &mut [u32],
     book: &mut [u32],
     report: &mut [u32],
 ) -> Answer
-    requires { ⌜ RunAsk (now s) (now board) (now book) (now report) × (length (now s) / lineLength ≤ middleLines) ⌝ }
-    ensures { λ o. ⌜ Ran (judge limits ceiling (triples (now (s .entry)))) (now (board .exit)) (now (book .exit)) (now (report .exit)) o ⌝ }
+    requires { ⌜ RunAsk limit (now s) (now board) (now book) (now report) × (length (now s) / lineLength ≤ middleLines) ⌝ }
+    ensures { λ o. ⌜ Ran limit (judge (limitsWith limit) ceiling (triples (now (s .entry)))) (now (board .exit)) (now (book .exit)) (now (report .exit)) o ⌝ }
 {
     let mut d = [0u64; 4 * MIDDLE_LINES];
     let mut r = [0u32; 2 * MIDDLE_LINES + 2];
@@ -203,6 +208,7 @@ fn run_middle(
     run_rows(
         s,
         ceiling,
+        limit,
         board,
         book,
         report,
@@ -217,12 +223,13 @@ fn run_middle(
 fn run_long(
     s: &[u8],
     ceiling: u32,
+    limit: usize,
     board: &mut [u32],
     book: &mut [u32],
     report: &mut [u32],
 ) -> Answer
-    requires { ⌜ RunAsk (now s) (now board) (now book) (now report) ⌝ }
-    ensures { λ o. ⌜ Ran (judge limits ceiling (triples (now (s .entry)))) (now (board .exit)) (now (book .exit)) (now (report .exit)) o ⌝ }
+    requires { ⌜ RunAsk limit (now s) (now board) (now book) (now report) ⌝ }
+    ensures { λ o. ⌜ Ran limit (judge (limitsWith limit) ceiling (triples (now (s .entry)))) (now (board .exit)) (now (book .exit)) (now (report .exit)) o ⌝ }
 {
     let mut d = [0u64; 4 * MOST_LINES];
     let mut r = [0u32; 2 * MOST_LINES + 2];
@@ -231,6 +238,7 @@ fn run_long(
     run_rows(
         s,
         ceiling,
+        limit,
         board,
         book,
         report,
@@ -244,39 +252,42 @@ fn run_long(
 fn run_plan(
     s: &[u8],
     ceiling: u32,
+    limit: usize,
     board: &mut [u32],
     book: &mut [u32],
     report: &mut [u32],
 ) -> Answer
-    requires { ⌜ RunAsk (now s) (now board) (now book) (now report) ⌝ }
-    ensures { λ o. ⌜ Ran (judge limits ceiling (triples (now (s .entry)))) (now (board .exit)) (now (book .exit)) (now (report .exit)) o ⌝ }
+    requires { ⌜ RunAsk limit (now s) (now board) (now book) (now report) ⌝ }
+    ensures { λ o. ⌜ Ran limit (judge (limitsWith limit) ceiling (triples (now (s .entry)))) (now (board .exit)) (now (book .exit)) (now (report .exit)) o ⌝ }
 {
     if s.len() / LINE_LENGTH <= SHORT_LINES {
-        return run_short(s, ceiling, board, book, report);
+        return run_short(s, ceiling, limit, board, book, report);
     }
     if s.len() / LINE_LENGTH <= MIDDLE_LINES {
-        return run_middle(s, ceiling, board, book, report);
+        return run_middle(s, ceiling, limit, board, book, report);
     }
-    run_long(s, ceiling, board, book, report)
+    run_long(s, ceiling, limit, board, book, report)
 }
 
 // Lends the words that a buffer must have: a longer one keeps its tail.
 fn run_front(
     s: &[u8],
     ceiling: u32,
+    limit: usize,
     board: &mut [u32],
     book: &mut [u32],
     report: &mut [u32],
 ) -> Answer
-    requires { ⌜ FrontAsk (now s) (now board) (now book) (now report) ⌝ }
-    ensures { λ o. ⌜ Fronted (judge limits ceiling (triples (now (s .entry)))) (now (board .entry)) (now (book .entry)) (now (report .entry)) (now (board .exit)) (now (book .exit)) (now (report .exit)) o ⌝ }
+    requires { ⌜ FrontAsk limit (now s) (now board) (now book) (now report) ⌝ }
+    ensures { λ o. ⌜ Fronted limit (judge (limitsWith limit) ceiling (triples (now (s .entry)))) (now (board .entry)) (now (book .entry)) (now (report .entry)) (now (board .exit)) (now (book .exit)) (now (report .exit)) o ⌝ }
 {
     run_plan(
         s,
         ceiling,
+        limit,
         &mut board[..BOARD_SIZE],
         &mut book[..BOOK_SIZE],
-        &mut report[..REPORT_SIZE],
+        &mut report[..REPORT_STRIDE * limit],
     )
 }
 
@@ -295,9 +306,20 @@ fn refused(number: u32, line: u32) -> Answer
     }
 }
 
-// A buffer is shorter than document 01 has it.
-fn too_short(board: &[u32], book: &[u32], report: &[u32]) -> bool
-    ensures { λ r. ⌜ r ≡ tooShort (record { board = now (board .entry); book = now (book .entry); report = now (report .entry) }) ⌝ }
+// No limit that a caller may pick.
+fn limit_bad(limit: usize) -> bool
+    ensures { λ r. ⌜ r ≡ limitBad limit ⌝ }
+{
+    if limit == 0 {
+        return true;
+    }
+    HIGHEST_LIMIT < limit
+}
+
+// A buffer has fewer words than a run with this limit writes.
+fn too_short(limit: usize, board: &[u32], book: &[u32], report: &[u32]) -> bool
+    requires { ⌜ limit ≤ highestLimit ⌝ }
+    ensures { λ r. ⌜ r ≡ tooShort limit (record { board = now (board .entry); book = now (book .entry); report = now (report .entry) }) ⌝ }
 {
     if board.len() < BOARD_SIZE {
         return true;
@@ -305,27 +327,33 @@ fn too_short(board: &[u32], book: &[u32], report: &[u32]) -> bool
     if book.len() < BOOK_SIZE {
         return true;
     }
-    report.len() < REPORT_SIZE
+    report.len() < REPORT_STRIDE * limit
 }
 
-// Checks a plan: refusals 1 to 5 in that order, which write nothing, and then the run. Longer buffers keep their tails.
+// Checks a plan, with at most `ceiling` entries taken and `limit` nodes in a type written out: refusals 1, 32 and 2 to 5 in that
+// order, which write nothing, and then the run. Longer buffers keep their tails.
 pub fn check_type(
     sheet: &[u8],
     ceiling: u32,
+    limit: u32,
     board: &mut [u32],
     book: &mut [u32],
     report: &mut [u32],
 ) -> Answer
-    ensures { λ r. ⌜ Answered (now (sheet .entry)) ceiling (record { board = now (board .entry); book = now (book .entry); report = now (report .entry) }) r (record { board = now (board .exit); book = now (book .exit); report = now (report .exit) }) ⌝ }
+    ensures { λ r. ⌜ Answered (now (sheet .entry)) ceiling limit (record { board = now (board .entry); book = now (book .entry); report = now (report .entry) }) r (record { board = now (board .exit); book = now (book .exit); report = now (report .exit) }) ⌝ }
 {
     if HIGHEST_CEILING < ceiling {
         return refused(1, 0);
     }
-    if too_short(board, book, report) {
+    let nodes = limit as usize;
+    if limit_bad(nodes) {
+        return refused(32, 0);
+    }
+    if too_short(nodes, board, book, report) {
         return refused(2, 0);
     }
     match check_sheet(sheet) {
-        Check::Plan => run_front(sheet, ceiling, board, book, report),
+        Check::Plan => run_front(sheet, ceiling, nodes, board, book, report),
         Check::Length => refused(3, 0),
         Check::Misspelt(line) => refused(4, line as u32),
         Check::Unfit(line) => refused(5, line as u32),

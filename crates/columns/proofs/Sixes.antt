@@ -69,5 +69,5 @@ narrow-six a h =
     }
 
 -- SIX COLUMNS: the text of the answer of every call
-pub in-sixes : (s : List ℕ) (c : ℕ) (b : Buffers) → InSixes (call s c b .answer)
-in-sixes s c b = narrow-six (call s c b .answer) (narrow s c b)
+pub in-sixes : (s : List ℕ) (c w : ℕ) (b : Buffers) → InSixes (call s c w b .answer)
+in-sixes s c w b = narrow-six (call s c w b .answer) (narrow s c w b)

@@ -1,11 +1,11 @@
 -- The numbers of an end, and where the report's types end. Assumes nothing.
 use mathlib.Core.Path.{_≡_, refl, sym, ap, _∙_}
 use mathlib.Core.Bool.{Bool, false, cond}
-use Prim.Native.Nat.{ℕ, zero, suc, _*_, _≤_, _<_}
+use Prim.Native.Nat.{ℕ, zero, suc, _+_, _*_, _≤_, _<_}
 use native.Mathlib.Omega.{arith}
 use lib.Dec.{eqb}
 use borrow.Author.Tests.{lt-ltb, le-ltb, ne-eqb}
-use Rattle.sizes.specs.Sizes.{reportNodes, reportSize}
+use Rattle.nodes.proofs.ListLaws.{cond-ind}
 use Rattle.judgment.specs.declared.Details.{Details}
 use Rattle.judgment.specs.declared.TypeError.{TypeError}
 use Rattle.judgment.specs.Run.{End}
@@ -26,12 +26,32 @@ pub answer-is : (plain : Bool) (e : End) (taken fresh : ℕ) {n m : ℕ} {d : De
     → record { number = n; line = 0; taken = taken; fresh = fresh; detail1 = d .0; detail2 = d .1; plain = m } ≡ answerBy plain e taken fresh
 answer-is plain e taken fresh p q r = rw (p, q, r) refl
 
-module _ (h : Halt) {e : TypeError} {n : ℕ} (g : going h ≡ false) (p : e ≡ errorOf h) (q : n ≡ reported e) where
+-- the nodes are counted by the two details
+pub reported-few : (h : Halt) → reported (errorOf h) ≤ h .first + h .second
+unfolding errorOf
+reported-few h =
+    let P : TypeError → Type 0 = λ e. reported e ≤ h .first + h .second in
+    cond-ind P (eqb (h .number) 11) (λ _. omega arith)
+    (λ _. cond-ind P (eqb (h .number) 12) (λ _. omega arith)
+    (λ _. cond-ind P (eqb (h .number) 13) (λ _. omega arith)
+    (λ _. cond-ind P (eqb (h .number) 14) (λ _. omega arith)
+    (λ _. cond-ind P (eqb (h .number) 15) (λ _. omega arith)
+    (λ _. cond-ind P (eqb (h .number) 16) (λ _. omega arith)
+    (λ _. cond-ind P (eqb (h .number) 17) (λ _. omega arith)
+    (λ _. cond-ind P (eqb (h .number) 18) (λ _. omega arith)
+    (λ _. cond-ind P (eqb (h .number) 19) (λ _. omega arith)
+    (λ _. cond-ind P (eqb (h .number) 22) (λ _. omega arith)
+    (λ _. cond-ind P (eqb (h .number) 23) (λ _. omega arith)
+    (λ _. cond-ind P (eqb (h .number) 24) (λ _. omega arith) (λ _. omega arith))))))))))))
+
+module _ (size : ℕ) (h : Halt) {e : TypeError} {n : ℕ} (g : going h ≡ false) (p : e ≡ errorOf h) (q : n ≡ reported e) where
   counted : n ≡ reported (errorOf h)
   counted = q ∙ ap reported p
 
-  pub refused-fits : n < reportNodes → 2 * n ≡ reportEnd h
-  refused-fits l = rw (g, sym counted, lt-ltb n reportNodes l) refl
+  pub refused-fits : 2 * n < size → 2 * n ≡ reportEnd size h
+  unfolding reportEnd
+  refused-fits l = rw (g, sym counted, lt-ltb (2 * n) size l) refl
 
-  pub refused-over : reportNodes ≤ n → reportSize ≡ reportEnd h
-  refused-over l = rw (g, sym counted, le-ltb n reportNodes l) refl
+  pub refused-over : size ≤ 2 * n → size ≡ reportEnd size h
+  unfolding reportEnd
+  refused-over l = rw (g, sym counted, le-ltb (2 * n) size l) refl

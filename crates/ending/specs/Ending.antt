@@ -3,7 +3,6 @@ use mathlib.Core.Bool.{Bool, cond, _&&_}
 use mathlib.Core.List.{List}
 use Prim.Native.Nat.{ℕ, zero, suc, _*_}
 use lib.Dec.{ltb}
-use Rattle.sizes.specs.Sizes.{reportNodes, reportSize}
 use Rattle.nodes.specs.Nodes.{nodesAt}
 use Rattle.judgment.specs.declared.Answer.{Answer}
 use Rattle.judgment.specs.Run.{End, accepted, ceiling, refusedBy}
@@ -27,9 +26,9 @@ endBy h n rep = cond (going h) (endAt n) (refusedBy (errorOf h) (nodesAt rep 0 (
 abbrev pub endOf : List ℕ → Run → End
 endOf rep c = endBy (c .halt) (c .board .entries) rep
 
--- the word of the report after an end's types; a type that does not fit is cut off
-abbrev pub reportEnd : Halt → ℕ
-reportEnd h = cond (going h) 0 (cond (ltb (reported (errorOf h)) reportNodes) (2 * reported (errorOf h)) reportSize)
+-- the word after an end's types in a report of so many words; a type that does not fit is cut off
+unfoldable pub reportEnd : ℕ → Halt → ℕ
+reportEnd size h = cond (going h) 0 (cond (ltb (2 * reported (errorOf h)) size) (2 * reported (errorOf h)) size)
 
 -- the seven numbers of an end
 abbrev pub answerBy : Bool → End → ℕ → ℕ → Answer

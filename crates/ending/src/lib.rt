@@ -16,8 +16,6 @@ use operations::Halt;
 use operations::Run;
 use operations::error_of;
 use operations::is_going;
-use sizes::REPORT_NODES;
-use sizes::REPORT_SIZE;
 
 // An entry is to be taken: the run was not refused, one remains, and the ceiling is not reached.
 pub fn takes_more(c: Run, ceiling: u32) -> bool
@@ -54,15 +52,15 @@ fn reported_nodes(e: TypeError) -> usize
     }
 }
 
-// The word of the report after its types.
-pub fn report_end(h: Halt) -> usize
-    ensures { λ r. ⌜ r ≡ reportEnd h ⌝ }
+// The word after its types in a report of so many words.
+pub fn report_end(h: Halt, size: usize) -> usize
+    ensures { λ r. ⌜ r ≡ reportEnd size h ⌝ }
 {
     if is_going(h) {
         return 0;
     }
-    let n = reported_nodes(error_of(h));
-    if n < REPORT_NODES { 2 * n } else { REPORT_SIZE }
+    let n = 2 * reported_nodes(error_of(h));
+    if n < size { n } else { size }
 }
 
 // Document 01's number of a run where no more is taken.

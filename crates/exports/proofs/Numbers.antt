@@ -6,6 +6,6 @@ use Rattle.judgment.specs.declared.Answer.{Answer}
 use Rattle.judgment.specs.Result.{numbers, Buffers, call}
 use Rattle.checker.specs.Answered.{Answered}
 
-pub returned : (s : List ℕ) (c : ℕ) (b : Buffers) {d : Buffers} {a : Answer} → Answered s c b a d
-    → (a .number ≡ call s c b .answer .number) × (numbers a ≡ numbers (call s c b .answer)) × (d ≡ call s c b .after)
-returned s c b q = (ap (λ (x : Answer). x .number) (q .answer), ap numbers (q .answer), q .buffers)
+pub returned : (s : List ℕ) (c w : ℕ) (b : Buffers) {d : Buffers} {a : Answer} → Answered s c w b a d
+    → (a .number ≡ call s c w b .answer .number) × (numbers a ≡ numbers (call s c w b .answer)) × (d ≡ call s c w b .after)
+returned s c w b q = (ap (λ (x : Answer). x .number) (q .answer), ap numbers (q .answer), q .buffers)

@@ -2,12 +2,12 @@
 use mathlib.Core.Path.{_≡_, refl, sym}
 use mathlib.Core.Bool.{Bool, true, false, cond, _&&_}
 use mathlib.Core.List.{List, []}
-use Prim.Native.Nat.{ℕ, _%_, _≤_}
+use Prim.Native.Nat.{ℕ, _*_, _%_, _≤_}
 use native.Mathlib.Omega.{arith}
 use lib.Dec.{ltb, leb, eqb}
 use lib.ListN.{length}
 use borrow.Author.Tests.{leb-true, eqb-true}
-use Rattle.sizes.specs.Sizes.{lineLength, sheetBytes, highestCeiling, boardSize, bookSize, reportSize}
+use Rattle.sizes.specs.Sizes.{lineLength, sheetBytes, highestCeiling, highestLimit, boardSize, bookSize, reportStride}
 use Rattle.nodes.specs.Nodes.{Ty}
 use Rattle.grammar.specs.declared.Check.{Check}
 use Rattle.grammar.specs.declared.Check.the-variants.{Plan, Length, Misspelt, Unfit}
@@ -18,65 +18,83 @@ use Rattle.judgment.specs.declared.TypeError.the-variants.{UnboundVariable, Unb
 use Rattle.judgment.specs.Solutions.{Solutions}
 use Rattle.judgment.specs.Board.{state}
 use Rattle.judgment.specs.Run.{End, accepted, ceiling, refusedBy, Run, run}
-use Rattle.judgment.specs.Result.{errorNumber, endNumber, resultOf, runOf, judge, limits, Buffers, boardWords, bookWords, reportWords, refusedAt, tooShort, byCheck, call}
+use Rattle.judgment.specs.Result.{errorNumber, endNumber, resultOf, runOf, judge, limitsWith, Buffers, Called, boardWords, bookWords, reportWords, refusedAt, limitBad, tooShort, byCheck, call}
 use Rattle.judgment.proofs.Words.{length-board, length-book, length-report}
-use Rattle.exports.specs.Interface.{Least, Highest, Longest, OneLine}
+use Rattle.exports.specs.Interface.{Least, Highest, HighestLimit, Longest, OneLine}
 
 -- ---- the buffers
-least : Least boardSize bookSize reportSize
-least b = refl
+least : (w : ℕ) → Least w boardSize bookSize (reportStride * w)
+least w b = refl
 
-pub board-words : (boardSize ≡ length boardWords) × Least boardSize bookSize reportSize
+pub board-words : (boardSize ≡ length boardWords) × ((w : ℕ) → Least w boardSize bookSize (reportStride * w))
 board-words = (sym length-board, least)
 
-pub book-words : ((σ : Solutions) → bookSize ≡ length (bookWords σ)) × Least boardSize bookSize reportSize
+pub book-words : ((σ : Solutions) → bookSize ≡ length (bookWords σ)) × ((w : ℕ) → Least w boardSize bookSize (reportStride * w))
 book-words = (λ σ. sym (length-book σ), least)
 
-pub report-words : ((t : Ty) → reportSize ≡ length (reportWords t)) × Least boardSize bookSize reportSize
-report-words = (λ t. sym (length-report t), least)
+pub report-words : (w : ℕ) {r : ℕ} → r ≡ reportStride * w → ((t : Ty) → r ≡ length (reportWords w t)) × Least w boardSize bookSize r
+report-words w e = rw e (λ t. sym (length-report w t), least w)
 
--- ---- the ceiling
-refused-not-1 : (e : TypeError) → eqb (errorNumber e) 1 ≡ false
-refused-not-1 (UnboundVariable x) = refl
-refused-not-1 (UnboundDataConstructor x) = refl
-refused-not-1 (NotAFunction n) = refl
-refused-not-1 (ArityMismatch e a) = refl
-refused-not-1 (SubtypingError l r) = refl
-refused-not-1 TypeUnificationError = refl
-refused-not-1 (InstantiationError k n) = refl
-refused-not-1 (IntrinsicArityMismatch a) = refl
-refused-not-1 (UnknownIntrinsic x) = refl
-refused-not-1 BoardFull = refl
-refused-not-1 TypeTooLong = refl
-refused-not-1 NoFreshNumber = refl
-refused-not-1 SolutionsFull = refl
+-- ---- the ceiling and the limit: no run has their numbers
+abbrev Other : ℕ → Type 0
+Other n = (eqb n 1 ≡ false) × (eqb n 32 ≡ false)
 
-end-not-1 : (e : End) → eqb (endNumber e) 1 ≡ false
-end-not-1 accepted = refl
-end-not-1 ceiling = refl
-end-not-1 (refusedBy e ts) = refused-not-1 e
+error-other : (e : TypeError) → Other (errorNumber e)
+error-other (UnboundVariable x) = (refl, refl)
+error-other (UnboundDataConstructor x) = (refl, refl)
+error-other (NotAFunction n) = (refl, refl)
+error-other (ArityMismatch e a) = (refl, refl)
+error-other (SubtypingError l r) = (refl, refl)
+error-other TypeUnificationError = (refl, refl)
+error-other (InstantiationError k n) = (refl, refl)
+error-other (IntrinsicArityMismatch a) = (refl, refl)
+error-other (UnknownIntrinsic x) = (refl, refl)
+error-other BoardFull = (refl, refl)
+error-other TypeTooLong = (refl, refl)
+error-other NoFreshNumber = (refl, refl)
+error-other SolutionsFull = (refl, refl)
 
-run-not-1 : (p : Bool) (r : Run) → eqb (resultOf p r .answer .number) 1 ≡ false
+end-other : (e : End) → Other (endNumber e)
+end-other accepted = (refl, refl)
+end-other ceiling = (refl, refl)
+end-other (refusedBy e ts) = error-other e
+
+run-other : (p : Bool) (r : Run) → Other (resultOf p r .answer .number)
 unfolding resultOf
-run-not-1 p (run ss e (state Γ σ n)) = end-not-1 e
+run-other p (run ss e (state Γ σ n)) = end-other e
 
-module _ (s : List ℕ) (c : ℕ) (b : Buffers) where
-  check-not-1 : (v : Check) → eqb (byCheck s c b v .answer .number) 1 ≡ false
+module _ (s : List ℕ) (c w : ℕ) (b : Buffers) where
+  check-other : (v : Check) → Other (byCheck s c w b v .answer .number)
   unfolding judge
-  check-not-1 Plan = let p = planOf (triples s) in run-not-1 (p .plain) (runOf limits c p)
-  check-not-1 Length = refl
-  check-not-1 (Misspelt l) = refl
-  check-not-1 (Unfit l) = refl
+  check-other Plan = let p = planOf (triples s) in run-other (p .plain) (runOf (limitsWith w) c p)
+  check-other Length = (refl, refl)
+  check-other (Misspelt l) = (refl, refl)
+  check-other (Unfit l) = (refl, refl)
+
+  -- the call by its three tests
+  abbrev tested : Bool → Bool → Bool → Called
+  tested x y z =
+      cond x (record { answer = refusedAt 1 0; after = b }) (cond y (record { answer = refusedAt 32 0; after = b }) (cond z (record { answer = refusedAt 2 0; after = b }) (byCheck s c w b (check s))))
+
+  one : (x y z : Bool) → eqb (tested x y z .answer .number) 1 ≡ x
+  one true y z = refl
+  one false true z = refl
+  one false false true = refl
+  one false false false = check-other (check s) .0
+
+  thirty-two : (x y z : Bool) → eqb (tested x y z .answer .number) 1 ≡ false → eqb (tested x y z .answer .number) 32 ≡ y
+  thirty-two true y z e = absurd (let u : _≡_ {A = ℕ} 0 1 = cc in omega arith)
+  thirty-two false true z e = refl
+  thirty-two false false true e = refl
+  thirty-two false false false e = check-other (check s) .1
 
 pub highest : Highest highestCeiling
 unfolding call
-highest s c b = go (ltb highestCeiling c) (tooShort b)
-  where
-    go : (x y : Bool)
-        → eqb (cond x (record { answer = refusedAt 1 0; after = b }) (cond y (record { answer = refusedAt 2 0; after = b }) (byCheck s c b (check s))) .answer .number) 1 ≡ x
-    go true y = refl
-    go false true = refl
-    go false false = check-not-1 s c b (check s)
+highest s c w b = one s c w b (ltb highestCeiling c) (limitBad w) (tooShort w b)
+
+pub highest-limit : HighestLimit highestLimit
+unfolding call
+highest-limit s c w b e = thirty-two s c w b (ltb highestCeiling c) (limitBad w) (tooShort w b) e
 
 -- ---- the sheet
 module _ (n : ℕ) where

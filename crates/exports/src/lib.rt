@@ -6,17 +6,20 @@ use reading::term_of_sheet;
 use sizes::BOARD_SIZE;
 use sizes::BOOK_SIZE;
 use sizes::HIGHEST_CEILING;
+use sizes::HIGHEST_LIMIT;
 use sizes::LINE_LENGTH;
-use sizes::REPORT_SIZE;
+use sizes::REPORT_STRIDE;
 use sizes::SHEET_BYTES;
+use sizes::USUAL_LIMIT;
 ghost use mathlib.Core.Path.{_≡_};
+ghost use Prim.Native.Nat.{ℕ, _*_};
 ghost use lib.ListN.{length};
-ghost use Rattle.sizes.specs.Sizes.{boardSize, bookSize, reportSize};
+ghost use Rattle.sizes.specs.Sizes.{usualLimit, boardSize, bookSize, reportStride};
 ghost use Rattle.grammar.specs.Check.{check, checkNumber, checkLine};
 ghost use Rattle.nodes.specs.Nodes.{Ty};
 ghost use Rattle.judgment.specs.Solutions.{Solutions};
 ghost use Rattle.judgment.specs.Result.{numbers, call, boardWords, bookWords, reportWords};
-ghost use Rattle.exports.specs.Interface.{termOn, version, Least, Highest, Longest, OneLine};
+ghost use Rattle.exports.specs.Interface.{termOn, version, Least, Highest, HighestLimit, Longest, OneLine};
 
 // Document 01's number of a sheet, 0, 3, 4 or 5, and its line.
 #[no_mangle]
@@ -61,14 +64,15 @@ pub extern "C" fn kirvoghus_term_bytes(sheet: &[u8], line: u32) -> usize
 pub extern "C" fn kirvoghus_check_type(
     sheet: &[u8],
     ceiling: u32,
+    limit: u32,
     board: &mut [u32],
     book: &mut [u32],
     report: &mut [u32],
     result: &mut [u32; 7],
 ) -> u32
-    ensures { λ r. ⌜ (r ≡ call (now (sheet .entry)) ceiling (record { board = now (board .entry); book = now (book .entry); report = now (report .entry) }) .answer .number) × (now (result .exit) ≡ numbers (call (now (sheet .entry)) ceiling (record { board = now (board .entry); book = now (book .entry); report = now (report .entry) }) .answer)) × (record { board = now (board .exit); book = now (book .exit); report = now (report .exit) } ≡ call (now (sheet .entry)) ceiling (record { board = now (board .entry); book = now (book .entry); report = now (report .entry) }) .after) ⌝ }
+    ensures { λ r. ⌜ (r ≡ call (now (sheet .entry)) ceiling limit (record { board = now (board .entry); book = now (book .entry); report = now (report .entry) }) .answer .number) × (now (result .exit) ≡ numbers (call (now (sheet .entry)) ceiling limit (record { board = now (board .entry); book = now (book .entry); report = now (report .entry) }) .answer)) × (record { board = now (board .exit); book = now (book .exit); report = now (report .exit) } ≡ call (now (sheet .entry)) ceiling limit (record { board = now (board .entry); book = now (book .entry); report = now (report .entry) }) .after) ⌝ }
 {
-    let a = check_type(sheet, ceiling, board, book, report);
+    let a = check_type(sheet, ceiling, limit, board, book, report);
     *result = [
         a.number,
         a.line,
@@ -86,13 +90,13 @@ pub extern "C" fn kirvoghus_check_type(
 pub extern "C" fn kirvoghus_version() -> u32
     ensures { λ r. ⌜ r ≡ version ⌝ }
 {
-    1
+    2
 }
 
 // The words of the board: so many are written by a run, and a call takes no fewer.
 #[no_mangle]
 pub extern "C" fn kirvoghus_board_words() -> usize
-    ensures { λ r. ⌜ (r ≡ length boardWords) × Least r bookSize reportSize ⌝ }
+    ensures { λ r. ⌜ (r ≡ length boardWords) × ((limit : ℕ) → Least limit r bookSize (reportStride * limit)) ⌝ }
 {
     BOARD_SIZE
 }
@@ -100,17 +104,17 @@ pub extern "C" fn kirvoghus_board_words() -> usize
 // The words of the book, the same.
 #[no_mangle]
 pub extern "C" fn kirvoghus_book_words() -> usize
-    ensures { λ r. ⌜ ((σ : Solutions) → r ≡ length (bookWords σ)) × Least boardSize r reportSize ⌝ }
+    ensures { λ r. ⌜ ((σ : Solutions) → r ≡ length (bookWords σ)) × ((limit : ℕ) → Least limit boardSize r (reportStride * limit)) ⌝ }
 {
     BOOK_SIZE
 }
 
-// The words of the report, the same.
+// The words of the report, the same, for a limit.
 #[no_mangle]
-pub extern "C" fn kirvoghus_report_words() -> usize
-    ensures { λ r. ⌜ ((t : Ty) → r ≡ length (reportWords t)) × Least boardSize bookSize r ⌝ }
+pub extern "C" fn kirvoghus_report_words(limit: u32) -> usize
+    ensures { λ r. ⌜ ((t : Ty) → r ≡ length (reportWords limit t)) × Least limit boardSize bookSize r ⌝ }
 {
-    REPORT_SIZE
+    REPORT_STRIDE * (limit as usize)
 }
 
 // The highest ceiling that a call takes.
@@ -119,6 +123,22 @@ pub extern "C" fn kirvoghus_ceiling() -> u32
     ensures { λ r. ⌜ Highest r ⌝ }
 {
     HIGHEST_CEILING
+}
+
+// The highest limit that a call takes; the lowest is 1.
+#[no_mangle]
+pub extern "C" fn kirvoghus_limit_most() -> u32
+    ensures { λ r. ⌜ HighestLimit r ⌝ }
+{
+    HIGHEST_LIMIT as u32
+}
+
+// Document 01's limit, which the programs pick.
+#[no_mangle]
+pub extern "C" fn kirvoghus_limit() -> u32
+    ensures { λ r. ⌜ r ≡ usualLimit ⌝ }
+{
+    USUAL_LIMIT
 }
 
 // The bytes of the longest sheet.

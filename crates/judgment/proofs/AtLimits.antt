@@ -1,5 +1,6 @@
--- For each limit of document 01 but the ceiling a plan that meets it exactly and one that passes it by one, and those that pass one without limits, with the Rust's answers
--- as `reference answer` gives them (`--limits` with numbers that no run comes to), by computation. Assumes nothing.
+-- For each limit of document 01 but the ceiling a plan that meets it exactly and one that passes it by one, those that pass one without limits, and plans at limits of
+-- written-out types that a caller picks, with the Rust's answers as `reference answer` gives them (`--limits` with numbers that no run comes to; `--limit`), by computation.
+-- Assumes nothing.
 use mathlib.Core.Path.{_≡_, refl}
 use mathlib.Core.List.{List, [], _∷_, _++_, map}
 use Prim.Native.Nat.{ℕ, zero, suc, _+_}
@@ -13,7 +14,7 @@ use Rattle.judgment.specs.Solutions.{find, links, anySolved, writeOutBy,
 use Rattle.judgment.specs.Board.{Limits, boardNodes, findVar, before, perform, operations}
 use Rattle.judgment.specs.Rules.{instantiateFrom, subtype, openNames, signatureFrom, insert, pushVars, checkPatterns, checkArms, inferApp}
 use Rattle.judgment.specs.Run.{runFrom, checkType}
-use Rattle.judgment.specs.Result.{numbers, resultOf, runOf, judge, limits, noLimits}
+use Rattle.judgment.specs.Result.{numbers, resultOf, runOf, judge, limits, limitsWith, noLimits}
 use Rattle.judgment.proofs.Wall.{l}
 
 -- the seven numbers, and how many nodes the report and the solutions have
@@ -105,3 +106,40 @@ pub without : map (shortUnder noLimits) (quantified 510 ∷ arms 50 wildcard ∷
     []
 unfolding shortUnder judge resultOf runOf checkType runFrom perform operations boardNodes findVar before lookup instantiateFrom subtype openNames signatureFrom insert pushVars checkPatterns checkArms inferApp find links anySolved writeOutBy writeOut solutionNodes view termView lambdaOf occurs isMonotype substitute rename frontNames afterFront canUnify planOf declarations bindingsIn endFrom entriesEnd placesOf partLine isPlain partsOf rowOf findRow table
 without = refl
+
+-- a variable of the expected type, a Product of 1 + n nodes
+abbrev parts : ℕ → List Triple
+parts n = l 16 0 n ∷ replicate n (l 12 1 0)
+
+abbrev declared : ℕ → List Triple
+declared n = l 2 40 0 ∷ (parts n ++ (l 3 0 0 ∷ (parts n ++ (l 4 0 0 ∷ l 21 40 0 ∷ []))))
+
+abbrev asArrow : List Triple
+asArrow = l 3 0 0 ∷ l 13 0 0 ∷ l 12 1 0 ∷ l 12 1 0 ∷ l 4 0 0 ∷ l 22 7 0 ∷ []
+
+-- a function whose type grows after it was compared: n40 has k copies of a type and e nodes more, and n41 knows that type, a Product of 1 + m nodes
+abbrev late : ℕ → ℕ → ℕ → List Triple
+late k m e =
+    l 2 40 0 ∷ l 14 10 0 ∷ l 15 0 0 ∷ l 15 0 0 ∷ l 12 30 0 ∷ l 11 10 0 ∷ l 16 0 (k + e) ∷ (replicate k (l 11 10 0) ++ (replicate e (l 12 1 0) ++ (
+    l 2 41 0 ∷ l 14 11 0 ∷ l 15 0 0 ∷ l 15 0 0 ∷ l 12 30 0 ∷ (parts m ++ (l 11 11 0 ∷ goal (
+    l 24 0 0 ∷ l 29 0 0 ∷ l 28 5 0 ∷ l 22 1 0 ∷ l 22 2 0 ∷ l 21 40 0 ∷ l 21 41 0 ∷ l 22 7 0 ∷ []))))))
+
+-- 23 by Sub on the left and on the right, and by InfApp alone
+pub picked : map (λ (q : ℕ × List Triple). shortUnder (limitsWith (q .0)) (q .1))
+    ((1, goal (l 22 7 0 ∷ [])) ∷ (1, declared 0) ∷ (1, declared 1) ∷ (2, declared 1) ∷ (2, declared 2) ∷ (1, asArrow) ∷ (2, asArrow) ∷ (3, asArrow)
+    ∷ (11, late 1 3 0) ∷ (12, late 1 3 0) ∷ (4096, late 66 60 5) ∷ (4096, late 66 60 6) ∷ []) ≡
+    (0 ∷ 0 ∷ 5 ∷ 1 ∷ 0 ∷ 0 ∷ 1 ∷ [], 0, 1) ∷
+    (0 ∷ 0 ∷ 5 ∷ 1 ∷ 0 ∷ 0 ∷ 1 ∷ [], 0, 1) ∷
+    (23 ∷ 0 ∷ 3 ∷ 1 ∷ 0 ∷ 0 ∷ 1 ∷ [], 0, 0) ∷
+    (0 ∷ 0 ∷ 5 ∷ 1 ∷ 0 ∷ 0 ∷ 1 ∷ [], 0, 2) ∷
+    (23 ∷ 0 ∷ 3 ∷ 1 ∷ 0 ∷ 0 ∷ 1 ∷ [], 0, 0) ∷
+    (23 ∷ 0 ∷ 4 ∷ 1 ∷ 0 ∷ 0 ∷ 1 ∷ [], 0, 1) ∷
+    (23 ∷ 0 ∷ 4 ∷ 1 ∷ 0 ∷ 0 ∷ 1 ∷ [], 0, 1) ∷
+    (15 ∷ 0 ∷ 4 ∷ 1 ∷ 1 ∷ 3 ∷ 1 ∷ [], 4, 1) ∷
+    (23 ∷ 0 ∷ 63 ∷ 21 ∷ 0 ∷ 0 ∷ 0 ∷ [], 0, 43) ∷
+    (13 ∷ 0 ∷ 63 ∷ 21 ∷ 12 ∷ 0 ∷ 0 ∷ [], 12, 43) ∷
+    (13 ∷ 0 ∷ 63 ∷ 21 ∷ 4096 ∷ 0 ∷ 0 ∷ [], 4096, 354) ∷
+    (23 ∷ 0 ∷ 63 ∷ 21 ∷ 0 ∷ 0 ∷ 0 ∷ [], 0, 356) ∷
+    []
+unfolding shortUnder judge resultOf runOf checkType runFrom perform operations boardNodes findVar before lookup instantiateFrom subtype openNames signatureFrom insert pushVars checkPatterns checkArms inferApp find links anySolved writeOutBy writeOut solutionNodes view termView lambdaOf occurs isMonotype substitute rename frontNames afterFront canUnify planOf declarations bindingsIn endFrom entriesEnd placesOf partLine isPlain partsOf rowOf findRow table
+picked = refl

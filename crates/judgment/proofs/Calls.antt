@@ -1,5 +1,5 @@
--- Calls that are refused before a run, with the Rust reader's answers as `reference answer` gives them, by computation; and books of several
--- solutions, read back. Assumes nothing.
+-- Calls that are refused before a run, and calls with the lowest and the highest limit, with the answers of `reference answer`, by computation;
+-- and books of several solutions, read back. Assumes nothing.
 use mathlib.Core.Path.{_≡_, refl}
 use mathlib.Core.List.{List, [], _∷_, _++_, map}
 use Prim.Native.Nat.{ℕ, _+_, _*_}
@@ -7,11 +7,17 @@ use lib.ListN.{getD, take, drop, replicate}
 use Rattle.nodes.specs.Nodes.{Ty, words, nodesAt}
 use Rattle.spelling.specs.Spelling.{fieldFrom, lineOf, lineAt, linesFrom, linesOf, firstMisspelt}
 use Rattle.spelling.specs.Text.{fieldText, lineText}
-use Rattle.kinds.specs.Kinds.{rowOf, find as findRow, table, begins, headOf}
+use Rattle.kinds.specs.Kinds.{partsOf, rowOf, find as findRow, table, begins, headOf}
 use Rattle.grammar.specs.Grammar.{declaredBy, isGoal, arms, following, read, readAt}
 use Rattle.grammar.specs.Check.{readSheet, check}
-use Rattle.judgment.specs.Solutions.{Solution, key, value}
-use Rattle.judgment.specs.Result.{numbers, Buffers, padded, pairsFrom, placeFrom, nodeWords, bookWords, call}
+use Rattle.sheet.specs.Plan.{triples, planOf, declarations, bindingsIn, endFrom, entriesEnd, placesOf, partLine, isPlain, lookup}
+use Rattle.judgment.specs.Types.{view, occurs, isMonotype, substitute, rename, frontNames, afterFront, canUnify}
+use Rattle.judgment.specs.Terms.{termView, lambdaOf}
+use Rattle.judgment.specs.Solutions.{Solution, key, value, find, links, anySolved, writeOutBy, writeOut, solutionNodes}
+use Rattle.judgment.specs.Board.{boardNodes, findVar, before, perform, operations}
+use Rattle.judgment.specs.Rules.{instantiateFrom, subtype, openNames, signatureFrom, insert, pushVars, checkPatterns, checkArms, inferApp}
+use Rattle.judgment.specs.Run.{runFrom, checkType}
+use Rattle.judgment.specs.Result.{numbers, Buffers, Called, padded, pairsFrom, placeFrom, nodeWords, bookWords, reportWords, resultOf, runOf, judge, call}
 use Rattle.judgment.proofs.Wall.{l, firstSheet, Row}
 use Rattle.judgment.proofs.Telling.{answers}
 
@@ -31,7 +37,7 @@ refusedCalls =
     (10001, firstSheet) ∷  -- a ceiling of 10,001
     []
 
-pub refused-calls : map (λ q. numbers (call (q .1) (q .0) (buffers 16384 10192 4096) .answer)) refusedCalls ≡
+pub refused-calls : map (λ q. numbers (call (q .1) (q .0) 1024 (buffers 16384 10192 4096) .answer)) refusedCalls ≡
     (3 ∷ 0 ∷ 0 ∷ 0 ∷ 0 ∷ 0 ∷ 0 ∷ []) ∷
     (3 ∷ 0 ∷ 0 ∷ 0 ∷ 0 ∷ 0 ∷ 0 ∷ []) ∷
     (4 ∷ 2 ∷ 0 ∷ 0 ∷ 0 ∷ 0 ∷ 0 ∷ []) ∷
@@ -45,15 +51,59 @@ pub refused-calls : map (λ q. numbers (call (q .1) (q .0) (buffers 16384 10192 
 unfolding call lineText fieldText fieldFrom lineOf lineAt linesFrom linesOf firstMisspelt findRow table rowOf begins headOf declaredBy isGoal arms following read readAt readSheet check
 refused-calls = refl
 
-pub nothing-written : map (λ q. call (q .1) (q .0) (buffers 16384 10192 4096) .after) refusedCalls ≡ map (λ q. buffers 16384 10192 4096) refusedCalls
+pub nothing-written : map (λ q. call (q .1) (q .0) 1024 (buffers 16384 10192 4096) .after) refusedCalls ≡ map (λ q. buffers 16384 10192 4096) refusedCalls
 unfolding call lineText fieldText fieldFrom lineOf lineAt linesFrom linesOf firstMisspelt findRow table rowOf begins headOf declaredBy isGoal arms following read readAt readSheet check
 nothing-written = refl
 
 -- a buffer that is one word short: document 01's 2
-pub short-buffers : map (λ b. numbers (call firstSheet 10000 b .answer)) (buffers 16383 10192 4096 ∷ buffers 16384 10191 4096 ∷ buffers 16384 10192 4095 ∷ [])
+pub short-buffers : map (λ b. numbers (call firstSheet 10000 1024 b .answer)) (buffers 16383 10192 4096 ∷ buffers 16384 10191 4096 ∷ buffers 16384 10192 4095 ∷ [])
     ≡ replicate 3 (2 ∷ 0 ∷ 0 ∷ 0 ∷ 0 ∷ 0 ∷ 0 ∷ [])
 unfolding call lineText fieldText
 short-buffers = refl
+
+-- what a call asks for: ceiling, limit and buffers
+abbrev asked : List (ℕ × ℕ × Buffers)
+asked =
+    (10001, 0, buffers 0 0 0) ∷
+    (10000, 0, buffers 0 0 0) ∷
+    (10000, 4097, buffers 0 0 0) ∷
+    (10000, 4294967295, buffers 16384 10192 16384) ∷
+    (10000, 1, buffers 16384 10192 3) ∷
+    (10000, 4096, buffers 16384 10192 16383) ∷
+    []
+
+pub refused-asks : map (λ q. numbers (call firstSheet (q .0) (q .1) (q .2) .answer)) asked ≡
+    (1 ∷ 0 ∷ 0 ∷ 0 ∷ 0 ∷ 0 ∷ 0 ∷ []) ∷
+    (32 ∷ 0 ∷ 0 ∷ 0 ∷ 0 ∷ 0 ∷ 0 ∷ []) ∷
+    (32 ∷ 0 ∷ 0 ∷ 0 ∷ 0 ∷ 0 ∷ 0 ∷ []) ∷
+    (32 ∷ 0 ∷ 0 ∷ 0 ∷ 0 ∷ 0 ∷ 0 ∷ []) ∷
+    (2 ∷ 0 ∷ 0 ∷ 0 ∷ 0 ∷ 0 ∷ 0 ∷ []) ∷
+    (2 ∷ 0 ∷ 0 ∷ 0 ∷ 0 ∷ 0 ∷ 0 ∷ []) ∷
+    []
+unfolding call lineText fieldText
+refused-asks = refl
+
+pub kept-by-asks : map (λ q. call firstSheet (q .0) (q .1) (q .2) .after) asked ≡ map (λ q. q .2) asked
+unfolding call lineText fieldText
+kept-by-asks = refl
+
+-- calls that come to a run with the lowest and the highest limit: 7 as Int and 7 as Bool, with the report's words of `reference answer --words`
+abbrev boolSheet : List ℕ
+boolSheet = take 29 firstSheet ++ (lineText (l 12 2 0) ++ drop 58 firstSheet)
+
+abbrev told : Called → List ℕ × List ℕ
+told c = (numbers (c .answer), c .after .report)
+
+pub lowest-limit : told (call firstSheet 10000 1 (buffers 16384 10192 6)) ∷ told (call boolSheet 10000 1 (buffers 16384 10192 6)) ∷ [] ≡
+    (0 ∷ 0 ∷ 5 ∷ 1 ∷ 0 ∷ 0 ∷ 1 ∷ [], 0 ∷ 0 ∷ 0 ∷ 0 ∷ 7 ∷ 7 ∷ []) ∷
+    (15 ∷ 0 ∷ 4 ∷ 1 ∷ 1 ∷ 1 ∷ 1 ∷ [], 12 ∷ 1 ∷ 12 ∷ 2 ∷ 7 ∷ 7 ∷ []) ∷
+    []
+unfolding call lineText fieldText fieldFrom lineOf lineAt linesFrom linesOf firstMisspelt findRow table rowOf begins headOf declaredBy isGoal arms following read readAt readSheet check triples judge resultOf runOf checkType runFrom perform operations boardNodes findVar before lookup instantiateFrom subtype openNames signatureFrom insert pushVars checkPatterns checkArms inferApp find links anySolved writeOutBy writeOut solutionNodes view termView lambdaOf occurs isMonotype substitute rename frontNames afterFront canUnify planOf declarations bindingsIn endFrom entriesEnd placesOf partLine isPlain partsOf reportWords padded words
+lowest-limit = refl
+
+pub highest-limit : numbers (call firstSheet 10000 4096 (buffers 16384 10192 16384) .answer) ≡ 0 ∷ 0 ∷ 5 ∷ 1 ∷ 0 ∷ 0 ∷ 1 ∷ []
+unfolding call lineText fieldText fieldFrom lineOf lineAt linesFrom linesOf firstMisspelt findRow table rowOf begins headOf declaredBy isGoal arms following read readAt readSheet check triples judge resultOf runOf checkType runFrom perform operations boardNodes findVar before lookup instantiateFrom subtype openNames signatureFrom insert pushVars checkPatterns checkArms inferApp find links anySolved writeOutBy writeOut solutionNodes view termView lambdaOf occurs isMonotype substitute rename frontNames afterFront canUnify planOf declarations bindingsIn endFrom entriesEnd placesOf partLine isPlain partsOf reportWords padded words
+highest-limit = refl
 
 -- what stands where a book's pair says
 abbrev stands : List ℕ → Solution → Ty

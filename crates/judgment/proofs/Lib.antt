@@ -24,6 +24,7 @@ pub mod WholeTerms
 pub mod WholeRun
 pub mod Orders
 pub mod Narrow
+pub mod Raised
 pub mod OtherOrders
 pub mod Alike
 pub mod Reordered

@@ -1,15 +1,15 @@
 -- No answer has a number of more than five digits: `narrow`. Assumes nothing.
-use Prim.Native.Nat.{ℕ, zero, suc, _+_, _≤_}
+use Prim.Native.Nat.{ℕ, zero, suc, _+_, _<_, _≤_}
 use native.Mathlib.Omega.{arith}
 use mathlib.Core.Path.{_≡_, refl, ap, subst}
 use mathlib.Core.Logic.{_≢_}
-use mathlib.Core.Bool.{Bool, true, false}
+use mathlib.Core.Bool.{Bool, true, false, _||_, true≢false}
 use mathlib.Core.Option.{Option, none, some}
 use mathlib.Core.List.{List, [], _∷_, _++_}
 use lib.Dec.{eqb, leb, ltb}
 use lib.ListN.{length, take, drop, length-append, length-take, length-drop}
-use borrow.Author.Tests.{ltb-true, ltb-false, leb-true}
-use Rattle.sizes.specs.Sizes.{mostLines, highestCeiling, mostNodes, mostNumbers, mostWritten}
+use borrow.Author.Tests.{ltb-true, ltb-false, leb-true, eqb-false}
+use Rattle.sizes.specs.Sizes.{mostLines, highestCeiling, mostNodes, mostNumbers, highestLimit}
 use Rattle.nodes.specs.Nodes.{Node, node, Ty}
 use Rattle.nodes.specs.Lists.{All}
 use Rattle.nodes.proofs.ListLaws.{cond-ind, all-take, all-drop}
@@ -29,7 +29,7 @@ use Rattle.judgment.specs.Solutions.{_≔_, Solutions, value, find, writ
 use Rattle.judgment.specs.Board.{Entry, tvar, var, sub, inf, chk, infApp, Board, findVar, before, Rule, done, refuse, fresh, push, solve, zonk, look, State, state, Outcome, finished, refused, roomFor, Operation, perform, operations}
 use Rattle.judgment.specs.Rules.{Env, Side, left, right, openBody, solveMonotype, instantiateBy, instantiateFrom, mismatch, unknownRight, unknownLeft, subtypeBy, subtype, openNames, instantiateConstructor, signatureBy, signatureFrom, insert, pushVars, patternParts, patternConstructor, patternBy, checkPatterns, checkArms, variable, constructor, inferBy, checkArrow, checkBy, applyBy, inferApp, rule}
 use Rattle.judgment.specs.Run.{Step, step, End, accepted, ceiling, refusedBy, Run, run, addStep, onward, runFrom, checkType}
-use Rattle.judgment.specs.Result.{errorNumber, errorDetails, endNumber, endDetails, envOf, runOf, resultOf, judge, limits, Buffers, Called, refusedAt, byCheck, tooShort, call}
+use Rattle.judgment.specs.Result.{errorNumber, errorDetails, endNumber, endDetails, envOf, runOf, resultOf, judge, limitsWith, Buffers, Called, refusedAt, byCheck, limitBad, tooShort, call}
 use Rattle.judgment.specs.Good.{EntryWhole, OK, EntryOK, Inv}
 use Rattle.judgment.proofs.TypeLaws.{eqb-true, Shows, view-shows}
 use Rattle.judgment.proofs.Invariant.{Kept, perform-kept}
@@ -40,18 +40,18 @@ use Rattle.judgment.proofs.WholeRun.{EnvWhole, StateWhole, OutcomeWhole
 
 -- How large the seven numbers of an answer are. The details are names, nodes of a written-out type, parameters of a constructor, unknowns and counts.
 pub record Narrow (a : Answer) : Type 0 where
-  pub number : a .number ≤ 25
+  pub number : a .number ≤ 32
   pub line : a .line ≤ mostLines + 1
   pub taken : a .taken ≤ highestCeiling
   pub fresh : a .fresh ≤ mostNumbers
   pub detail1 : a .detail1 ≤ 9999
-  pub detail2 : a .detail2 ≤ mostWritten
+  pub detail2 : a .detail2 ≤ highestLimit
   pub plain : a .plain ≤ 1
 
 ---------------------------------------------------------------- what a rule must show
 -- a refusal's number and details
 abbrev Small : TypeError → Type 0
-Small r = (errorNumber r ≤ 25) × (errorDetails r .0 ≤ 9999) × (errorDetails r .1 ≤ mostWritten)
+Small r = (errorNumber r ≤ 25) × (errorDetails r .0 ≤ 9999) × (errorDetails r .1 ≤ highestLimit)
 
 -- every refusal is small, whatever is fresh, pushed and solved; a type that is written out has few nodes
 abbrev Brief : Solutions → Rule → Type 0
@@ -60,31 +60,32 @@ Brief σ (refuse r ts) = Small r
 Brief σ (fresh f) = (n : ℕ) → Brief σ (f n)
 Brief σ (push e p) = Brief σ p
 Brief σ (solve k s p) = (τ : Solutions) → Brief τ p
-Brief σ (zonk t f) = length (writeOut σ t) ≤ mostWritten → Brief σ (f (writeOut σ t))
+Brief σ (zonk t f) = length (writeOut σ t) ≤ highestLimit → Brief σ (f (writeOut σ t))
 Brief σ (look f) = (Γ : Board) → Brief σ (f Γ)
 
 abbrev OutcomeNarrow : Outcome → Type 0
 OutcomeNarrow (finished (state Γ σ n)) = n ≤ mostNumbers
 OutcomeNarrow (refused r ts (state Γ σ n)) = (n ≤ mostNumbers) × Small r
 
-perform-narrow : (p : Rule) (Γ : Board) (σ : Solutions) (n : ℕ) → n ≤ mostNumbers → Brief σ p → OutcomeNarrow (perform limits p Γ σ n)
-unfolding perform
-perform-narrow done Γ σ n h g = h
-perform-narrow (refuse r ts) Γ σ n h g = (h, g)
-perform-narrow (fresh f) Γ σ n h g =
-    cond-ind OutcomeNarrow (ltb n mostNumbers) (λ e. perform-narrow (f n) Γ σ (suc n) (ltb-true n mostNumbers e) (g n)) (λ _. (h, omega arith))
-perform-narrow (push e p) Γ σ n h g =
-    cond-ind OutcomeNarrow (roomFor limits e Γ) (λ _. perform-narrow p (e ∷ Γ) σ n h g) (λ _. (h, omega arith))
-perform-narrow (solve k s p) Γ σ n h g =
-    solving-ind OutcomeNarrow (find k σ) s
-    (cond-ind OutcomeNarrow (leb (solutionNodes σ + length s) mostNodes)
-    (λ _. perform-narrow p Γ (σ ++ (_≔_ k s ∷ [])) n h (g (σ ++ (_≔_ k s ∷ [])))) (λ _. (h, omega arith)))
-    (perform-narrow p Γ σ n h (g σ))
-    (h, omega arith)
-perform-narrow (zonk t f) Γ σ n h g =
-    cond-ind OutcomeNarrow (leb (length (writeOut σ t)) mostWritten)
-    (λ e. perform-narrow (f (writeOut σ t)) Γ σ n h (g (leb-true (length (writeOut σ t)) mostWritten e))) (λ _. (h, omega arith))
-perform-narrow (look f) Γ σ n h g = perform-narrow (f Γ) Γ σ n h (g Γ)
+module _ (limit : ℕ) (low : limit ≤ highestLimit) where
+  perform-narrow : (p : Rule) (Γ : Board) (σ : Solutions) (n : ℕ) → n ≤ mostNumbers → Brief σ p → OutcomeNarrow (perform (limitsWith limit) p Γ σ n)
+  unfolding perform
+  perform-narrow done Γ σ n h g = h
+  perform-narrow (refuse r ts) Γ σ n h g = (h, g)
+  perform-narrow (fresh f) Γ σ n h g =
+      cond-ind OutcomeNarrow (ltb n mostNumbers) (λ e. perform-narrow (f n) Γ σ (suc n) (ltb-true n mostNumbers e) (g n)) (λ _. (h, omega arith))
+  perform-narrow (push e p) Γ σ n h g =
+      cond-ind OutcomeNarrow (roomFor (limitsWith limit) e Γ) (λ _. perform-narrow p (e ∷ Γ) σ n h g) (λ _. (h, omega arith))
+  perform-narrow (solve k s p) Γ σ n h g =
+      solving-ind OutcomeNarrow (find k σ) s
+      (cond-ind OutcomeNarrow (leb (solutionNodes σ + length s) mostNodes)
+      (λ _. perform-narrow p Γ (σ ++ (_≔_ k s ∷ [])) n h (g (σ ++ (_≔_ k s ∷ [])))) (λ _. (h, omega arith)))
+      (perform-narrow p Γ σ n h (g σ))
+      (h, omega arith)
+  perform-narrow (zonk t f) Γ σ n h g =
+      cond-ind OutcomeNarrow (leb (length (writeOut σ t)) limit)
+      (λ e. perform-narrow (f (writeOut σ t)) Γ σ n h (g (omega (arith, leb-true (length (writeOut σ t)) limit e)))) (λ _. (h, omega arith))
+  perform-narrow (look f) Γ σ n h g = perform-narrow (f Γ) Γ σ n h (g Γ)
 
 ---------------------------------------------------------------- instantiation
 -- an unknown that a view shows
@@ -109,25 +110,25 @@ module _ (σ : Solutions) where
   openBody-brief left x b f c = λ u. c (substitute x (node 18 u) b) (substitute-length x (node 18 u) b 0)
   openBody-brief right x b f c = λ a. c (substitute x (node 17 a) b) (substitute-length x (node 17 a) b 0)
 
-  monotype-brief : (k : ℕ) (t : Ty) → k ≤ 9999 → length t ≤ mostWritten → Brief σ (solveMonotype k t)
+  monotype-brief : (k : ℕ) (t : Ty) → k ≤ 9999 → length t ≤ highestLimit → Brief σ (solveMonotype k t)
   monotype-brief k t hk ht = cond-ind (Brief σ) (isMonotype t) (λ _ τ. tt) (λ _. omega arith)
 
-  instantiateBy-brief : (d : Side) (k : ℕ) (t : Ty) (again : Ty → Rule) (v : View) → Shows v t → k ≤ 9999 → length t ≤ mostWritten
-      → ((u : Ty) → length u ≤ mostWritten → Brief σ (again u)) → Brief σ (instantiateBy d k t again v)
+  instantiateBy-brief : (d : Side) (k : ℕ) (t : Ty) (again : Ty → Rule) (v : View) → Shows v t → k ≤ 9999 → length t ≤ highestLimit
+      → ((u : Ty) → length u ≤ highestLimit → Brief σ (again u)) → Brief σ (instantiateBy d k t again v)
   instantiateBy-brief d k t again (isUnknown b) s hk ht c = λ Γ. cond-ind (Brief σ) (before k b Γ) (λ _ τ. tt) (λ _. monotype-brief k t hk ht)
   instantiateBy-brief d k t again (isArrow t₁ t₂) s hk ht c = λ a b τ. tt
   instantiateBy-brief d k t again (isApp t₁ t₂) s hk ht c = λ a b τ. tt
   instantiateBy-brief d k t again (isForall x b) s hk ht c = openBody-brief d x b again (λ u e. c u (omega (arith, ap length s)))
   instantiateBy-brief d k t again isOther s hk ht c = monotype-brief k t hk ht
 
-  instantiateFrom-brief : (m : ℕ) (d : Side) (k : ℕ) (t : Ty) → k ≤ 9999 → length t ≤ mostWritten → Brief σ (instantiateFrom m d k t)
+  instantiateFrom-brief : (m : ℕ) (d : Side) (k : ℕ) (t : Ty) → k ≤ 9999 → length t ≤ highestLimit → Brief σ (instantiateFrom m d k t)
   unfolding instantiateFrom
   instantiateFrom-brief zero d k t hk ht = omega arith
   instantiateFrom-brief (suc m) d k t hk ht =
       instantiateBy-brief d k t (λ u. instantiateFrom m d k u) (view t) (view-shows t) hk ht (λ u hu. instantiateFrom-brief m d k u hk hu)
 
   -------------------------------------------------------------- comparisons
-  module _ (l r : Ty) (hl : length l ≤ mostWritten) (hr : length r ≤ mostWritten) where
+  module _ (l r : Ty) (hl : length l ≤ highestLimit) (hr : length r ≤ highestLimit) where
     mismatch-brief : Brief σ (mismatch l r)
     mismatch-brief = omega arith
 
@@ -343,7 +344,7 @@ module _ (σ : Solutions) (E : Env) (hE : All Short (E .constructors)) where
   checkBy-brief e t (isUnknown k) = λ u. tt
   checkBy-brief e t isOther = λ u. tt
 
-  applyBy-brief : (f : Ty) (e : Term) (c : Ty) (v : View) → length f ≤ mostWritten → Brief σ (applyBy E f e c v)
+  applyBy-brief : (f : Ty) (e : Term) (c : Ty) (v : View) → length f ≤ highestLimit → Brief σ (applyBy E f e c v)
   applyBy-brief f e c (isArrow a b) h = tt
   applyBy-brief f e c (isForall x b) h = λ a. tt
   applyBy-brief f e c (isUnknown k) h = λ a b τ. tt
@@ -363,7 +364,7 @@ RunNarrow c (run ss d (state Γ σ n)) = (length ss ≤ c) × EndNarrow d × (n 
 add-narrow : (c : ℕ) (t : Step) (R : Run) → RunNarrow c R → RunNarrow (suc c) (addStep t R)
 add-narrow c t (run ss d (state Γ σ n)) h = (omega (arith, h .0), h .1, h .2)
 
-module _ (Plain : Type 0) (E : Env) (hE : EnvOK Plain E) (wE : EnvWhole E) (sE : All Short (E .constructors)) where
+module _ (limit : ℕ) (low : limit ≤ highestLimit) (Plain : Type 0) (E : Env) (hE : EnvOK Plain E) (wE : EnvWhole E) (sE : All Short (E .constructors)) where
   rule-brief : (Γ : Board) (σ : Solutions) (n : ℕ) → Inv Plain Γ σ n → n ≤ mostNumbers → (e : Entry) → EntryOK Plain n e → EntryWhole e → Brief σ (rule E e)
   unfolding inferApp
   rule-brief Γ σ n i l (tvar x) h w = tt
@@ -379,27 +380,27 @@ module _ (Plain : Type 0) (E : Env) (hE : EnvOK Plain E) (wE : EnvWhole E) (sE :
   onward-narrow : (c : ℕ) (Q : Board → Solutions → ℕ → Type 0) (s : State) (e : Entry) (os : List Operation) (o : Outcome) (again : State → Run)
       → Kept Plain Q o → OutcomeWhole o → OutcomeNarrow o
       → ((Γ₁ : Board) (σ₁ : Solutions) (n₁ : ℕ) → Inv Plain Γ₁ σ₁ n₁ → StateWhole (state Γ₁ σ₁ n₁) → n₁ ≤ mostNumbers → RunNarrow c (again (state Γ₁ σ₁ n₁)))
-      → RunNarrow (suc c) (onward limits E s e os o again)
+      → RunNarrow (suc c) (onward (limitsWith limit) E s e os o again)
   onward-narrow c Q s e os (finished (state Γ₁ σ₁ n₁)) again k w g f =
       add-narrow c (step s e os (finished (state Γ₁ σ₁ n₁))) (again (state Γ₁ σ₁ n₁)) (f Γ₁ σ₁ n₁ (k .0) w g)
   onward-narrow c Q s e os (refused r ts (state Γ₁ σ₁ n₁)) again k w g f = (omega arith, g .1, g .0)
 
   run-narrow : (c : ℕ) (Γ : Board) (σ : Solutions) (n : ℕ) → Inv Plain Γ σ n → StateWhole (state Γ σ n) → n ≤ mostNumbers
-      → RunNarrow c (runFrom limits E c (state Γ σ n))
+      → RunNarrow c (runFrom (limitsWith limit) E c (state Γ σ n))
   unfolding runFrom
   run-narrow zero [] σ n i w l = (omega arith, tt, l)
   run-narrow zero (e ∷ Γ) σ n i w l = (omega arith, tt, l)
   run-narrow (suc c) [] σ n i w l = (omega arith, tt, l)
   run-narrow (suc c) (e ∷ Γ) σ n i w l =
       let j : Inv Plain Γ σ n = record { entries = i .entries .1; fine = i .fine; solutions = i .solutions } in
-      onward-narrow c (Explains Plain σ e) (state (e ∷ Γ) σ n) e (operations limits (rule E e) Γ σ n) (perform limits (rule E e) Γ σ n) (λ s. runFrom limits E c s)
-      (perform-kept Plain limits (Explains Plain σ e) (rule E e) Γ σ n j (rule-good Plain E hE Γ σ n j e (i .entries .0)))
-      (perform-whole limits (rule E e) Γ σ n (w .0 .1) (w .1) (rule-whole E wE e (w .0 .0)))
-      (perform-narrow (rule E e) Γ σ n l (rule-brief Γ σ n j l e (i .entries .0) (w .0 .0)))
+      onward-narrow c (Explains Plain σ e) (state (e ∷ Γ) σ n) e (operations (limitsWith limit) (rule E e) Γ σ n) (perform (limitsWith limit) (rule E e) Γ σ n) (λ s. runFrom (limitsWith limit) E c s)
+      (perform-kept Plain (limitsWith limit) (Explains Plain σ e) (rule E e) Γ σ n j (rule-good Plain E hE Γ σ n j e (i .entries .0)))
+      (perform-whole (limitsWith limit) (rule E e) Γ σ n (w .0 .1) (w .1) (rule-whole E wE e (w .0 .0)))
+      (perform-narrow limit low (rule E e) Γ σ n l (rule-brief Γ σ n j l e (i .entries .0) (w .0 .0)))
       (λ Γ₁ σ₁ n₁ i₁ w₁ l₁. run-narrow c Γ₁ σ₁ n₁ i₁ w₁ l₁)
 
 ---------------------------------------------------------------- a plan
-end-small : (d : End) → EndNarrow d → (endNumber d ≤ 25) × (endDetails d .0 ≤ 9999) × (endDetails d .1 ≤ mostWritten)
+end-small : (d : End) → EndNarrow d → (endNumber d ≤ 25) × (endDetails d .0 ≤ 9999) × (endDetails d .1 ≤ highestLimit)
 end-small accepted h = omega arith
 end-small ceiling h = omega arith
 end-small (refusedBy r ts) h = h
@@ -409,7 +410,7 @@ unfolding resultOf
 result-narrow c plain l (run ss d (state Γ σ n)) h =
     let e = end-small d (h .1) in
     record {
-      number = e .0;
+      number = omega (arith, e .0);
       line = omega arith;
       taken = omega (arith, h .0);
       fresh = h .2;
@@ -435,32 +436,42 @@ plan-short : (ls : List Triple) → length ls ≤ mostLines → All Short (planO
 unfolding planOf
 plan-short ls h = bindings-short 1 ls (declarations ls 0 0) h
 
-judge-narrow : (s : List ℕ) (c : ℕ) → c ≤ highestCeiling → check s ≡ Plan → Narrow (judge limits c (triples s) .answer)
+judge-narrow : (s : List ℕ) (c w : ℕ) → c ≤ highestCeiling → w ≤ highestLimit → check s ≡ Plan → Narrow (judge (limitsWith w) c (triples s) .answer)
 unfolding judge runOf checkType
-judge-narrow s c l e =
+judge-narrow s c w l hw e =
     let p : PlanOf = planOf (triples s) in
     let g = sheet-plan s e in
-    let w = plan-whole s e in
+    let pw = plan-whole s e in
     let first : Board = chk (p .term) (p .expected) ∷ [] in
-    result-narrow c (p .plain) l (runFrom limits (envOf p) c (state first [] 0))
-    (run-narrow (p .plain ≡ true) (envOf p) (plan-env p g) (w .0) (plan-short (triples s) (plan-few s e)) c first [] 0 (plan-inv p g) ((w .1, tt), tt) (omega arith))
+    result-narrow c (p .plain) l (runFrom (limitsWith w) (envOf p) c (state first [] 0))
+    (run-narrow w hw (p .plain ≡ true) (envOf p) (plan-env p g) (pw .0) (plan-short (triples s) (plan-few s e)) c first [] 0 (plan-inv p g) ((pw .1, tt), tt) (omega arith))
 
 ---------------------------------------------------------------- a whole call
-before-run : (number line : ℕ) → number ≤ 25 → line ≤ mostLines + 1 → Narrow (refusedAt number line)
+pub limit-good : (w : ℕ) → limitBad w ≡ false → (0 < w) × (w ≤ highestLimit)
+limit-good w e = go (eqb w 0) refl (ltb highestLimit w) refl e
+  where
+    go : (x : Bool) → eqb w 0 ≡ x → (y : Bool) → ltb highestLimit w ≡ y → (x || y) ≡ false → (0 < w) × (w ≤ highestLimit)
+    go true p y q r = absurd (true≢false r)
+    go false p true q r = absurd (true≢false r)
+    go false p false q r = (let n = eqb-false w 0 p in omega arith, ltb-false highestLimit w q)
+
+before-run : (number line : ℕ) → number ≤ 32 → line ≤ mostLines + 1 → Narrow (refusedAt number line)
 before-run number line h k =
     record { number = h; line = k; taken = omega arith; fresh = omega arith; detail1 = omega arith; detail2 = omega arith; plain = omega arith }
 
-check-narrow : (s : List ℕ) (c : ℕ) (b : Buffers) → c ≤ highestCeiling → (k : Check) → check s ≡ k → checkLine k ≤ mostLines + 1 → Narrow (byCheck s c b k .answer)
-check-narrow s c b l Plan e h = judge-narrow s c l e
-check-narrow s c b l Length e h = before-run 3 0 (omega arith) (omega arith)
-check-narrow s c b l (Misspelt i) e h = before-run 4 i (omega arith) h
-check-narrow s c b l (Unfit i) e h = before-run 5 i (omega arith) h
+check-narrow : (s : List ℕ) (c w : ℕ) (b : Buffers) → c ≤ highestCeiling → w ≤ highestLimit → (k : Check) → check s ≡ k → checkLine k ≤ mostLines + 1
+    → Narrow (byCheck s c w b k .answer)
+check-narrow s c w b l hw Plan e h = judge-narrow s c w l hw e
+check-narrow s c w b l hw Length e h = before-run 3 0 (omega arith) (omega arith)
+check-narrow s c w b l hw (Misspelt i) e h = before-run 4 i (omega arith) h
+check-narrow s c w b l hw (Unfit i) e h = before-run 5 i (omega arith) h
 
--- NARROW: for all bytes, every ceiling and any buffers
-pub narrow : (s : List ℕ) (c : ℕ) (b : Buffers) → Narrow (call s c b .answer)
+-- NARROW: for all bytes, every ceiling and limit, and any buffers
+pub narrow : (s : List ℕ) (c w : ℕ) (b : Buffers) → Narrow (call s c w b .answer)
 unfolding call
-narrow s c b =
+narrow s c w b =
     let N : Called → Type 0 = λ k. Narrow (k .answer) in
     cond-ind N (ltb highestCeiling c) (λ _. before-run 1 0 (omega arith) (omega arith))
-    (λ e. cond-ind N (tooShort b) (λ _. before-run 2 0 (omega arith) (omega arith))
-    (λ _. check-narrow s c b (ltb-false highestCeiling c e) (check s) refl (line-small s)))
+    (λ e. cond-ind N (limitBad w) (λ _. before-run 32 0 (omega arith) (omega arith))
+    (λ f. cond-ind N (tooShort w b) (λ _. before-run 2 0 (omega arith) (omega arith))
+    (λ _. check-narrow s c w b (ltb-false highestCeiling c e) (limit-good w f .1) (check s) refl (line-small s))))

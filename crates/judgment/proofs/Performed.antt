@@ -18,13 +18,13 @@ pub record Done : Type 0 where
   pub operations : List Operation
   pub outcome : Outcome
 
-abbrev also : Operation → Done → Done
+abbrev pub also : Operation → Done → Done
 also o d = record { operations = o ∷ d .operations; outcome = d .outcome }
 
-abbrev only : Outcome → Done
+abbrev pub only : Outcome → Done
 only o = record { operations = []; outcome = o }
 
-abbrev paired : List Operation → Outcome → Done
+abbrev pub paired : List Operation → Outcome → Done
 paired os o = record { operations = os; outcome = o }
 
 module _ (L : Limits) where

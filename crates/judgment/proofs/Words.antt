@@ -1,11 +1,11 @@
 -- How long the words of board, book and report are. Assumes nothing.
-use Prim.Native.Nat.{ℕ, _+_, _≤_}
+use Prim.Native.Nat.{ℕ, _+_, _*_, _≤_}
 use native.Mathlib.Omega.{arith}
 use mathlib.Core.Path.{_≡_}
 use mathlib.Core.List.{List, _++_}
 use lib.ListN.{length, replicate, length-append, length-replicate}
 use lib.Seq.{length-take-le}
-use Rattle.sizes.specs.Sizes.{mostNumbers, boardSize, bookSize, reportSize}
+use Rattle.sizes.specs.Sizes.{mostNumbers, boardSize, bookSize, reportStride}
 use Rattle.nodes.specs.Nodes.{Ty, words}
 use Rattle.judgment.specs.Solutions.{Solutions}
 use Rattle.judgment.specs.Result.{padded, pairsFrom, nodeWords, bookWords, reportWords, boardWords}
@@ -18,9 +18,9 @@ pub length-book : (σ : Solutions) → length (bookWords σ) ≡ bookSize
 unfolding bookWords
 length-book σ = length-padded bookSize (pairsFrom σ 0 mostNumbers ++ nodeWords σ)
 
-pub length-report : (t : Ty) → length (reportWords t) ≡ reportSize
+pub length-report : (w : ℕ) (t : Ty) → length (reportWords w t) ≡ reportStride * w
 unfolding reportWords
-length-report t = length-padded reportSize (words t)
+length-report w t = length-padded (reportStride * w) (words t)
 
 pub length-board : length boardWords ≡ boardSize
 unfolding boardWords

@@ -6,7 +6,7 @@ use mathlib.Core.List.{List, [], _∷_, _++_}
 use lib.Dec.{eqb, ltb}
 use lib.ListN.{length, take, replicate}
 use lib.Seq.{sets}
-use Rattle.sizes.specs.Sizes.{highestCeiling, mostEntries, mostNodes, mostNumbers, mostWritten, boardSize, bookBase, bookSize, reportSize}
+use Rattle.sizes.specs.Sizes.{highestCeiling, mostEntries, mostNodes, mostNumbers, highestLimit, usualLimit, boardSize, bookBase, bookSize, reportStride}
 use Rattle.nodes.specs.Nodes.{Ty, words}
 use Rattle.spelling.specs.declared.Triple.{Triple}
 use Rattle.grammar.specs.declared.Check.{Check}
@@ -109,7 +109,7 @@ runOf L c p = checkType L (envOf p) c (p .term) (p .expected)
 unfoldable pub judge : Limits → ℕ → List Triple → Result
 judge L c ls = let p = planOf ls in resultOf (p .plain) (runOf L c p)
 
--- document 01's limits, but for the nodes of one written-out type
+-- document 01's limits, but that a written-out type has at most w nodes, as the caller picks
 abbrev pub limitsWith : ℕ → Limits
 limitsWith w = record { entries = upTo mostEntries; nodes = upTo mostNodes; written = upTo w; numbers = upTo mostNumbers; solved = upTo mostNodes }
 
@@ -119,7 +119,7 @@ noLimits = record { entries = unlimited; nodes = unlimited; written = unlimited;
 
 -- document 01's limits
 abbrev pub limits : Limits
-limits = limitsWith mostWritten
+limits = limitsWith usualLimit
 
 -- ---- the buffers
 -- words, and 0 up to n of them
@@ -144,8 +144,9 @@ nodeWords (_≔_ j s ∷ σ) = words s ++ nodeWords σ
 unfoldable pub bookWords : Solutions → List ℕ
 bookWords σ = padded bookSize (pairsFrom σ 0 mostNumbers ++ nodeWords σ)
 
-unfoldable pub reportWords : Ty → List ℕ
-reportWords t = padded reportSize (words t)
+-- the report of a run with the limit w
+unfoldable pub reportWords : ℕ → Ty → List ℕ
+reportWords w t = padded (reportStride * w) (words t)
 
 unfoldable pub boardWords : List ℕ
 boardWords = replicate boardSize 0
@@ -165,13 +166,13 @@ abbrev pub refusedAt : ℕ → ℕ → Answer
 refusedAt number line = record { number = number; line = line; taken = 0; fresh = 0; detail1 = 0; detail2 = 0; plain = 0 }
 
 -- a longer buffer keeps its tail
-abbrev pub written : Buffers → Result → Called
-written b r = record {
+abbrev pub written : ℕ → Buffers → Result → Called
+written w b r = record {
   answer = r .answer;
   after = record {
     board = sets (b .board) 0 boardWords;
     book = sets (b .book) 0 (bookWords (r .solutions));
-    report = sets (b .report) 0 (reportWords (r .report));
+    report = sets (b .report) 0 (reportWords w (r .report));
   };
 }
 
@@ -179,17 +180,22 @@ written b r = record {
 abbrev pub refusedSheet : Check → Buffers → Called
 refusedSheet k b = record { answer = refusedAt (checkNumber k) (checkLine k); after = b }
 
-abbrev pub byCheck : List ℕ → ℕ → Buffers → Check → Called
-byCheck s c b Plan = written b (judge limits c (triples s))
-byCheck s c b Length = refusedSheet Length b
-byCheck s c b (Misspelt l) = refusedSheet (Misspelt l) b
-byCheck s c b (Unfit l) = refusedSheet (Unfit l) b
+abbrev pub byCheck : List ℕ → ℕ → ℕ → Buffers → Check → Called
+byCheck s c w b Plan = written w b (judge (limitsWith w) c (triples s))
+byCheck s c w b Length = refusedSheet Length b
+byCheck s c w b (Misspelt l) = refusedSheet (Misspelt l) b
+byCheck s c w b (Unfit l) = refusedSheet (Unfit l) b
 
-abbrev pub tooShort : Buffers → Bool
-tooShort b = ltb (length (b .board)) boardSize || (ltb (length (b .book)) bookSize || ltb (length (b .report)) reportSize)
+-- no limit that a caller may pick
+abbrev pub limitBad : ℕ → Bool
+limitBad w = eqb w 0 || ltb highestLimit w
 
--- 1 to 5 are tried in order, then the plan is run
-unfoldable pub call : List ℕ → ℕ → Buffers → Called
-call s c b =
+abbrev pub tooShort : ℕ → Buffers → Bool
+tooShort w b = ltb (length (b .board)) boardSize || (ltb (length (b .book)) bookSize || ltb (length (b .report)) (reportStride * w))
+
+-- a sheet with a ceiling and a limit: 1, 32 and 2 to 5 are tried in order, then the plan is run
+unfoldable pub call : List ℕ → ℕ → ℕ → Buffers → Called
+call s c w b =
     cond (ltb highestCeiling c) (record { answer = refusedAt 1 0; after = b })
-    (cond (tooShort b) (record { answer = refusedAt 2 0; after = b }) (byCheck s c b (check s)))
+    (cond (limitBad w) (record { answer = refusedAt 32 0; after = b })
+    (cond (tooShort w b) (record { answer = refusedAt 2 0; after = b }) (byCheck s c w b (check s))))

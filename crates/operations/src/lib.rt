@@ -17,7 +17,6 @@ use book::write_out;
 use judgment::TypeError;
 use judgment::error_details;
 use judgment::error_number;
-use sizes::MOST_WRITTEN;
 
 // Why a run was refused: the number of the error and its two details. The number 0 is none.
 pub struct Halt {
@@ -51,11 +50,6 @@ pub struct Run {
 pub struct Zonked {
     pub run: Run,
     pub nodes: usize,
-}
-
-impl Zonked {
-    // The nodes of one written-out type, which a run gives as the limit of its write-outs.
-    pub const NODES: usize = MOST_WRITTEN;
 }
 
 pub fn is_going(h: Halt) -> bool

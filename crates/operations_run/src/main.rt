@@ -2,7 +2,7 @@
 ghost use mathlib.Core.Path.{_≡_};
 ghost use mathlib.Core.List.{List};
 ghost use Rattle.spelling.specs.declared.Triple.{Triple};
-ghost use Rattle.sizes.specs.Sizes.{mostWritten, boardSize, bookSize, reportSize};
+ghost use Rattle.sizes.specs.Sizes.{usualLimit, boardSize, bookSize, usualReport};
 ghost use Prim.Native.Nat.{_*_, _≤_};
 ghost use lib.ListN.{length};
 ghost use Rattle.operations.specs.State.{WellFormed, Does};
@@ -29,11 +29,12 @@ use operations::solve_evar;
 use operations::zonk;
 use sizes::BOARD_SIZE;
 use sizes::BOOK_SIZE;
-use sizes::REPORT_SIZE;
+use sizes::USUAL_LIMIT;
+use sizes::USUAL_REPORT;
 
 fn script(board: &mut [u32], book: &mut [u32], report: &mut [u32], c: Run) -> Run
-    requires { ⌜ WellFormed (now board) (now book) c × (2 * mostWritten ≤ length (now report)) ⌝ }
-    ensures { λ r. ⌜ ((ls : List Triple) → Does mostWritten ls (now (board .entry)) (now (book .entry)) (now (report .entry)) c scriptRule (now (board .exit)) (now (book .exit)) (now (report .exit)) r) ⌝ }
+    requires { ⌜ WellFormed (now board) (now book) c × (2 * usualLimit ≤ length (now report)) ⌝ }
+    ensures { λ r. ⌜ ((ls : List Triple) → Does usualLimit ls (now (board .entry)) (now (book .entry)) (now (report .entry)) c scriptRule (now (board .exit)) (now (book .exit)) (now (report .exit)) r) ⌝ }
 {
     let a = c.fresh;
     let c1 = fresh_evar(c);
@@ -43,7 +44,7 @@ fn script(board: &mut [u32], book: &mut [u32], report: &mut [u32], c: Run) -> Ru
     let c3 = push_tvar(board, c2, 17, a);
     let c4 = push_sub(board, c3, &types, 0, 1, &types, 2, 3);
     let c5 = solve_evar(book, c4, a, &types, 2, 3);
-    let z = zonk(book, c5, &types, 0, 1, report, 0, Zonked::NODES);
+    let z = zonk(book, c5, &types, 0, 1, report, 0, USUAL_LIMIT as usize);
     let c6 = z.run;
     let n = z.nodes;
     push_var(board, c6, 10, report, 0, n)
@@ -94,11 +95,11 @@ fn show(board: &[u32], book: &[u32], report: &[u32], c: Run) {
 }
 
 fn run(board: &mut [u32], book: &mut [u32], report: &mut [u32])
-    requires { ⌜ (boardSize ≤ length (now board)) × (bookSize ≤ length (now book)) × (reportSize ≤ length (now report)) ⌝ }
+    requires { ⌜ (boardSize ≤ length (now board)) × (bookSize ≤ length (now book)) × (usualReport ≤ length (now report)) ⌝ }
 {
     clear_board(board);
     clear_book(book);
-    clear_words(report, 0, REPORT_SIZE);
+    clear_words(report, 0, USUAL_REPORT);
     let start = Run {
         taken: 0,
         fresh: 0,
@@ -117,6 +118,6 @@ fn run(board: &mut [u32], book: &mut [u32], report: &mut [u32])
 fn main() {
     let mut board = [7u32; BOARD_SIZE + 2];
     let mut book = [7u32; BOOK_SIZE + 2];
-    let mut report = [7u32; REPORT_SIZE + 1];
+    let mut report = [7u32; USUAL_REPORT + 1];
     run(&mut board, &mut book, &mut report);
 }

@@ -1,4 +1,4 @@
-// Reads a sheet on standard input, checks its plan with the ceiling 10,000, and writes out the seven numbers.
+// Reads a sheet on standard input, checks its plan with the ceiling 10,000 and the limit 1,024, and writes out the seven numbers.
 ghost use Prim.Native.Nat.{_≤_};
 ghost use lib.ListN.{length};
 use checker::check_type;
@@ -11,8 +11,9 @@ use libc::STDOUT_FILENO;
 use sizes::BOARD_SIZE;
 use sizes::BOOK_SIZE;
 use sizes::HIGHEST_CEILING;
-use sizes::REPORT_SIZE;
 use sizes::SHEET_BYTES;
+use sizes::USUAL_LIMIT;
+use sizes::USUAL_REPORT;
 
 fn write_out(text: &[u8]) {
     if !write_all(STDOUT_FILENO, text) {
@@ -35,7 +36,14 @@ fn check_input(
             let _told = write_all(STDERR_FILENO, b"plan_check: standard input was not read\n");
         }
         Got::To(n) => {
-            let answer = check_type(&sheet[..n], HIGHEST_CEILING, board, book, report);
+            let answer = check_type(
+                &sheet[..n],
+                HIGHEST_CEILING,
+                USUAL_LIMIT,
+                board,
+                book,
+                report,
+            );
             let end = write_answer(text, answer);
             write_out(&text[..end]);
         }
@@ -46,7 +54,7 @@ fn main() {
     let mut sheet = [0u8; SHEET_BYTES + 1];
     let mut board = [0u32; BOARD_SIZE];
     let mut book = [0u32; BOOK_SIZE];
-    let mut report = [0u32; REPORT_SIZE];
+    let mut report = [0u32; USUAL_REPORT];
     let mut text = [0u8; 71];
     check_input(&mut sheet, &mut board, &mut book, &mut report, &mut text);
 }

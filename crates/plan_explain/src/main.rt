@@ -1,8 +1,8 @@
-// Reads a sheet on standard input, checks its plan with the ceiling 10,000, and says in words what came out.
+// Reads a sheet on standard input, checks its plan with the ceiling 10,000 and the limit 1,024, and says in words what came out.
 ghost use mathlib.Core.Path.{_≡_};
 ghost use Prim.Native.Nat.{_≤_};
 ghost use lib.ListN.{length};
-ghost use Rattle.sizes.specs.Sizes.{reportSize};
+ghost use Rattle.sizes.specs.Sizes.{usualReport};
 ghost use Rattle.plan_explain.specs.Told.{Told};
 use checker::check_type;
 use input::Got;
@@ -14,8 +14,9 @@ use sentences::explain;
 use sizes::BOARD_SIZE;
 use sizes::BOOK_SIZE;
 use sizes::HIGHEST_CEILING;
-use sizes::REPORT_SIZE;
 use sizes::SHEET_BYTES;
+use sizes::USUAL_LIMIT;
+use sizes::USUAL_REPORT;
 
 // What is to be said of a sheet, at the front of `text`. Answers how many bytes that is.
 fn tell(
@@ -25,10 +26,10 @@ fn tell(
     report: &mut [u32],
     text: &mut [u8],
 ) -> usize
-    requires { ⌜ (length (now report) ≡ reportSize) × (48000 ≤ length (now text)) ⌝ }
+    requires { ⌜ (length (now report) ≡ usualReport) × (48000 ≤ length (now text)) ⌝ }
     ensures { λ r. ⌜ Told (now (sheet .entry)) (record { board = now (board .entry); book = now (book .entry); report = now (report .entry) }) (now (text .exit)) r ⌝ }
 {
-    let answer = check_type(sheet, HIGHEST_CEILING, board, book, report);
+    let answer = check_type(sheet, HIGHEST_CEILING, USUAL_LIMIT, board, book, report);
     explain(text, answer, report)
 }
 
@@ -46,7 +47,7 @@ fn tell_input(
     report: &mut [u32],
     text: &mut [u8],
 )
-    requires { ⌜ (length (now report) ≡ reportSize) × (48000 ≤ length (now text)) ⌝ }
+    requires { ⌜ (length (now report) ≡ usualReport) × (48000 ≤ length (now text)) ⌝ }
 {
     match fill(sheet, 0) {
         Got::Failed => {
@@ -66,7 +67,7 @@ fn main() {
     let mut sheet = [0u8; SHEET_BYTES + 1];
     let mut board = [0u32; BOARD_SIZE];
     let mut book = [0u32; BOOK_SIZE];
-    let mut report = [0u32; REPORT_SIZE];
+    let mut report = [0u32; USUAL_REPORT];
     let mut text = [0u8; 48000];
     tell_input(&mut sheet, &mut board, &mut book, &mut report, &mut text);
 }

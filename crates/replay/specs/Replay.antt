@@ -3,7 +3,7 @@ use mathlib.Core.Path.{_≡_}
 use mathlib.Core.List.{List}
 use Prim.Native.Nat.{ℕ, _+_, _*_, _%_, _^_, _≤_}
 use lib.ListN.{length, take, drop}
-use Rattle.sizes.specs.Sizes.{mostLines, lineLength, mostNodes, boardSize, bookSize, reportSize}
+use Rattle.sizes.specs.Sizes.{mostLines, lineLength, mostNodes, boardSize, bookSize, usualReport}
 use Rattle.replay.specs.declared.Plan.{Plan}
 use Rattle.replay.specs.declared.Plan.the-variants as plan
 use Rattle.replay.specs.declared.Solved.{Solved}
@@ -23,7 +23,7 @@ abbrev pub reportFrom : ℕ
 reportFrom = bookFrom + bookSize + 8
 
 abbrev pub sevenFrom : ℕ
-sevenFrom = reportFrom + reportSize + 4
+sevenFrom = reportFrom + usualReport + 4
 
 abbrev pub wanted : ℕ
 wanted = sevenFrom + 7
@@ -37,7 +37,7 @@ pub record Room (sheet want : List ℕ) : Type 0 where
 pub record Wanted (seven board book report want : List ℕ) : Type 0 where
   pub board-wanted : board ≡ take bookFrom want
   pub book-wanted : book ≡ take (bookSize + 8) (drop bookFrom want)
-  pub report-wanted : report ≡ take (reportSize + 4) (drop reportFrom want)
+  pub report-wanted : report ≡ take (usualReport + 4) (drop reportFrom want)
   pub seven-wanted : seven ≡ take 7 (drop sevenFrom want)
 
 -- a sheet that was read has at most one line too many

@@ -1,4 +1,4 @@
-// Replays recorded plans from standard input against the checker, and counts the answers that differ.
+// Replays recorded plans from standard input against the checker with the limit 1,024, and counts the answers that differ.
 // A record is a line of decimal numbers, a space between two: reference/src/record.rs has its format.
 ghost use mathlib.Core.Path.{_≡_};
 ghost use mathlib.Core.Bool.{true};
@@ -25,8 +25,8 @@ use sizes::BOOK_SIZE;
 use sizes::LINE_LENGTH;
 use sizes::MOST_LINES;
 use sizes::MOST_NODES;
-use sizes::REPORT_NODES;
-use sizes::REPORT_SIZE;
+use sizes::USUAL_LIMIT;
+use sizes::USUAL_REPORT;
 use spelling::Triple;
 use std::num::wrapping_add_u64;
 
@@ -39,7 +39,7 @@ const BOOK: usize = BOARD_SIZE + 16;
 
 const REPORT: usize = BOOK + BOOK_SIZE + 8;
 
-const SEVEN: usize = REPORT + REPORT_SIZE + 4;
+const SEVEN: usize = REPORT + USUAL_REPORT + 4;
 
 const WANTED: usize = SEVEN + 7;
 
@@ -185,7 +185,7 @@ fn read_report(line: &[u8], at: usize, want: &mut [u32]) -> Next
         return Next::Bad;
     };
     let n = wide(count);
-    if n > REPORT_NODES {
+    if n > USUAL_REPORT / 2 {
         return Next::Bad;
     }
     read_words(line, next, want, REPORT, 2 * n)
@@ -253,7 +253,7 @@ fn read_run(line: &[u8], at: usize, want: &mut [u32]) -> Next
 {
     clear_words(want, 0, BOARD_SIZE);
     clear_words(want, BOOK, BOOK_SIZE);
-    clear_words(want, REPORT, REPORT_SIZE);
+    clear_words(want, REPORT, USUAL_REPORT);
     let Next::At(next) = read_report(line, at, want) else {
         return Next::Bad;
     };
@@ -411,7 +411,7 @@ fn is_same(
 ) -> bool
     requires { ⌜ wanted ≤ length (now want) ⌝ }
 {
-    let answer = check_type(sheet, ceiling, board, book, report);
+    let answer = check_type(sheet, ceiling, USUAL_LIMIT, board, book, report);
     let seven = seven_of(answer);
     is_wanted(&seven, board, book, report, want)
 }
@@ -666,7 +666,7 @@ fn main() {
     let mut sheet = [0u8; LINE_LENGTH * (MOST_LINES + 1)];
     let mut board = [0u32; BOARD_SIZE + 16];
     let mut book = [0u32; BOOK_SIZE + 8];
-    let mut report = [0u32; REPORT_SIZE + 4];
+    let mut report = [0u32; USUAL_REPORT + 4];
     let mut want = [0u32; WANTED];
     replay_all(
         &mut text,

@@ -95,7 +95,7 @@ abbrev pub boardFull : ℕ → ℕ → List ℕ
 boardFull = ended "The plan is not decided: the board would pass 512 entries or 4,096 type nodes. "
 
 abbrev pub typeTooLong : ℕ → ℕ → List ℕ
-typeTooLong = ended "The plan is not decided: a type written out would pass 1,024 nodes. "
+typeTooLong = ended "The plan is not decided: a type written out would have more nodes than the limit. "
 
 abbrev pub noFreshNumber : ℕ → ℕ → List ℕ
 noFreshNumber = ended "The plan is not decided: a 1,001st fresh number would be needed. "
@@ -103,17 +103,24 @@ noFreshNumber = ended "The plan is not decided: a 1,001st fresh number would be 
 abbrev pub solutionsFull : ℕ → ℕ → List ℕ
 solutionsFull = ended "The plan is not decided: the solutions would pass 4,096 nodes. "
 
+-- ---- what a call may not ask for: 32
+abbrev pub limitOutOfRange : List ℕ
+limitOutOfRange = bytes "The plan was not checked: the limit for a type written out is 0 or above 4,096.\n"
+
 abbrev pub otherNumber : ℕ → List ℕ
 otherNumber n = numbered "The result " n " has no meaning here.\n"
 
 -- ---- an answer, with the words of its report
+abbrev pub ofCall : ℕ → List ℕ
+ofCall n = cond (eqb n 32) limitOutOfRange (otherNumber n)
+
 unfoldable pub ofLimit : Answer → List ℕ
 ofLimit a =
     cond (eqb (a .number) 21) (ceilingReached (a .taken) (a .fresh))
     (cond (eqb (a .number) 22) (boardFull (a .taken) (a .fresh))
     (cond (eqb (a .number) 23) (typeTooLong (a .taken) (a .fresh))
     (cond (eqb (a .number) 24) (noFreshNumber (a .taken) (a .fresh))
-    (cond (eqb (a .number) 25) (solutionsFull (a .taken) (a .fresh)) (otherNumber (a .number))))))
+    (cond (eqb (a .number) 25) (solutionsFull (a .taken) (a .fresh)) (ofCall (a .number))))))
 
 unfoldable pub ofPlan : Answer → List ℕ → List ℕ
 ofPlan a ws =

@@ -5,7 +5,7 @@ ghost use Prim.Native.Nat.{_≤_};
 ghost use lib.Dec.{eqb};
 ghost use lib.ListN.{length};
 ghost use Rattle.wording.specs.Texts.{bytes, numberText, nameText, Wrote};
-ghost use Rattle.sentences.specs.Explained.{counts, accepted, ceilingTooHigh, bufferTooShort, badLength, misspelt, unfit, unboundVariable, unboundConstructor, notFunction, arity, subtyping, unification, instantiation, intrinsicArity, unknownIntrinsic, ceilingReached, boardFull, typeTooLong, noFreshNumber, solutionsFull, otherNumber, ofLimit, ofPlan, explained};
+ghost use Rattle.sentences.specs.Explained.{counts, accepted, ceilingTooHigh, bufferTooShort, badLength, misspelt, unfit, unboundVariable, unboundConstructor, notFunction, arity, subtyping, unification, instantiation, intrinsicArity, unknownIntrinsic, ceilingReached, boardFull, typeTooLong, noFreshNumber, solutionsFull, limitOutOfRange, otherNumber, ofCall, ofLimit, ofPlan, explained};
 use judgment::Answer;
 use wording::put;
 use wording::put_either;
@@ -272,7 +272,7 @@ fn say_type_too_long(out: &mut [u8], taken: u32, fresh: u32) -> usize
 {
     put_ended(
         out,
-        b"The plan is not decided: a type written out would pass 1,024 nodes. ",
+        b"The plan is not decided: a type written out would have more nodes than the limit. ",
         taken,
         fresh,
     )
@@ -306,6 +306,25 @@ fn say_other(out: &mut [u8], number: u32) -> usize
     put_numbered(out, b"The result ", number, b" has no meaning here.\n")
 }
 
+fn say_limit_out_of_range(out: &mut [u8]) -> usize
+    ensures { λ r. ⌜ Wrote (now (out .entry)) 0 limitOutOfRange (now (out .exit)) r ⌝ }
+{
+    put(
+        out,
+        0,
+        b"The plan was not checked: the limit for a type written out is 0 or above 4,096.\n",
+    )
+}
+
+fn explain_call(out: &mut [u8], number: u32) -> usize
+    ensures { λ r. ⌜ Wrote (now (out .entry)) 0 (ofCall number) (now (out .exit)) r ⌝ }
+{
+    if number == 32 {
+        return say_limit_out_of_range(out);
+    }
+    say_other(out, number)
+}
+
 fn explain_limit(out: &mut [u8], a: Answer) -> usize
     ensures { λ r. ⌜ Wrote (now (out .entry)) 0 (ofLimit a) (now (out .exit)) r ⌝ }
 {
@@ -324,7 +343,7 @@ fn explain_limit(out: &mut [u8], a: Answer) -> usize
     if a.number == 25 {
         return say_solutions_full(out, a.taken, a.fresh);
     }
-    say_other(out, a.number)
+    explain_call(out, a.number)
 }
 
 fn explain_plan(out: &mut [u8], a: Answer, report: &[u32]) -> usize

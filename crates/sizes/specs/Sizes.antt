@@ -1,4 +1,4 @@
--- Document 01's limits and the sizes of sheet and buffers; src/lib.rt has constants of the same names. Assumes nothing: these are definitions.
+-- The limits and the sizes of sheet and buffers; src/lib.rt has constants of the same names. Assumes nothing: these are definitions.
 use Prim.Native.Nat.{ℕ, _+_, _*_}
 
 -- ---- the sheet: its lines, and the bytes of one and of all
@@ -27,9 +27,12 @@ mostNodes = 4096
 abbrev pub mostNumbers : ℕ
 mostNumbers = 1000
 
--- nodes of one written-out type
-abbrev pub mostWritten : ℕ
-mostWritten = 1024
+-- nodes of one written-out type: the limit that a caller may pick at most, and document 01's, which the programs pick
+abbrev pub highestLimit : ℕ
+highestLimit = mostNodes
+
+abbrev pub usualLimit : ℕ
+usualLimit = 1024
 
 -- ---- words of a type, two a node
 abbrev pub typeWords : ℕ
@@ -58,9 +61,9 @@ bookBase = bookStride * mostNumbers
 abbrev pub bookSize : ℕ
 bookSize = bookBase + typeWords
 
--- ---- the report: two written-out types
-abbrev pub reportNodes : ℕ
-reportNodes = 2 * mostWritten
+-- ---- the report: so many words a node of the limit, two written-out types of two words a node; and the programs' report
+abbrev pub reportStride : ℕ
+reportStride = 4
 
-abbrev pub reportSize : ℕ
-reportSize = 2 * reportNodes
+abbrev pub usualReport : ℕ
+usualReport = reportStride * usualLimit

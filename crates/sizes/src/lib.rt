@@ -1,4 +1,4 @@
-// Document 01's limits and the sizes of sheet and buffers; specs/Sizes.antt has definitions of the same names.
+// The limits and the sizes of sheet and buffers; specs/Sizes.antt has definitions of the same names.
 
 // Lines of a sheet, and the bytes of one and of all.
 pub const MOST_LINES: usize = 2000;
@@ -19,8 +19,10 @@ pub const MOST_NODES: usize = 4096;
 // Fresh numbers.
 pub const MOST_NUMBERS: usize = 1000;
 
-// Nodes of one written-out type.
-pub const MOST_WRITTEN: usize = 1024;
+// Nodes of one written-out type: the limit that a caller may pick at most, and document 01's, which the programs pick.
+pub const HIGHEST_LIMIT: usize = MOST_NODES;
+
+pub const USUAL_LIMIT: u32 = 1024;
 
 // Words of a type, two a node.
 pub const TYPE_WORDS: usize = 2 * MOST_NODES;
@@ -39,7 +41,7 @@ pub const BOOK_BASE: usize = BOOK_STRIDE * MOST_NUMBERS;
 
 pub const BOOK_SIZE: usize = BOOK_BASE + TYPE_WORDS;
 
-// The report: two written-out types.
-pub const REPORT_NODES: usize = 2 * MOST_WRITTEN;
+// The report: so many words a node of the limit, two written-out types of two words a node; and the programs' report.
+pub const REPORT_STRIDE: usize = 4;
 
-pub const REPORT_SIZE: usize = 2 * REPORT_NODES;
+pub const USUAL_REPORT: usize = REPORT_STRIDE * (USUAL_LIMIT as usize);

@@ -43,6 +43,11 @@ pub fn set_limits(limits: [usize; 5]) {
     }
 }
 
+/// The limit on one written-out type alone.
+pub fn set_written(limit: usize) {
+    LIMITS[2].store(limit, Relaxed);
+}
+
 fn limit(at: usize) -> usize {
     LIMITS[at].load(Relaxed)
 }

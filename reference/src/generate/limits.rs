@@ -3,7 +3,7 @@
 
 use super::types::{app, arrow, forall, sized, Ty, INT};
 use super::Made;
-use crate::oracle::{run_limited, Run, MOST_STEPS};
+use crate::oracle::{run_limited, under_limit, Run, LIMIT, MOST_LIMIT, MOST_STEPS};
 use crate::sheet::{line, read_plan, Line};
 use std::collections::BTreeMap;
 
@@ -12,6 +12,8 @@ use std::collections::BTreeMap;
 pub struct Found {
     pub title: String,
     pub made: Made,
+    /// On one written-out type.
+    pub limit: u32,
 }
 
 type Lines = Vec<Line>;
@@ -22,13 +24,32 @@ pub fn plans() -> Vec<Found> {
         entries(),
         board_nodes(),
         arity_at_full_board(),
-        written_expected(),
+        written_expected(LIMIT),
         written_by_copying(),
         numbers(),
         solved(),
         solved_at_full_board(),
     ]
     .concat()
+}
+
+/// Limits on a written-out type that a caller picks, met and passed by one.
+pub fn picked() -> Vec<Found> {
+    let low = [1, 2, 3, 64].map(|limit| under_limit(limit, || written_declared(limit)));
+    let above = under_limit(LIMIT + 1, || written_expected(LIMIT + 1));
+    [low.concat(), above, highest()].concat()
+}
+
+/// The highest limit: a sheet has too few lines for such a type, and the book has
+/// room for one solution of so many nodes at most.
+pub fn highest() -> Vec<Found> {
+    under_limit(MOST_LIMIT, || {
+        let compared = Found {
+            limit: MOST_LIMIT,
+            ..found("15: 4,096 and 1,800 nodes", compared_late())
+        };
+        [written_late(MOST_LIMIT), vec![compared]].concat()
+    })
 }
 
 fn run(lines: &[Line]) -> Run {
@@ -43,6 +64,7 @@ fn found(title: impl Into<String>, lines: Lines) -> Found {
             ceiling: MOST_STEPS,
             lines,
         },
+        limit: LIMIT,
     }
 }
 
@@ -196,16 +218,33 @@ fn arity_at_full_board() -> Vec<Found> {
 }
 
 /// An unknown is given the whole expected type.
-fn written_expected() -> Vec<Found> {
+fn written_expected(limit: u32) -> Vec<Found> {
     let context = [(40, forall(10, Ty::Var(10)))];
-    let family = (1020..1030).map(|size| sheet(&[], &context, sized(size), vec![line(21, 40, 0)]));
-    edge(
-        "23 expected",
-        23,
-        limited::WRITTEN,
-        |run| run.peaks.written,
-        family,
-    )
+    let family = around(limit).map(|size| sheet(&[], &context, sized(size), vec![line(21, 40, 0)]));
+    written("23 expected", limit, family)
+}
+
+/// A variable of the expected type.
+fn written_declared(limit: u32) -> Vec<Found> {
+    let family = around(limit).map(|size| {
+        let context = [(40, sized(size))];
+        sheet(&[], &context, sized(size), vec![line(21, 40, 0)])
+    });
+    written("23 declared", limit, family)
+}
+
+fn around(limit: u32) -> std::ops::Range<usize> {
+    let limit = limit as usize;
+    limit.saturating_sub(4).max(1)..limit + 6
+}
+
+fn written(title: &str, limit: u32, family: impl Iterator<Item = Lines>) -> Vec<Found> {
+    let peak = |run: &Run| run.peaks.written;
+    let found = edge(title, 23, limit as usize, peak, family);
+    found
+        .into_iter()
+        .map(|found| Found { limit, ..found })
+        .collect()
 }
 
 /// A type that grows by its solutions: n41 makes 32 copies of its argument,
@@ -225,8 +264,47 @@ fn written_by_copying() -> Vec<Found> {
         let applied = applied.flat_map(|name| [line(24, 0, 0), line(21, name, 0)]);
         sheet(&[], &context, INT, applied.chain([seven()]).collect())
     });
-    let peak = |run: &Run| run.peaks.written;
-    edge("23 copying", 23, limited::WRITTEN, peak, family)
+    written("23 copying", LIMIT, family)
+}
+
+/// The nodes of a solution that is copied, and how often.
+const COPIED: usize = 61;
+const COPIES: usize = 66;
+
+/// n30 with two arguments.
+fn in_n30(first: Ty, second: Ty) -> Ty {
+    app(app(Ty::Con(30), first), second)
+}
+
+/// The variables of `late`: n40 takes a type and copies of it, with a few nodes
+/// more, and n41 knows that type.
+fn late_context(more: usize) -> [(u32, Ty); 2] {
+    let copies = [vec![Ty::Var(10); COPIES], vec![INT; more]].concat();
+    let copied = Ty::Product(vec![INT; COPIED - 1]);
+    [
+        (40, forall(10, in_n30(Ty::Var(10), Ty::Product(copies)))),
+        (41, forall(11, in_n30(copied, Ty::Var(11)))),
+    ]
+}
+
+/// A term whose type grows after it was compared: n40 or n41.
+fn late() -> Lines {
+    let less = [line(29, 0, 0), line(28, 5, 0), seven(), seven()];
+    [&less[..], &[line(21, 40, 0), line(21, 41, 0)]].concat()
+}
+
+/// It is applied, which it can't be.
+fn written_late(limit: u32) -> Vec<Found> {
+    let family = (0..10).map(|more| {
+        let term = [vec![line(24, 0, 0)], late(), vec![seven()]].concat();
+        sheet(&[], &late_context(more), INT, term)
+    });
+    written("23 late", limit, family)
+}
+
+/// 4,096 nodes beside an expected type that takes most of a sheet.
+fn compared_late() -> Lines {
+    sheet(&[], &late_context(5), sized(1800), late())
 }
 
 /// A sum of so many sevens that is as flat as can be: a number for each line.

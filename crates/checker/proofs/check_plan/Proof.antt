@@ -1,9 +1,10 @@
-use mathlib.Core.Path.{_≡_, _∙_}
+use mathlib.Core.Path.{_≡_, refl, _∙_}
 use Prim.Native.Nat.{_+_, _*_, _-_, _≤_, _<_}
 use native.Mathlib.Omega.{arith}
 use denote.Ref.{now}
+use Rattle.judgment.specs.Result.{limitsWith}
 use Rattle.checker.proofs.Starting.{start-stands, start-told}
-use Rattle.checker.proofs.Finishing.{end-small, whole-board, ran}
+use Rattle.checker.proofs.Finishing.{end-within, end-clears, whole-board, ran}
 use borrow.Author.Needs.{needs}
 use Rattle.checker.proofs.check_plan.Statement.{statement}
 use Rattle.checker.proofs.check_plan.Tie as tie
@@ -20,6 +21,7 @@ solve-requires c κs =
     let p = c .before .before .before .before .before .before .before .before .before .before .before .before .before .before .before .before .before .before .before .before .before .before .before .before .before .before .before .pre in
     let x = p .report in
     let y = p .lent .type in
+    let n = p .limited in
     let k = c .before .before .before .before .before .before .before .before .before .before .before .before .before .before .start .kept .1 .1 .1 .0 in
     let st = start-stands _ _ _ _ (p .plan) (c .before .before .before .before .before .before .before .before .before .before .before .before .before .before .start .ensures) in
     (st .0, st .1, omega arith, omega arith, record { type = omega arith; left = p .lent .left; room = p .lent .room })
@@ -32,18 +34,10 @@ clear-board-requires c κs =
     omega arith
 
 sub-clear-words : tie.Need-sub-clear-words
-sub-clear-words c =
-    let e = c .before .report-end .ensures in
-    let x = end-small (c .before .before .before .before .before .before .before .before .before .before .before .before .before .before .before .before .before .before .before .before .before .before .before .solve .result .halt) in
-    omega arith
+sub-clear-words c = end-within _ (c .before .report-end .ensures)
 
 clear-words-requires : tie.Need-clear-words-requires
-clear-words-requires c κs =
-    let e = c .before .report-end .ensures in
-    let x = end-small (c .before .before .before .before .before .before .before .before .before .before .before .before .before .before .before .before .before .before .before .before .before .before .before .solve .result .halt) in
-    let y = c .before .before .before .before .before .before .before .before .before .before .before .before .before .before .before .before .before .before .before .before .before .before .before .before .before .before .before .before .before .before .before .before .before .before .before .before .before .before .before .before .before .before .before .before .before .before .before .before .before .before .before .pre .report in
-    let z = c .before .before .before .before .before .before .before .before .before .before .before .before .before .before .before .before .before .before .before .before .before .before .before .solve .kept .1 .1 .0 in
-    omega arith
+clear-words-requires c κs = end-clears _ (c .before .report-end .ensures) refl
 
 same-length : tie.Need-same-length
 same-length c = c .before .before .before .before .before .before .before .before .before .before .clear-board .kept .0 ∙ c .before .before .before .before .before .before .before .before .before .before .before .before .before .before .before .before .before .before .before .before .before .before .before .before .before .before .before .before .solve .kept .0 ∙ c .before .before .before .before .before .before .before .before .before .before .before .before .before .before .before .before .before .before .before .before .before .before .before .before .before .before .before .before .before .before .before .before .before .before .before .before .before .before .before .before .before .before .before .start .kept .0
@@ -65,7 +59,7 @@ returns c =
     let lk = c .before .before .before .before .before .before .before .before .before .before .before .before .before .before .before .before .before .before .before .before .before .before .before .before .before .before .before .before .solve .kept .1 .0 ∙ c .before .before .before .before .before .before .before .before .before .before .before .before .before .before .before .before .before .before .before .before .before .before .before .before .before .before .before .before .before .before .before .before .before .before .before .before .before .before .before .before .before .before .before .start .kept .1 .0 ∙ p .book in
     let lr = c .before .before .before .before .before .before .before .before .before .before .before .before .before .before .before .before .before .before .before .before .before .before .before .before .before .before .before .before .solve .kept .1 .1 .0 ∙ p .report in
     let so = c .before .before .before .before .before .before .before .before .before .before .before .before .before .before .before .before .before .before .before .before .before .before .before .before .before .before .before .before .solve .ensures in
-    ran (now (a .s)) (a .ceiling) _ (c .before .before .before .before .before .before .before .before .before .before .before .before .before .before .before .before .before .before .before .before .before .before .before .before .before .before .before .before .solve .result) (so .0, start-told (now (a .s)) _ _ _ (a .ceiling) (c .before .before .before .before .before .before .before .before .before .before .before .before .before .before .before .before .before .before .before .before .before .before .before .before .before .before .before .before .before .before .before .before .before .before .before .before .before .before .before .before .before .before .before .start .ensures) ∙ so .1) lk lr (whole-board _ _ lb (c .before .before .before .before .before .before .before .before .before .before .clear-board .ensures)) (c .before .before .before .before .before .before .report-end .ensures) (c .before .before .before .before .clear-words .ensures) (c .before .is-plain .ensures) (c .answer .ensures)
+    ran (now (a .s)) (a .ceiling) (a .limit) _ (c .before .before .before .before .before .before .before .before .before .before .before .before .before .before .before .before .before .before .before .before .before .before .before .before .before .before .before .before .solve .result) (so .0, start-told (limitsWith (a .limit)) (now (a .s)) _ _ _ (a .ceiling) (c .before .before .before .before .before .before .before .before .before .before .before .before .before .before .before .before .before .before .before .before .before .before .before .before .before .before .before .before .before .before .before .before .before .before .before .before .before .before .before .before .before .before .before .start .ensures) ∙ so .1) lk lr (whole-board _ _ lb (c .before .before .before .before .before .before .before .before .before .before .clear-board .ensures)) refl (c .before .before .before .before .before .before .report-end .ensures) (c .before .before .before .before .clear-words .ensures) (c .before .is-plain .ensures) (c .answer .ensures)
 
 pub check-plan-spec : {M : Type 1} → statement M
 check-plan-spec =

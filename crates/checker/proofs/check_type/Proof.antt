@@ -5,7 +5,7 @@ use native.Mathlib.Omega.{arith}
 use denote.Ref.{now}
 use Rattle.sizes.specs.Sizes.{highestCeiling}
 use Rattle.judgment.specs.Result.{Buffers}
-use Rattle.checker.proofs.Answering.{high-ceiling, short-buffer, refused-by, front-asks, answered, line-word}
+use Rattle.checker.proofs.Answering.{high-ceiling, bad-limit, low-limit, short-buffer, refused-by, front-asks, answered, line-word}
 use borrow.Author.Needs.{needs}
 use Rattle.checker.proofs.check_type.Statement.{statement}
 use Rattle.checker.proofs.check_type.Tie as tie
@@ -13,62 +13,83 @@ use Rattle.checker.proofs.check_type.Tie as tie
 returns : tie.Need-returns
 returns c =
     let a = c .before .before .before .before .before .before .args in
-    let s = now (a .sheet) in
     let B : Buffers = record { board = now (a .board); book = now (a .book); report = now (a .report) } in
-    high-ceiling s (a .ceiling) B (c .before .if1 .taken) (c .refused .ensures)
+    high-ceiling (now (a .sheet)) (a .ceiling) (a .limit) B (c .before .if1 .taken) (c .refused .ensures)
 
 returns-2 : tie.Need-returns-2
 returns-2 c =
-    let a = c .before .before .before .before .before .before .before .before .before .before .before .args in
-    let s = now (a .sheet) in
+    let a = c .before .before .before .before .before .before .before .before .args in
     let B : Buffers = record { board = now (a .board); book = now (a .book); report = now (a .report) } in
-    let l = c .before .before .before .before .before .before .if1 .left in
-    short-buffer s (a .ceiling) B (omega arith) (c .before .before .too-short .ensures) (c .before .if2 .taken) (c .refused2 .ensures)
+    let l = c .before .before .before .if1 .left in
+    let h : a .ceiling ≤ highestCeiling = omega arith in
+    bad-limit (now (a .sheet)) (a .ceiling) (a .limit) B h (c .before .before .limit-bad .ensures) (c .before .if2 .taken) (c .refused2 .ensures)
+
+too-short-requires : tie.Need-too-short-requires
+too-short-requires c κs =
+    let a = c .before .before .before .before .before .before .before .before .before .before .args in
+    let B : Buffers = record { board = now (a .board); book = now (a .book); report = now (a .report) } in
+    let l = c .before .before .before .before .before .if1 .left in
+    let h : a .ceiling ≤ highestCeiling = omega arith in
+    low-limit (now (a .sheet)) (a .ceiling) (a .limit) B h (c .before .before .before .before .limit-bad .ensures) (c .before .before .before .if2 .left)
+
+returns-3 : tie.Need-returns-3
+returns-3 c =
+    let a = c .before .before .before .before .before .before .before .before .before .before .before .before .before .args in
+    let B : Buffers = record { board = now (a .board); book = now (a .book); report = now (a .report) } in
+    let l = c .before .before .before .before .before .before .before .before .if1 .left in
+    let h : a .ceiling ≤ highestCeiling = omega arith in
+    short-buffer (now (a .sheet)) (a .ceiling) (a .limit) B h (c .before .before .before .before .before .before .before .limit-bad .ensures) (c .before .before .before .before .before .before .if2 .left) (c .before .before .too-short .ensures) (c .before .if3 .taken) (c .refused3 .ensures)
 
 run-front-requires : tie.Need-run-front-requires
 run-front-requires c κs =
-    let a = c .before .before .before .before .before .before .before .before .before .before .before .before .before .before .before .before .args in
-    let s = now (a .sheet) in
+    let a = c .before .before .before .before .before .before .before .before .before .before .before .before .before .before .before .before .before .before .args in
     let B : Buffers = record { board = now (a .board); book = now (a .book); report = now (a .report) } in
-    let l = c .before .before .before .before .before .before .before .before .before .before .before .if1 .left in
+    let l = c .before .before .before .before .before .before .before .before .before .before .before .before .before .if1 .left in
     let h : a .ceiling ≤ highestCeiling = omega arith in
-    let t = c .before .before .before .before .before .before .before .too-short .ensures in
-    let q = c .before .before .before .before .before .before .if2 .left in
-    front-asks s (a .ceiling) B h t q (sym (c .before .before .before .before .before .check-sheet .ensures) ∙ c .before .before .before .enum-told .given .1)
+    front-asks (now (a .sheet)) (a .ceiling) (a .limit) B h (c .before .before .before .before .before .before .before .before .before .before .before .before .limit-bad .ensures) (c .before .before .before .before .before .before .before .before .before .before .before .if2 .left) (c .before .before .before .before .before .before .before .too-short .ensures) (c .before .before .before .before .before .before .if3 .left) (sym (c .before .before .before .before .before .check-sheet .ensures) ∙ c .before .before .before .enum-told .given .1)
 
 cast-refused : tie.Need-cast-refused
 cast-refused c =
-    let x = line-word (now (c .before .before .before .before .before .before .before .before .before .before .before .before .before .before .args .sheet)) (c .before .before .before .check-sheet .ensures) (inl (c .before .line .given .1)) in
+    let x = line-word (now (c .before .before .before .before .before .before .before .before .before .before .before .before .before .before .before .before .args .sheet)) (c .before .before .before .check-sheet .ensures) (inl (c .before .line .given .1)) in
     search needs
 
 cast-refused-2 : tie.Need-cast-refused-2
 cast-refused-2 c =
-    let x = line-word (now (c .before .before .before .before .before .before .before .before .before .before .before .before .before .before .args .sheet)) (c .before .before .before .check-sheet .ensures) (inr (c .before .line2 .given .1)) in
+    let x = line-word (now (c .before .before .before .before .before .before .before .before .before .before .before .before .before .before .before .before .args .sheet)) (c .before .before .before .check-sheet .ensures) (inr (c .before .line2 .given .1)) in
     search needs
-
-returns-3 : tie.Need-returns-3
-returns-3 c =
-    let a = c .before .before .before .before .before .before .before .before .before .before .before .before .before .before .before .before .before .before .before .before .before .before .before .args in
-    let s = now (a .sheet) in
-    let B : Buffers = record { board = now (a .board); book = now (a .book); report = now (a .report) } in
-    let l = c .before .before .before .before .before .before .before .before .before .before .before .before .before .before .before .before .before .before .if1 .left in
-    let h : a .ceiling ≤ highestCeiling = omega arith in
-    let t = c .before .before .before .before .before .before .before .before .before .before .before .before .before .before .too-short .ensures in
-    let q = c .before .before .before .before .before .before .before .before .before .before .before .before .before .if2 .left in
-    answered s (a .ceiling) B h t q (sym (c .before .before .before .before .before .before .before .before .before .before .before .before .check-sheet .ensures) ∙ c .before .before .before .before .before .before .before .before .before .before .enum-told .given .1) (c .before .before .before .before .before .before .run-front .ensures)
 
 returns-4 : tie.Need-returns-4
 returns-4 c =
-    refused-by (now (c .before .before .before .before .before .before .before .before .before .before .before .before .before .before .args .sheet)) (c .before .before .before .before .before .before .before .before .before .before .before .before .before .before .args .ceiling) (record { board = now (c .before .before .before .before .before .before .before .before .before .before .before .before .before .before .args .board); book = now (c .before .before .before .before .before .before .before .before .before .before .before .before .before .before .args .book); report = now (c .before .before .before .before .before .before .before .before .before .before .before .before .before .before .args .report) }) (let l = c .before .before .before .before .before .before .before .before .before .if1 .left in omega arith) (c .before .before .before .before .before .too-short .ensures) (c .before .before .before .before .if2 .left) _ (sym (c .before .before .before .check-sheet .ensures) ∙ c .before .enum-told2 .given .1) refl (c .refused3 .ensures)
+    let a = c .before .before .before .before .before .before .before .before .before .before .before .before .before .before .before .before .before .before .before .before .before .before .before .before .before .args in
+    let B : Buffers = record { board = now (a .board); book = now (a .book); report = now (a .report) } in
+    let l = c .before .before .before .before .before .before .before .before .before .before .before .before .before .before .before .before .before .before .before .before .if1 .left in
+    let h : a .ceiling ≤ highestCeiling = omega arith in
+    answered (now (a .sheet)) (a .ceiling) (a .limit) B h (c .before .before .before .before .before .before .before .before .before .before .before .before .before .before .before .before .before .before .before .limit-bad .ensures) (c .before .before .before .before .before .before .before .before .before .before .before .before .before .before .before .before .before .before .if2 .left) (c .before .before .before .before .before .before .before .before .before .before .before .before .before .before .too-short .ensures) (c .before .before .before .before .before .before .before .before .before .before .before .before .before .if3 .left) (sym (c .before .before .before .before .before .before .before .before .before .before .before .before .check-sheet .ensures) ∙ c .before .before .before .before .before .before .before .before .before .before .enum-told .given .1) (c .before .before .before .before .before .before .run-front .ensures)
 
 returns-5 : tie.Need-returns-5
 returns-5 c =
-    refused-by (now (c .before .before .before .before .before .before .before .before .before .before .before .before .before .before .before .args .sheet)) (c .before .before .before .before .before .before .before .before .before .before .before .before .before .before .before .args .ceiling) (record { board = now (c .before .before .before .before .before .before .before .before .before .before .before .before .before .before .before .args .board); book = now (c .before .before .before .before .before .before .before .before .before .before .before .before .before .before .before .args .book); report = now (c .before .before .before .before .before .before .before .before .before .before .before .before .before .before .before .args .report) }) (let l = c .before .before .before .before .before .before .before .before .before .before .if1 .left in omega arith) (c .before .before .before .before .before .before .too-short .ensures) (c .before .before .before .before .before .if2 .left) _ (sym (c .before .before .before .before .check-sheet .ensures) ∙ c .before .before .line .given .1) refl (c .refused4 .ensures)
+    let a = c .before .before .before .before .before .before .before .before .before .before .before .before .before .before .before .before .args in
+    let B : Buffers = record { board = now (a .board); book = now (a .book); report = now (a .report) } in
+    let l = c .before .before .before .before .before .before .before .before .before .before .before .if1 .left in
+    let h : a .ceiling ≤ highestCeiling = omega arith in
+    refused-by (now (a .sheet)) (a .ceiling) (a .limit) B h (c .before .before .before .before .before .before .before .before .before .before .limit-bad .ensures) (c .before .before .before .before .before .before .before .before .before .if2 .left) (c .before .before .before .before .before .too-short .ensures) (c .before .before .before .before .if3 .left) _ (sym (c .before .before .before .check-sheet .ensures) ∙ c .before .enum-told2 .given .1) refl (c .refused4 .ensures)
 
 returns-6 : tie.Need-returns-6
 returns-6 c =
-    refused-by (now (c .before .before .before .before .before .before .before .before .before .before .before .before .before .before .before .args .sheet)) (c .before .before .before .before .before .before .before .before .before .before .before .before .before .before .before .args .ceiling) (record { board = now (c .before .before .before .before .before .before .before .before .before .before .before .before .before .before .before .args .board); book = now (c .before .before .before .before .before .before .before .before .before .before .before .before .before .before .before .args .book); report = now (c .before .before .before .before .before .before .before .before .before .before .before .before .before .before .before .args .report) }) (let l = c .before .before .before .before .before .before .before .before .before .before .if1 .left in omega arith) (c .before .before .before .before .before .before .too-short .ensures) (c .before .before .before .before .before .if2 .left) _ (sym (c .before .before .before .before .check-sheet .ensures) ∙ c .before .before .line2 .given .1) refl (c .refused5 .ensures)
+    let a = c .before .before .before .before .before .before .before .before .before .before .before .before .before .before .before .before .before .args in
+    let B : Buffers = record { board = now (a .board); book = now (a .book); report = now (a .report) } in
+    let l = c .before .before .before .before .before .before .before .before .before .before .before .before .if1 .left in
+    let h : a .ceiling ≤ highestCeiling = omega arith in
+    refused-by (now (a .sheet)) (a .ceiling) (a .limit) B h (c .before .before .before .before .before .before .before .before .before .before .before .limit-bad .ensures) (c .before .before .before .before .before .before .before .before .before .before .if2 .left) (c .before .before .before .before .before .before .too-short .ensures) (c .before .before .before .before .before .if3 .left) _ (sym (c .before .before .before .before .check-sheet .ensures) ∙ c .before .before .line .given .1) refl (c .refused5 .ensures)
+
+returns-7 : tie.Need-returns-7
+returns-7 c =
+    let a = c .before .before .before .before .before .before .before .before .before .before .before .before .before .before .before .before .before .args in
+    let B : Buffers = record { board = now (a .board); book = now (a .book); report = now (a .report) } in
+    let l = c .before .before .before .before .before .before .before .before .before .before .before .before .if1 .left in
+    let h : a .ceiling ≤ highestCeiling = omega arith in
+    refused-by (now (a .sheet)) (a .ceiling) (a .limit) B h (c .before .before .before .before .before .before .before .before .before .before .before .limit-bad .ensures) (c .before .before .before .before .before .before .before .before .before .before .if2 .left) (c .before .before .before .before .before .before .too-short .ensures) (c .before .before .before .before .before .if3 .left) _ (sym (c .before .before .before .before .check-sheet .ensures) ∙ c .before .before .line2 .given .1) refl (c .refused6 .ensures)
 
 pub check-type-spec : {M : Type 1} → statement M
 check-type-spec =
-    tie.close (tie.spec (λ c κs. search needs) returns (λ c κs. search needs) (λ c κs. search needs) (λ c. search needs) (λ c. search needs) (λ c. search needs) returns-2 (λ c κs. search needs) (λ c. search needs) run-front-requires (λ c. search needs) (λ c κs. search needs) (λ c. search needs) cast-refused (λ c κs. search needs) (λ c. search needs) cast-refused-2 (λ c κs. search needs) (λ c. search needs) (λ c. search needs) (λ c. search needs) returns-3 (λ c. search needs) (λ c. search needs) (λ c. search needs) returns-4 (λ c. search needs) (λ c. search needs) (λ c. search needs) returns-5 (λ c. search needs) (λ c. search needs) (λ c. search needs) returns-6)
+    tie.close (tie.spec (λ c κs. search needs) returns (λ c κs. search needs) (λ c κs. search needs) returns-2 too-short-requires (λ c κs. search needs) (λ c. search needs) (λ c. search needs) (λ c. search needs) returns-3 (λ c κs. search needs) (λ c. search needs) run-front-requires (λ c. search needs) (λ c κs. search needs) (λ c. search needs) cast-refused (λ c κs. search needs) (λ c. search needs) cast-refused-2 (λ c κs. search needs) (λ c. search needs) (λ c. search needs) (λ c. search needs) returns-4 (λ c. search needs) (λ c. search needs) (λ c. search needs) returns-5 (λ c. search needs) (λ c. search needs) (λ c. search needs) returns-6 (λ c. search needs) (λ c. search needs) (λ c. search needs) returns-7)

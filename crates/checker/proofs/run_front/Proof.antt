@@ -1,10 +1,12 @@
 use mathlib.Core.Path.{_≡_, sym, _∙_}
+use Prim.Native.Nat.{_*_}
 use denote.Ref.{now}
 use lib.Seq.{length-take-le, length-front}
-use Rattle.sizes.specs.Sizes.{boardSize, bookSize, reportSize}
+use Rattle.sizes.specs.Sizes.{boardSize, bookSize, reportStride}
 use Rattle.sheet.specs.Plan.{triples}
-use Rattle.judgment.specs.Result.{limits, judge}
+use Rattle.judgment.specs.Result.{limitsWith, judge}
 use Rattle.checker.proofs.Answering.{fronted}
+use borrow.Author.Needs.{needs}
 use Rattle.checker.proofs.run_front.Statement.{statement}
 use Rattle.checker.proofs.run_front.Tie as tie
 
@@ -24,35 +26,38 @@ slice-aggregate-run-plan-2 : tie.Need-slice-aggregate-run-plan-2
 slice-aggregate-run-plan-2 c =
     sym (length-take-le bookSize (now (c .before .before .before .before .before .before .args .book)) (c .before .before .before .before .before .before .pre .book))
 
+mul-run-plan : tie.Need-mul-run-plan
+mul-run-plan c = let x = c .before .before .before .before .before .before .pre .limited in search needs
+
 slice-relend-prefix-run-plan-3 : tie.Need-slice-relend-prefix-run-plan-3
 slice-relend-prefix-run-plan-3 c =
     c .before .before .before .before .before .before .pre .report
 
 slice-aggregate-run-plan-3 : tie.Need-slice-aggregate-run-plan-3
 slice-aggregate-run-plan-3 c =
-    sym (length-take-le reportSize (now (c .before .before .before .before .before .before .before .args .report)) (c .before .before .before .before .before .before .before .pre .report))
+    sym (length-take-le (reportStride * c .before .before .before .before .before .before .before .args .limit) (now (c .before .before .before .before .before .before .before .args .report)) (c .before .before .before .before .before .before .before .pre .report))
 
 run-plan-requires : tie.Need-run-plan-requires
 run-plan-requires c κs =
     let p = c .before .before .before .before .before .before .before .pre in
-    record { plan = p .plan; board = length-take-le boardSize (now (c .before .before .before .before .before .before .before .args .board)) (p .board); book = length-take-le bookSize (now (c .before .before .before .before .before .before .before .args .book)) (p .book); report = length-take-le reportSize (now (c .before .before .before .before .before .before .before .args .report)) (p .report) }
+    record { plan = p .plan; limited = p .limited; board = length-take-le boardSize (now (c .before .before .before .before .before .before .before .args .board)) (p .board); book = length-take-le bookSize (now (c .before .before .before .before .before .before .before .args .book)) (p .book); report = length-take-le (reportStride * c .before .before .before .before .before .before .before .args .limit) (now (c .before .before .before .before .before .before .before .args .report)) (p .report) }
 
 same-length : tie.Need-same-length
 same-length c =
-    length-front (now (c .before .before .before .before .before .before .before .before .before .before .before .before .before .before .args .board)) (c .before .before .before .before .before .before .run-plan .last .1 .1 .0) boardSize (c .before .before .before .before .before .before .run-plan .kept .1 .1 .0)
+    length-front (now (c .before .before .before .before .before .before .before .before .before .before .before .before .before .before .args .board)) (c .before .before .before .before .before .before .run-plan .last .1 .1 .1 .0) boardSize (c .before .before .before .before .before .before .run-plan .kept .1 .1 .1 .0)
 
 same-length-2 : tie.Need-same-length-2
 same-length-2 c =
-    length-front (now (c .before .before .before .before .before .before .before .before .before .before .before .before .before .before .args .book)) (c .before .before .before .before .before .before .run-plan .last .1 .1 .1 .0) bookSize (c .before .before .before .before .before .before .run-plan .kept .1 .1 .1 .0)
+    length-front (now (c .before .before .before .before .before .before .before .before .before .before .before .before .before .before .args .book)) (c .before .before .before .before .before .before .run-plan .last .1 .1 .1 .1 .0) bookSize (c .before .before .before .before .before .before .run-plan .kept .1 .1 .1 .1 .0)
 
 same-length-3 : tie.Need-same-length-3
 same-length-3 c =
-    length-front (now (c .before .before .before .before .before .before .before .before .before .before .before .before .before .before .args .report)) (c .before .before .before .before .before .before .run-plan .last .1 .1 .1 .1 .0) reportSize (c .before .before .before .before .before .before .run-plan .kept .1 .1 .1 .1 .0)
+    length-front (now (c .before .before .before .before .before .before .before .before .before .before .before .before .before .before .args .report)) (c .before .before .before .before .before .before .run-plan .last .1 .1 .1 .1 .1 .0) (reportStride * c .before .before .before .before .before .before .before .before .before .before .before .before .before .before .args .limit) (c .before .before .before .before .before .before .run-plan .kept .1 .1 .1 .1 .1 .0)
 
 returns : tie.Need-returns
 returns c =
-    fronted (c .before .before .before .before .before .before .before .before .before .before .before .before .before .before .pre) (judge limits (c .before .before .before .before .before .before .before .before .before .before .before .before .before .before .args .ceiling) (triples (now (c .before .before .before .before .before .before .before .before .before .before .before .before .before .before .args .s)))) (c .before .before .before .before .before .before .run-plan .ensures)
+    fronted (c .before .before .before .before .before .before .before .before .before .before .before .before .before .before .pre) (judge (limitsWith (c .before .before .before .before .before .before .before .before .before .before .before .before .before .before .args .limit)) (c .before .before .before .before .before .before .before .before .before .before .before .before .before .before .args .ceiling) (triples (now (c .before .before .before .before .before .before .before .before .before .before .before .before .before .before .args .s)))) (c .before .before .before .before .before .before .run-plan .ensures)
 
 pub run-front-spec : {M : Type 1} → statement M
 run-front-spec =
-    tie.close (tie.spec slice-relend-prefix-run-plan slice-aggregate-run-plan slice-relend-prefix-run-plan-2 slice-aggregate-run-plan-2 slice-relend-prefix-run-plan-3 slice-aggregate-run-plan-3 run-plan-requires same-length same-length-2 same-length-3 returns)
+    tie.close (tie.spec slice-relend-prefix-run-plan slice-aggregate-run-plan slice-relend-prefix-run-plan-2 slice-aggregate-run-plan-2 mul-run-plan slice-relend-prefix-run-plan-3 slice-aggregate-run-plan-3 run-plan-requires same-length same-length-2 same-length-3 returns)

@@ -16,6 +16,7 @@ check-plan-requires c κs =
     let q = c .before .before .before .before .before .before .before .before .before .before .before .read-rows .ensures in
     record {
       plan = was-read (now (c .before .before .before .before .before .before .before .before .before .before .before .before .before .before .before .before .before .before .before .before .before .args .s)) (p .run .plan) (q .0, q .1);
+      limited = p .run .limited;
       board = p .run .board;
       book = p .run .book;
       report = p .run .report;
@@ -23,7 +24,7 @@ check-plan-requires c κs =
     }
 
 returns : tie.Need-returns
-returns c = ran-as (c .before .before .before .before .before .before .before .before .before .before .before .before .before .before .before .before .before .before .before .before .before .before .before .before .before .before .before .before .before .before .before .before .before .before .before .before .args .ceiling) (c .before .before .before .before .before .before .before .before .before .before .before .before .before .before .before .before .before .before .before .before .before .before .before .before .before .before .read-rows .ensures .0) (c .before .before .before .before .before .before .before .before .before .before .before .before .before .before .check-plan .ensures)
+returns c = ran-as (c .before .before .before .before .before .before .before .before .before .before .before .before .before .before .before .before .before .before .before .before .before .before .before .before .before .before .before .before .before .before .before .before .before .before .before .before .args .ceiling) (c .before .before .before .before .before .before .before .before .before .before .before .before .before .before .before .before .before .before .before .before .before .before .before .before .before .before .before .before .before .before .before .before .before .before .before .before .args .limit) (c .before .before .before .before .before .before .before .before .before .before .before .before .before .before .before .before .before .before .before .before .before .before .before .before .before .before .read-rows .ensures .0) (c .before .before .before .before .before .before .before .before .before .before .before .before .before .before .check-plan .ensures)
 
 pub run-rows-spec : {M : Type 1} → statement M
 run-rows-spec =

@@ -9,7 +9,7 @@ returns : tie.Need-returns
 returns c =
     let a = c .before .before .before .before .before .before .before .before .before .before .before .before .before .before .before .args in
     let B : Buffers = record { board = now (a .board); book = now (a .book); report = now (a .report) } in
-    returned (now (a .sheet)) (a .ceiling) B (c .before .before .before .before .before .before .before .check-type .ensures)
+    returned (now (a .sheet)) (a .ceiling) (a .limit) B (c .before .before .before .before .before .before .before .check-type .ensures)
 
 pub kirvoghus-check-type-spec : {M : Type 1} → statement M
 kirvoghus-check-type-spec =

@@ -1,7 +1,7 @@
 use mathlib.Core.Path.{_≡_, _∙_}
 use native.Mathlib.Omega.{arith}
 use mathlib.Core.List.{[]}
-use Rattle.sizes.specs.Sizes.{mostWritten}
+use Rattle.sizes.specs.Sizes.{usualLimit}
 use Rattle.operations.proofs.Start.{start-formed}
 use borrow.Author.Needs.{needs}
 use Rattle.operations_run.proofs.run.Statement.{statement}
@@ -35,7 +35,7 @@ script-requires-3 c κs =
     let y = p .2 in
     let l1 = c .before .before .before .before .before .before .before .before .before .before .before .before .before .before .before .before .before .before .before .before .before .before .before .before .script .kept .1 .1 .0 in
     let l2 = c .before .before .before .before .before .before .before .before .before .before .before .before .before .before .script2 .kept .1 .1 .0 in
-    (c .before .before .before .refuse .ensures .1 mostWritten [] _ _ [] (c .before .before .before .before .before .before .before .before .before .before .before .before .before .before .script2 .ensures [] .kept) .kept, omega arith)
+    (c .before .before .before .refuse .ensures .1 usualLimit [] _ _ [] (c .before .before .before .before .before .before .before .before .before .before .before .before .before .before .script2 .ensures [] .kept) .kept, omega arith)
 
 same-length : tie.Need-same-length
 same-length c = c .before .before .before .before .before .before .before .before .before .before .script3 .kept .0 ∙ c .before .before .before .before .before .before .before .before .before .before .before .before .before .before .before .before .before .before .before .before .before .before .before .before .before .script2 .kept .0 ∙ c .before .before .before .before .before .before .before .before .before .before .before .before .before .before .before .before .before .before .before .before .before .before .before .before .before .before .before .before .before .before .before .before .before .before .before .script .kept .0 ∙ c .before .before .before .before .before .before .before .before .before .before .before .before .before .before .before .before .before .before .before .before .before .before .before .before .before .before .before .before .before .before .before .before .before .before .before .before .before .before .before .before .before .before .before .before .before .before .before .before .before .before .before .before .clear-board .kept .0

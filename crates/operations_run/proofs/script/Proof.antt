@@ -4,7 +4,7 @@ use Prim.Native.Nat.{ℕ, _+_}
 use native.Mathlib.Nat.{le-refl, le-trans}
 use native.Mathlib.Omega.{arith}
 use denote.Ref.{now}
-use Rattle.sizes.specs.Sizes.{mostWritten}
+use Rattle.sizes.specs.Sizes.{usualLimit}
 use Rattle.nodes.specs.Nodes.{nodesAt}
 use Rattle.spelling.specs.declared.Triple.{Triple}
 use Rattle.operations.proofs.Then.{push-then, solve-then, fresh-then, zonk-then, kept, kept-board, kept-book, alive, grows, unmade-free, fresh-made, pair-solves, solve-asks}
@@ -54,16 +54,16 @@ unfolding nodesAt
 returns c =
     λ (ls : List Triple).
     let R = now (c .before .before .before .before .before .before .before .before .before .before .before .before .before .before .before .before .before .before .before .before .before .before .before .before .before .before .before .before .before .before .before .before .args .report) in
-    let D1 = c .before .before .before .before .before .before .before .before .before .before .before .before .before .before .before .before .before .before .before .before .before .before .before .before .before .before .before .before .fresh-evar .ensures .1 mostWritten ls _ _ R (c .before .before .before .before .before .before .before .before .before .before .before .before .before .before .before .before .before .before .before .before .before .before .before .before .before .before .before .before .before .before .before .before .pre .0) in
-    let D2 = c .before .before .before .before .before .before .before .before .before .before .before .before .before .before .before .before .before .before .before .before .before .before .before .before .before .before .before .fresh-evar2 .ensures .1 mostWritten ls _ _ R (D1 .kept) in
-    let D3 = c .before .before .before .before .before .before .before .before .before .before .before .before .before .before .before .before .before .before .before .before .before .before .before .before .before .push-tvar .ensures .2 mostWritten ls _ R (D2 .kept) in
-    let D4 = c .before .before .before .before .before .before .before .before .before .before .before .before .before .before .before .before .before .before .before .push-sub .ensures .2 mostWritten ls _ R (D3 .kept) in
-    let D5 = c .before .before .before .before .before .before .before .before .before .before .before .before .before .before .solve-evar .ensures .2 mostWritten ls _ R (D4 .kept) in
+    let D1 = c .before .before .before .before .before .before .before .before .before .before .before .before .before .before .before .before .before .before .before .before .before .before .before .before .before .before .before .before .fresh-evar .ensures .1 usualLimit ls _ _ R (c .before .before .before .before .before .before .before .before .before .before .before .before .before .before .before .before .before .before .before .before .before .before .before .before .before .before .before .before .before .before .before .before .pre .0) in
+    let D2 = c .before .before .before .before .before .before .before .before .before .before .before .before .before .before .before .before .before .before .before .before .before .before .before .before .before .before .before .fresh-evar2 .ensures .1 usualLimit ls _ _ R (D1 .kept) in
+    let D3 = c .before .before .before .before .before .before .before .before .before .before .before .before .before .before .before .before .before .before .before .before .before .before .before .before .before .push-tvar .ensures .2 usualLimit ls _ R (D2 .kept) in
+    let D4 = c .before .before .before .before .before .before .before .before .before .before .before .before .before .before .before .before .before .before .before .push-sub .ensures .2 usualLimit ls _ R (D3 .kept) in
+    let D5 = c .before .before .before .before .before .before .before .before .before .before .before .before .before .before .solve-evar .ensures .2 usualLimit ls _ R (D4 .kept) in
     let Z = c .before .before .before .before .before .before .before .before .zonk .ensures .2 in
     let D6 = Z .does ls _ (D5 .kept) in
-    let D7 = c .before .before .push-var .ensures .2 mostWritten ls _ _ (D6 .kept) in
+    let D7 = c .before .before .push-var .ensures .2 usualLimit ls _ _ (D6 .kept) in
     fresh-then D1 (fresh-then D2 (push-then D3 (push-then D4 (solve-then D5 (zonk-then (D5 .kept) Z D7)))))
 
 pub script-spec : {M : Type 1} → statement M
 script-spec =
-    tie.close (tie.spec (λ c κs. search needs) (λ c κs. search needs) push-tvar-requires (λ c. search needs) (λ c. search needs) push-sub-requires (λ c. search needs) solve-evar-requires (λ c. search needs) zonk-requires push-var-requires same-length same-length-2 same-length-3 returns)
+    tie.close (tie.spec (λ c κs. search needs) (λ c κs. search needs) push-tvar-requires (λ c. search needs) (λ c. search needs) push-sub-requires (λ c. search needs) solve-evar-requires (λ c. search needs) (λ c. search needs) zonk-requires push-var-requires same-length same-length-2 same-length-3 returns)
