@@ -1,6 +1,7 @@
 // Reads a sheet on standard input, checks its plan with the ceiling 10,000 and the limit 1,024, and writes out the seven numbers.
 ghost use Prim.Native.Nat.{_≤_};
 ghost use lib.ListN.{length};
+ghost use Rattle.plan_check.specs.Told.{Told};
 use checker::check_type;
 use columns::write_answer;
 use input::Got;
@@ -21,6 +22,21 @@ fn write_out(text: &[u8]) {
     }
 }
 
+// The seven numbers of a sheet, at the front of `text`. Answers how many bytes they are.
+fn tell(
+    sheet: &[u8],
+    board: &mut [u32],
+    book: &mut [u32],
+    report: &mut [u32],
+    text: &mut [u8],
+) -> usize
+    requires { ⌜ 71 ≤ length (now text) ⌝ }
+    ensures { λ r. ⌜ Told (now (sheet .entry)) (record { board = now (board .entry); book = now (book .entry); report = now (report .entry) }) (now (text .entry)) (now (text .exit)) r ⌝ }
+{
+    let answer = check_type(sheet, HIGHEST_CEILING, USUAL_LIMIT, board, book, report);
+    write_answer(text, answer)
+}
+
 // A sheet that fills the buffer is too long, and gets 3 as it stands.
 fn check_input(
     sheet: &mut [u8],
@@ -36,15 +52,7 @@ fn check_input(
             let _told = write_all(STDERR_FILENO, b"plan_check: standard input was not read\n");
         }
         Got::To(n) => {
-            let answer = check_type(
-                &sheet[..n],
-                HIGHEST_CEILING,
-                USUAL_LIMIT,
-                board,
-                book,
-                report,
-            );
-            let end = write_answer(text, answer);
+            let end = tell(&sheet[..n], board, book, report, text);
             write_out(&text[..end]);
         }
     }
