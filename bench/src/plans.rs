@@ -105,6 +105,7 @@ mod tests {
         let answer = under_limit(plan.limit, || answer_lines(&plan.lines, MOST_STEPS));
         let number = match title {
             "long type, refused 2000" => 23,
+            "4,096 nodes written out" => 13,
             _ if title.contains("refused") => 15,
             _ => 0,
         };

@@ -91,9 +91,9 @@ pub fn answer_call(bytes: &[u8], ceiling: u32, limit: u32, lengths: [usize; 3]) 
 
 /// With another limit on written-out types.
 pub fn under_limit<T>(limit: u32, run: impl FnOnce() -> T) -> T {
-    limited::set_written(limit as usize);
+    let before = limited::set_written(limit as usize);
     let result = run();
-    limited::set_written(limited::WRITTEN);
+    limited::set_written(before);
     result
 }
 

@@ -2,7 +2,10 @@
 //! Rust on generated plans (`answer_plan` panics where they differ).
 
 use crate::generate::{limits, random, small};
-use crate::oracle::{answer_lines, answer_plan, answer_sheet, Answer, MOST_STEPS};
+use crate::oracle::{
+    answer_call, answer_lines, answer_plan, answer_sheet, sizes, under_limit, Answer, LIMIT,
+    MOST_LIMIT, MOST_STEPS,
+};
 use crate::sheet::{line, read, read_lines, read_plan, write, Line, Refusal, LINE};
 use crate::wall::{difference, long_sheet, plans};
 use crate::{record, with_stack};
@@ -200,6 +203,42 @@ fn ceiling_is_refused_first() {
         [1, 0, 0, 0, 0, 0, 0]
     );
     assert_eq!(answer_sheet(b"", MOST_STEPS).seven(), [3, 0, 0, 0, 0, 0, 0]);
+}
+
+/// 7 as Int → Int writes out three nodes.
+#[test]
+fn limits_that_a_caller_picks() {
+    let arrow = write(&lines(&[
+        3, 0, 0, 13, 0, 0, 12, 1, 0, 12, 1, 0, 4, 0, 0, 22, 7, 0,
+    ]));
+    let number = |limit| answer_call(&arrow, MOST_STEPS, limit, sizes(limit)).number;
+    assert_eq!(
+        [1, 2, 3, LIMIT, MOST_LIMIT].map(number),
+        [23, 23, 15, 15, 15]
+    );
+    assert_eq!([0, MOST_LIMIT + 1, u32::MAX].map(number), [32, 32, 32]);
+}
+
+#[test]
+fn refusals_before_the_sheet_are_in_order() {
+    let number = |ceiling, limit, lengths| answer_call(b"", ceiling, limit, lengths).number;
+    let short = [16_384, 10_192, 3];
+    assert_eq!(number(MOST_STEPS + 1, 0, short), 1);
+    assert_eq!(number(MOST_STEPS, 0, short), 32);
+    assert_eq!(number(MOST_STEPS, 1, short), 2);
+    assert_eq!(number(MOST_STEPS, 1, sizes(1)), 3);
+}
+
+#[test]
+fn picked_limits_are_met_and_passed() {
+    with_stack(|| {
+        for found in limits::picked() {
+            let plan = read_plan(&found.made.lines).expect("a plan");
+            let run = under_limit(found.limit, || answer_plan(&plan, found.made.ceiling));
+            let passes = found.title.contains("passes");
+            assert_eq!(run.answer.number == 23, passes, "{}", found.title);
+        }
+    });
 }
 
 #[test]

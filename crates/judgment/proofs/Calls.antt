@@ -1,10 +1,13 @@
 -- Calls that are refused before a run, and calls with the lowest and the highest limit, with the answers of `reference answer`, by computation;
 -- and books of several solutions, read back. Assumes nothing.
 use mathlib.Core.Path.{_≡_, refl}
+use mathlib.Core.Bool.{cond, _||_}
 use mathlib.Core.List.{List, [], _∷_, _++_, map}
 use Prim.Native.Nat.{ℕ, _+_, _*_}
-use lib.ListN.{getD, take, drop, replicate}
+use lib.Dec.{ltb}
+use lib.ListN.{length, getD, take, drop, replicate}
 use Rattle.nodes.specs.Nodes.{Ty, words, nodesAt}
+use Rattle.spelling.specs.declared.Triple.{Triple}
 use Rattle.spelling.specs.Spelling.{fieldFrom, lineOf, lineAt, linesFrom, linesOf, firstMisspelt}
 use Rattle.spelling.specs.Text.{fieldText, lineText}
 use Rattle.kinds.specs.Kinds.{partsOf, rowOf, find as findRow, table, begins, headOf}
@@ -17,7 +20,7 @@ use Rattle.judgment.specs.Solutions.{Solution, key, value, find, links, 
 use Rattle.judgment.specs.Board.{boardNodes, findVar, before, perform, operations}
 use Rattle.judgment.specs.Rules.{instantiateFrom, subtype, openNames, signatureFrom, insert, pushVars, checkPatterns, checkArms, inferApp}
 use Rattle.judgment.specs.Run.{runFrom, checkType}
-use Rattle.judgment.specs.Result.{numbers, Buffers, Called, padded, pairsFrom, placeFrom, nodeWords, bookWords, reportWords, resultOf, runOf, judge, call}
+use Rattle.judgment.specs.Result.{numbers, Buffers, Called, padded, pairsFrom, placeFrom, nodeWords, bookWords, reportWords, resultOf, runOf, judge, limitsWith, limits, refusedAt, byCheck, call}
 use Rattle.judgment.proofs.Wall.{l, firstSheet, Row}
 use Rattle.judgment.proofs.Telling.{answers}
 
@@ -60,6 +63,20 @@ pub short-buffers : map (λ b. numbers (call firstSheet 10000 1024 b .answer)) (
     ≡ replicate 3 (2 ∷ 0 ∷ 0 ∷ 0 ∷ 0 ∷ 0 ∷ 0 ∷ [])
 unfolding call lineText fieldText
 short-buffers = refl
+
+-- with 1,024 the call is document 01's, and the run that under its limits
+abbrev call01 : List ℕ → ℕ → Buffers → Called
+call01 s c b =
+    cond (ltb 10000 c) (record { answer = refusedAt 1 0; after = b })
+    (cond (ltb (length (b .board)) 16384 || (ltb (length (b .book)) 10192 || ltb (length (b .report)) 4096)) (record { answer = refusedAt 2 0; after = b })
+    (byCheck s c 1024 b (check s)))
+
+pub usual-call : (s : List ℕ) (c : ℕ) (b : Buffers) → call s c 1024 b ≡ call01 s c b
+unfolding call
+usual-call s c b = refl
+
+pub usual-run : (c : ℕ) (ls : List Triple) → judge (limitsWith 1024) c ls ≡ judge limits c ls
+usual-run c ls = refl
 
 -- what a call asks for: ceiling, limit and buffers
 abbrev asked : List (ℕ × ℕ × Buffers)

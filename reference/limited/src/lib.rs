@@ -7,7 +7,7 @@
 
 extern crate std as rust_std;
 
-use rust_std::sync::atomic::{AtomicUsize, Ordering::Relaxed};
+use rust_std::cell::Cell;
 
 pub use plain::{core, errors};
 
@@ -27,29 +27,26 @@ pub const NUMBERS: usize = 1000;
 /// Nodes of all solutions.
 pub const SOLVED: usize = 4096;
 
-/// The limits that a run is put to, in the order above.
-static LIMITS: [AtomicUsize; 5] = [
-    AtomicUsize::new(ENTRIES),
-    AtomicUsize::new(NODES),
-    AtomicUsize::new(WRITTEN),
-    AtomicUsize::new(NUMBERS),
-    AtomicUsize::new(SOLVED),
-];
+rust_std::thread_local! {
+    /// The limits that this thread's runs are put to, in the order above.
+    static LIMITS: Cell<[usize; 5]> = const { Cell::new([ENTRIES, NODES, WRITTEN, NUMBERS, SOLVED]) };
+}
 
 /// Smaller limits, so that small plans meet them: the definition takes any.
 pub fn set_limits(limits: [usize; 5]) {
-    for (limit, value) in LIMITS.iter().zip(limits) {
-        limit.store(value, Relaxed);
-    }
+    LIMITS.set(limits);
 }
 
-/// The limit on one written-out type alone.
-pub fn set_written(limit: usize) {
-    LIMITS[2].store(limit, Relaxed);
+/// The limit on one written-out type alone; gives the one before.
+pub fn set_written(limit: usize) -> usize {
+    let mut limits = LIMITS.get();
+    let before = rust_std::mem::replace(&mut limits[2], limit);
+    LIMITS.set(limits);
+    before
 }
 
 fn limit(at: usize) -> usize {
-    LIMITS[at].load(Relaxed)
+    LIMITS.get()[at]
 }
 
 #[allow(dead_code)]
