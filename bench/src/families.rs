@@ -3,7 +3,7 @@
 //! fresh numbers and entries bound how long a term can be, so part of the lines
 //! are types, entries, or arguments of a constructor, which no rule looks at.
 
-use reference::generate::types::{arrow, forall, sized, Ty, INT};
+use reference::generate::types::{app, arrow, forall, sized, Ty, INT};
 use reference::generate::{limits, sheet};
 use reference::sheet::{line, Line};
 use reference::wall::long_sheet;
@@ -69,6 +69,32 @@ pub fn ceiling() -> Lines {
 /// 4,096 nodes in one written-out type exactly.
 pub fn written() -> Lines {
     limits::highest().swap_remove(0).made.lines
+}
+
+/// A Case whose patterns are compared, level by level, with a type that is small
+/// on the sheet and large by its solutions.
+pub fn large_by_solutions() -> Lines {
+    const LEVELS: usize = 93;
+    const ARMS: usize = 10;
+    let spine = |part: &Ty, bottom: Ty| (0..LEVELS).fold(bottom, |ty, _| app(ty, part.clone()));
+    let pair = |first: Ty, second: Ty| app(app(Ty::Con(30), first), second);
+    let [one, two] = [Ty::Var(10), Ty::Var(11)];
+    let pattern = forall(10, forall(11, pair(one.clone(), spine(&one, two.clone()))));
+    let context = [
+        (40, forall(10, pair(one.clone(), spine(&one, INT)))),
+        (41, forall(11, pair(Ty::Product(vec![INT; 20]), two))),
+    ];
+    let mut term = vec![line(27, 0, ARMS as i64)];
+    term.extend([
+        line(29, 0, 0),
+        line(28, 5, 0),
+        seven(),
+        seven(),
+        var(40),
+        var(41),
+    ]);
+    (0..ARMS).for_each(|_| term.extend([line(43, 20, 0), seven()]));
+    plan(&[(20, pattern)], &context, &INT, term)
 }
 
 fn plan(constructors: &[(u32, Ty)], context: &[(u32, Ty)], expected: &Ty, term: Lines) -> Lines {

@@ -61,14 +61,14 @@ pub fn plans() -> Vec<Plan> {
         Target::Nothing,
         families::ceiling(),
     ));
-    plans.push(Plan {
+    let under_most = [
+        ("4,096 nodes written out", families::written()),
+        ("large by solutions", families::large_by_solutions()),
+    ];
+    plans.extend(under_most.map(|(title, lines)| Plan {
         limit: MOST_LIMIT,
-        ..single(
-            "4,096 nodes written out",
-            Target::Nothing,
-            families::written(),
-        )
-    });
+        ..single(title, Target::Nothing, lines)
+    }));
     plans
 }
 

@@ -1,4 +1,4 @@
--- Calls that are refused before a run, and calls with the lowest and the highest limit, with the answers of `reference answer`, by computation;
+-- Calls that are refused before a run, and calls with low limits and the highest, with the answers of `reference answer`, by computation;
 -- and books of several solutions, read back. Assumes nothing.
 use mathlib.Core.Path.{_≡_, refl}
 use mathlib.Core.Bool.{cond, _||_}
@@ -104,19 +104,28 @@ pub kept-by-asks : map (λ q. call firstSheet (q .0) (q .1) (q .2) .after) asked
 unfolding call lineText fieldText
 kept-by-asks = refl
 
--- calls that come to a run with the lowest and the highest limit: 7 as Int and 7 as Bool, with the report's words of `reference answer --words`
+-- calls that come to a run with low limits and the highest: 7 as Int, as Bool and as Int → Int, with the report's words of `reference answer --words`
+abbrev sevenAs : List ℕ → List ℕ
+sevenAs t = take 29 firstSheet ++ (t ++ drop 58 firstSheet)
+
 abbrev boolSheet : List ℕ
-boolSheet = take 29 firstSheet ++ (lineText (l 12 2 0) ++ drop 58 firstSheet)
+boolSheet = sevenAs (lineText (l 12 2 0))
+
+abbrev arrowSheet : List ℕ
+arrowSheet = sevenAs (lineText (l 13 0 0) ++ (lineText (l 12 1 0) ++ lineText (l 12 1 0)))
 
 abbrev told : Called → List ℕ × List ℕ
 told c = (numbers (c .answer), c .after .report)
 
-pub lowest-limit : told (call firstSheet 10000 1 (buffers 16384 10192 6)) ∷ told (call boolSheet 10000 1 (buffers 16384 10192 6)) ∷ [] ≡
+pub low-limits : told (call firstSheet 10000 1 (buffers 16384 10192 6)) ∷ told (call boolSheet 10000 1 (buffers 16384 10192 6))
+    ∷ told (call arrowSheet 10000 2 (buffers 16384 10192 10)) ∷ told (call arrowSheet 10000 3 (buffers 16384 10192 14)) ∷ [] ≡
     (0 ∷ 0 ∷ 5 ∷ 1 ∷ 0 ∷ 0 ∷ 1 ∷ [], 0 ∷ 0 ∷ 0 ∷ 0 ∷ 7 ∷ 7 ∷ []) ∷
     (15 ∷ 0 ∷ 4 ∷ 1 ∷ 1 ∷ 1 ∷ 1 ∷ [], 12 ∷ 1 ∷ 12 ∷ 2 ∷ 7 ∷ 7 ∷ []) ∷
+    (23 ∷ 0 ∷ 4 ∷ 1 ∷ 0 ∷ 0 ∷ 1 ∷ [], 0 ∷ 0 ∷ 0 ∷ 0 ∷ 0 ∷ 0 ∷ 0 ∷ 0 ∷ 7 ∷ 7 ∷ []) ∷
+    (15 ∷ 0 ∷ 4 ∷ 1 ∷ 1 ∷ 3 ∷ 1 ∷ [], 12 ∷ 1 ∷ 13 ∷ 0 ∷ 12 ∷ 1 ∷ 12 ∷ 1 ∷ 0 ∷ 0 ∷ 0 ∷ 0 ∷ 7 ∷ 7 ∷ []) ∷
     []
 unfolding call lineText fieldText fieldFrom lineOf lineAt linesFrom linesOf firstMisspelt findRow table rowOf begins headOf declaredBy isGoal arms following read readAt readSheet check triples judge resultOf runOf checkType runFrom perform operations boardNodes findVar before lookup instantiateFrom subtype openNames signatureFrom insert pushVars checkPatterns checkArms inferApp find links anySolved writeOutBy writeOut solutionNodes view termView lambdaOf occurs isMonotype substitute rename frontNames afterFront canUnify planOf declarations bindingsIn endFrom entriesEnd placesOf partLine isPlain partsOf reportWords padded words
-lowest-limit = refl
+low-limits = refl
 
 pub highest-limit : numbers (call firstSheet 10000 4096 (buffers 16384 10192 16384) .answer) ≡ 0 ∷ 0 ∷ 5 ∷ 1 ∷ 0 ∷ 0 ∷ 1 ∷ []
 unfolding call lineText fieldText fieldFrom lineOf lineAt linesFrom linesOf firstMisspelt findRow table rowOf begins headOf declaredBy isGoal arms following read readAt readSheet check triples judge resultOf runOf checkType runFrom perform operations boardNodes findVar before lookup instantiateFrom subtype openNames signatureFrom insert pushVars checkPatterns checkArms inferApp find links anySolved writeOutBy writeOut solutionNodes view termView lambdaOf occurs isMonotype substitute rename frontNames afterFront canUnify planOf declarations bindingsIn endFrom entriesEnd placesOf partLine isPlain partsOf reportWords padded words
