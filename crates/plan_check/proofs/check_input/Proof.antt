@@ -1,19 +1,15 @@
 use mathlib.Core.Path.{sym}
-use native.Mathlib.Omega.{arith}
 use lib.Seq.{length-take-le}
+use Rattle.input.proofs.Laws.{read-within, read-length}
 use borrow.Author.Needs.{needs}
 use Rattle.plan_check.proofs.check_input.Statement.{statement}
 use Rattle.plan_check.proofs.check_input.Tie as tie
 
 slice-reshare-prefix-tell : tie.Need-slice-reshare-prefix-tell
-slice-reshare-prefix-tell c =
-    let h = rw (c .before .n .given .1) at (c .before .before .before .before .before .fill .ensures) in
-    omega (arith, c .before .before .before .before .before .fill .kept .0)
+slice-reshare-prefix-tell c = let F = c .before .before .before .before .before .fill in read-within 0 (F .last .0) (c .before .n .given .1) (F .ensures) (F .kept .0)
 
 slice-aggregate-tell : tie.Need-slice-aggregate-tell
-slice-aggregate-tell c =
-    let h = rw (c .before .before .n .given .1) at (c .before .before .before .before .before .before .fill .ensures) in
-    sym (length-take-le (c .before .before .n .given .0 .0) (c .before .before .before .before .before .before .fill .last .0) (omega (arith, c .before .before .before .before .before .before .fill .kept .0)))
+slice-aggregate-tell c = let F = c .before .before .before .before .before .before .fill in read-length 0 (F .last .0) (c .before .before .n .given .1) (F .ensures) (F .kept .0)
 
 slice-aggregate-write-out : tie.Need-slice-aggregate-write-out
 slice-aggregate-write-out c = sym (length-take-le _ _ (c .before .before .before .before .before .before .before .before .before .tell .ensures .within))
