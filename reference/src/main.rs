@@ -27,7 +27,8 @@ const USAGE: &str = "usage: reference COMMAND
   readers --seed S --count N           this reader beside the proved one
   checks --seed S --count N --damaged M
                                        the Rust beside the proved checker: random plans, damaged
-                                       sheets, the wall, the limits, small plans, short buffers
+                                       sheets, the wall, the limits, small plans, short buffers,
+                                       limits that a caller picks
   stats --seed S --count N             the share of each number among random plans";
 
 fn main() -> ExitCode {
