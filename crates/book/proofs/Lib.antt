@@ -1,3 +1,4 @@
 pub mod Holdings
 pub mod Turns
 pub mod Words
+pub mod Comparing

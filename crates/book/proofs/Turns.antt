@@ -20,12 +20,13 @@ use Rattle.judgment.specs.Solutions.{_≔_, Solutions, writeOut, solvedUnknowns
 use Rattle.judgment.specs.Good.{Free}
 use Rattle.judgment.proofs.SolutionLaws.{other-free, written-append, written-free, solved}
 use Rattle.judgment.proofs.Visits.{visits, visits-append, visits-free, visits-solved}
+use Rattle.book.specs.declared.Book.{Book}
 use Rattle.book.specs.declared.Place.{Place}
 use Rattle.book.specs.declared.Found.{Found}
 use Rattle.book.specs.declared.Found.the-variants.{At, Nothing}
 use Rattle.book.specs.declared.Wrote.{Wrote}
 use Rattle.book.specs.declared.Wrote.the-variants.{Fits, Over}
-use Rattle.book.specs.Book.{startOf, countOf, sols, placeOf, WriteAsk, wrote, writtenTo}
+use Rattle.book.specs.Book.{startOf, countOf, sols, Booked, placeOf, WriteAsk, wrote, writtenTo}
 use Rattle.book.proofs.Holdings.{found-in, free-of}
 
 -- ---- what `find` tells
@@ -65,6 +66,21 @@ told-at w d v {r} e q = subst (Told w d v) q (told w d v r e)
 
 pub told-none : (w : List ℕ) (d v : ℕ) {r : Found} → r ≡ placeOf w d v → r ≡ Nothing → Unsolved w d v
 told-none w d v {r} e q = subst (Told w d v) q (told w d v r e)
+
+-- a node that is no solved unknown
+pub unsolved-free : {w : List ℕ} {b : Book} {d v : ℕ} → Booked w b → Unsolved w d v → Free (solvedUnknowns (sols w)) (node d v)
+unsolved-free {w} {b} {d} {v} h f = go (eqb d 17) refl
+  where
+    go : (c : Bool) → eqb d 17 ≡ c → Free (solvedUnknowns (sols w)) (node d v)
+    go true q = let i = eqb-true d 17 q in rw i (free-of w b v h (f i))
+    go false q = other-free (solvedUnknowns (sols w)) d v (eqb-false d 17 q)
+
+-- a solved unknown: its solution is one of the book's, and stands in its words
+pub solved-in : {w : List ℕ} {b : Book} {d v : ℕ} {p : Place} → Booked w b → Solved w d v p → In (_≔_ v (nodesAt w (p .start) (p .count))) (sols w) × (p .start + 2 * p .count ≤ length w)
+solved-in {w} {b} {d} {v} {p} h f =
+    let q : In (_≔_ v (nodesAt w (p .start) (p .count))) (sols w) × (0 < p .count) × (p .start + 2 * p .count ≤ bookBase + 2 * b .nodes) =
+    rw (f .start, f .count) (found-in w (bookBase + 2 * b .nodes) bookBase (sols w) v (h .holds) (f .small) (f .high)) in
+    (q .0, let z = q .2 in let r = h .room in let u = h .few in omega arith)
 
 -- ---- what two calls leave
 module _ (x y : Ty) (n end : ℕ) (o : List ℕ) where
@@ -151,11 +167,7 @@ module _ {s : List ℕ} {at left : ℕ} {w o : List ℕ} {n end : ℕ} (ask : Wr
 
   module _ (f : Unsolved w d v) where
     free : Free (solvedUnknowns σ) (node d v)
-    free = go (eqb d 17) refl
-      where
-        go : (c : Bool) → eqb d 17 ≡ c → Free (solvedUnknowns σ) (node d v)
-        go true q = let i = eqb-true d 17 q in rw i (free-of w (ask .book .0) v (ask .book .1) (f i))
-        go false q = other-free (solvedUnknowns σ) d v (eqb-false d 17 q)
+    free = unsolved-free (ask .book .1) f
 
     miss-out : writeOut σ (nodesAt s at left) ≡ (node d v ∷ []) ++ writeOut σ others
     miss-out = ap (writeOut σ) cons ∙ written-append σ (node d v ∷ []) others ∙ ap (λ (t : Ty). t ++ writeOut σ others) (written-free σ (node d v ∷ []) (free, tt))
@@ -180,8 +192,8 @@ module _ {s : List ℕ} {at left : ℕ} {w o : List ℕ} {n end : ℕ} (ask : Wr
     abbrev solution : Ty
     solution = nodesAt w (p .start) (p .count)
 
-    found : In (_≔_ v solution) σ × (0 < p .count) × (p .start + 2 * p .count ≤ bookBase + 2 * ask .book .0 .nodes)
-    found = rw (f .start, f .count) (found-in w (bookBase + 2 * ask .book .0 .nodes) bookBase σ v (ask .book .1 .holds) (f .small) (f .high))
+    found : In (_≔_ v solution) σ × (p .start + 2 * p .count ≤ length w)
+    found = solved-in (ask .book .1) f
 
     first : nodesAt s at left ≡ unknown v ++ others
     first = cons ∙ ap (λ (k : ℕ). (node k v ∷ []) ++ others) (f .unknown)
@@ -201,7 +213,7 @@ module _ {s : List ℕ} {at left : ℕ} {w o : List ℕ} {n end : ℕ} (ask : Wr
     -- what the call for the solution asks
     pub in-ask : WriteAsk w (p .start) (p .count) w o n end
     in-ask = record {
-      within = let z = found .2 in let r = ask .book .1 .room in let u = ask .book .1 .few in omega arith;
+      within = found .1;
       book = ask .book;
       room = ask .room;
       most = ask .most;

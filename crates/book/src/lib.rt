@@ -1,5 +1,6 @@
-// The solution book (worklist.rs, `solved_evars`): the solutions of unknowns as words of a lent buffer, and writing out (`zonk`).
+// The solution book (worklist.rs, `solved_evars`): the solutions of unknowns as words of a lent buffer, and what follows them: writing out (`zonk`) and comparing.
 ghost use mathlib.Core.Path.{_≡_};
+ghost use mathlib.Core.Logic.{_≢_};
 ghost use mathlib.Core.List.{[]};
 ghost use Prim.Native.Nat.{_+_, _*_, _≤_, _<_};
 ghost use lib.ListN.{length};
@@ -9,6 +10,9 @@ ghost use Rattle.nodes.specs.Nodes.{nodesAt};
 ghost use Rattle.judgment.specs.Solutions.{writeOut};
 ghost use Rattle.judgment.specs.Result.{bookWords};
 ghost use Rattle.book.specs.Book.{sols, fitting, given, grown, SolveAsk, placeOf, WriteAsk, wrote, writtenTo};
+ghost use Rattle.book.specs.Compared.{next, nodeMet, alikeAt, skipped, firstMet, compared, apartAt, Sides, MeetAsk, FirstAsk, NextAsk};
+use core_types::is_node;
+use core_types::node_parts;
 use nodes::clear_words;
 use nodes::copy_nodes;
 use nodes::wide;
@@ -58,6 +62,34 @@ pub enum Found {
 
 pub enum Wrote {
     Fits(usize),
+    Over,
+}
+
+// What is still to be compared: the words at which the two sides go on, how many types from there, and how many nodes these may have when written out.
+pub struct Rest {
+    pub left: usize,
+    pub right: usize,
+    pub parts: usize,
+    pub budget: usize,
+}
+
+impl Rest {
+    pub fn new(left: usize, right: usize, parts: usize, budget: usize) -> Rest
+        ensures { λ r. ⌜ r ≡ record { left = left; right = right; parts = parts; budget = budget } ⌝ }
+    {
+        Rest {
+            left,
+            right,
+            parts,
+            budget,
+        }
+    }
+}
+
+// What a comparison has met: the same nodes up to what is still to be compared, a node that differs, or more nodes than the budget and none that differs.
+pub enum Met {
+    Same(Rest),
+    Differ,
     Over,
 }
 
@@ -141,6 +173,143 @@ pub fn write_out(
         l -= 1;
     }
     Wrote::Fits(m)
+}
+
+// A node further on both sides.
+fn next_node(l: &[u32], c: Rest) -> Rest
+    requires { ⌜ NextAsk (now l) c ⌝ }
+    ensures { λ d. ⌜ d ≡ next (now (l .entry)) c ⌝ }
+{
+    let x = c.left;
+    let more = wide(node_parts(l[x], l[x + 1]));
+    Rest::new(x + 2, c.right + 2, c.parts - 1 + more, c.budget - 1)
+}
+
+// There are first nodes, within the budget; they are the same and no unknowns.
+fn alike(l: &[u32], r: &[u32], c: Rest) -> bool
+    requires { ⌜ (c .parts ≢ 0 → (c .left + 2 ≤ length (now l)) × (c .right + 2 ≤ length (now r))) ⌝ }
+    ensures { λ a. ⌜ a ≡ alikeAt (now (l .entry)) (now (r .entry)) c ⌝ }
+{
+    if c.parts == 0 {
+        return false;
+    }
+    if c.budget == 0 {
+        return false;
+    }
+    let x = c.left;
+    let y = c.right;
+    let kind = l[x];
+    if kind == 17 {
+        return false;
+    }
+    is_node(kind, l[x + 1], r[y], r[y + 1])
+}
+
+// Goes past such nodes: a loop of its own, since most nodes of most types are no unknowns.
+fn skip_same(l: &[u32], r: &[u32], c: Rest) -> Rest
+    requires { ⌜ Sides (now l) (now r) c ⌝ }
+    ensures { λ d. ⌜ d ≡ skipped (c .budget) (now (l .entry)) (now (r .entry)) c ⌝ }
+{
+    let mut d = c;
+    while alike(l, r, d) {
+        d = next_node(l, d);
+    }
+    d
+}
+
+// Compares the first nodes, neither of which is a solved unknown.
+fn same_node(l: &[u32], r: &[u32], c: Rest) -> Met
+    requires { ⌜ FirstAsk (now l) (now r) c ⌝ }
+    ensures { λ o. ⌜ o ≡ nodeMet (now (l .entry)) (now (r .entry)) c ⌝ }
+{
+    let x = c.left;
+    let y = c.right;
+    if is_node(l[x], l[x + 1], r[y], r[y + 1]) {
+        if c.budget == 0 {
+            return Met::Over;
+        }
+        return Met::Same(next_node(l, c));
+    }
+    Met::Differ
+}
+
+// Compares the first nodes or, where one of them is a solved unknown, its solution with the type against it.
+fn same_first(l: &[u32], r: &[u32], book: &[u32], c: Rest) -> Met
+    requires { ⌜ MeetAsk (now l) (now r) (now book) c × FirstAsk (now l) (now r) c ⌝ }
+    ensures { λ o. ⌜ o ≡ firstMet (now (l .entry)) (now (r .entry)) (now (book .entry)) c ⌝ }
+{
+    let x = c.left;
+    let y = c.right;
+    let parts = c.parts - 1;
+    let budget = c.budget;
+    match find(book, l[x], l[x + 1]) {
+        Found::At(p) => match same_parts(book, r, book, Rest::new(p.start, y, 1, budget)) {
+            Met::Same(d) => Met::Same(Rest::new(x + 2, d.right, parts, d.budget)),
+            Met::Differ => Met::Differ,
+            Met::Over => Met::Over,
+        },
+        Found::Nothing => match find(book, r[y], r[y + 1]) {
+            Found::At(q) => match same_parts(l, book, book, Rest::new(x, q.start, 1, budget)) {
+                Met::Same(d) => Met::Same(Rest::new(d.left, y + 2, parts, d.budget)),
+                Met::Differ => Met::Differ,
+                Met::Over => Met::Over,
+            },
+            Found::Nothing => same_node(l, r, c),
+        },
+    }
+}
+
+// Compares types of l with types of r as they are when written out, following each solved unknown into its solution.
+fn same_parts(l: &[u32], r: &[u32], book: &[u32], c: Rest) -> Met
+    requires { ⌜ MeetAsk (now l) (now r) (now book) c ⌝ }
+    ensures { λ o. ⌜ o ≡ compared (now (l .entry)) (now (r .entry)) (now (book .entry)) c ⌝ }
+{
+    let mut d = skip_same(l, r, c);
+    while 0 < d.parts {
+        match same_first(l, r, book, d) {
+            Met::Same(e) => {
+                d = skip_same(l, r, e);
+            }
+            Met::Differ => {
+                return Met::Differ;
+            }
+            Met::Over => {
+                return Met::Over;
+            }
+        }
+    }
+    Met::Same(d)
+}
+
+// The first nodes tell two types apart: there are some, none is a solved unknown, and they are not the same.
+fn apart(l: &[u32], r: &[u32], book: &[u32], c: Rest) -> bool
+    requires { ⌜ (c .parts ≢ 0 → (c .left + 2 ≤ length (now l)) × (c .right + 2 ≤ length (now r))) × (bookSize ≤ length (now book)) ⌝ }
+    ensures { λ a. ⌜ a ≡ apartAt (now (l .entry)) (now (r .entry)) (now (book .entry)) c ⌝ }
+{
+    if c.parts == 0 {
+        return false;
+    }
+    let p = c.left;
+    let q = c.right;
+    match find(book, l[p], l[p + 1]) {
+        Found::At(_) => false,
+        Found::Nothing => match find(book, r[q], r[q + 1]) {
+            Found::At(_) => false,
+            Found::Nothing => !is_node(l[p], l[p + 1], r[q], r[q + 1]),
+        },
+    }
+}
+
+// The same comparison; most types differ in a node that no solution stands for, and need no call of a recursive function.
+pub fn compare(l: &[u32], r: &[u32], book: &[u32], c: Rest) -> Met
+    requires { ⌜ MeetAsk (now l) (now r) (now book) c ⌝ }
+    ensures { λ o. ⌜ o ≡ compared (now (l .entry)) (now (r .entry)) (now (book .entry)) c ⌝ }
+{
+    let d = skip_same(l, r, c);
+    if apart(l, r, book, d) {
+        return Met::Differ;
+    }
+    same_parts(l, r, book, d)
 }
 
 // Empties the book.

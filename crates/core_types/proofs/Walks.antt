@@ -1,7 +1,7 @@
 -- One node of a walk over the nodes in a buffer, and the rest. Assumes nothing.
 use mathlib.Core.Path.{_≡_, refl, sym, ap, ap₂, _∙_}
 use mathlib.Core.Logic.{_≢_}
-use mathlib.Core.Bool.{Bool, true, false, cond, not, _&&_}
+use mathlib.Core.Bool.{Bool, true, false, cond, _&&_}
 use mathlib.Core.List.{List, [], _∷_, _++_, append-assoc, append-nil}
 use Prim.Native.Nat.{ℕ, zero, suc, _+_, _*_, _-_, _≤_, _<_}
 use native.Mathlib.Numerals.{add-one, add-two}
@@ -12,25 +12,22 @@ use lib.Dec.{eqb}
 use borrow.Author.Tests.{eq-eqb, ne-eqb, eqb-true}
 use Rattle.nodes.specs.Parts.{takeParts, dropParts}
 use Rattle.nodes.specs.Nodes.{Node, node, Ty, nodeParts}
-use Rattle.judgment.specs.Types.{first, rest, isNode, eqTy, occurs, isMonotype, substituteFrom, substitute}
-use Rattle.nodes.specs.Nodes.{words, nodesAt}
+use Rattle.judgment.specs.Types.{first, rest, isNode, occurs, isMonotype, substituteFrom, substitute}
+use Rattle.nodes.specs.Nodes.{words, nodeAt, nodesAt}
 use Rattle.nodes.proofs.Laws.{nodesAt-cons, nodesAt-snoc, nodesAt-above, nodesAt-same, length-nodesAt, take-nodesAt, drop-nodesAt}
 use Rattle.nodes.proofs.PartLaws.{length-take, is-take, is-drop}
 use Rattle.core_types.specs.Walk.{substituting}
-
-abbrev pub headOf : List ℕ → ℕ → Node
-headOf b p = node (getD b p 0) (getD b (p + 1) 0)
 
 pub nothing : (b : List ℕ) (p n : ℕ) → n ≡ 0 → nodesAt b p n ≡ []
 unfolding nodesAt
 nothing b p n e = rw e
 
 module _ (b : List ℕ) (p n : ℕ) (h : 0 < n) where
-  pub occurs-hit : (k : ℕ) → isNode 17 k (headOf b p) ≡ true → occurs k (nodesAt b p n) ≡ true
+  pub occurs-hit : (k : ℕ) → isNode 17 k (nodeAt b p) ≡ true → occurs k (nodesAt b p n) ≡ true
   unfolding occurs
   occurs-hit k e = rw (nodesAt-cons b p n h, e)
 
-  pub occurs-turn : (k : ℕ) → isNode 17 k (headOf b p) ≡ false → occurs k (nodesAt b p n) ≡ occurs k (nodesAt b (p + 2) (n - 1))
+  pub occurs-turn : (k : ℕ) → isNode 17 k (nodeAt b p) ≡ false → occurs k (nodesAt b p n) ≡ occurs k (nodesAt b (p + 2) (n - 1))
   unfolding occurs
   occurs-turn k e = rw (nodesAt-cons b p n h, e)
 
@@ -42,32 +39,17 @@ module _ (b : List ℕ) (p n : ℕ) (h : 0 < n) where
   unfolding isMonotype
   mono-turn e = rw (nodesAt-cons b p n h, ne-eqb (getD b p 0) 14 e)
 
-  pub take-turn : (m : ℕ) → m ≢ 0 → takeParts nodeParts (nodesAt b p n) m ≡ headOf b p ∷ takeParts nodeParts (nodesAt b (p + 2) (n - 1)) (m - 1 + nodeParts (headOf b p))
+  pub take-turn : (m : ℕ) → m ≢ 0 → takeParts nodeParts (nodesAt b p n) m ≡ nodeAt b p ∷ takeParts nodeParts (nodesAt b (p + 2) (n - 1)) (m - 1 + nodeParts (nodeAt b p))
   take-turn zero f = absurd (f refl)
   take-turn (suc m) f =
-      let e : nodeParts (headOf b p) + m ≡ suc m - 1 + nodeParts (headOf b p) = omega arith in
-      rw (nodesAt-cons b p n h) (ap (λ (x : ℕ). headOf b p ∷ takeParts nodeParts (nodesAt b (p + 2) (n - 1)) x) e)
+      let e : nodeParts (nodeAt b p) + m ≡ suc m - 1 + nodeParts (nodeAt b p) = omega arith in
+      rw (nodesAt-cons b p n h) (ap (λ (x : ℕ). nodeAt b p ∷ takeParts nodeParts (nodesAt b (p + 2) (n - 1)) x) e)
 
-  pub drop-turn : (m : ℕ) → m ≢ 0 → dropParts nodeParts (nodesAt b p n) m ≡ dropParts nodeParts (nodesAt b (p + 2) (n - 1)) (m - 1 + nodeParts (headOf b p))
+  pub drop-turn : (m : ℕ) → m ≢ 0 → dropParts nodeParts (nodesAt b p n) m ≡ dropParts nodeParts (nodesAt b (p + 2) (n - 1)) (m - 1 + nodeParts (nodeAt b p))
   drop-turn zero f = absurd (f refl)
   drop-turn (suc m) f =
-      let e : nodeParts (headOf b p) + m ≡ suc m - 1 + nodeParts (headOf b p) = omega arith in
+      let e : nodeParts (nodeAt b p) + m ≡ suc m - 1 + nodeParts (nodeAt b p) = omega arith in
       rw (nodesAt-cons b p n h) (ap (λ (x : ℕ). dropParts nodeParts (nodesAt b (p + 2) (n - 1)) x) e)
-
-  module _ (d : List ℕ) (q m : ℕ) where
-    pub same-short : m ≡ 0 → eqTy (nodesAt b p n) (nodesAt d q m) ≡ false
-    same-short e = rw (nodesAt-cons b p n h, nothing d q m e)
-
-    module _ (i : m ≢ 0) where
-      pub same-hit : isNode (getD b p 0) (getD b (p + 1) 0) (headOf d q) ≡ false → eqTy (nodesAt b p n) (nodesAt d q m) ≡ false
-      same-hit e = rw (nodesAt-cons b p n h, nodesAt-cons d q m (omega arith), e)
-
-      pub same-turn : isNode (getD b p 0) (getD b (p + 1) 0) (headOf d q) ≡ true → eqTy (nodesAt b p n) (nodesAt d q m) ≡ eqTy (nodesAt b (p + 2) (n - 1)) (nodesAt d (q + 2) (m - 1))
-      same-turn e = rw (nodesAt-cons b p n h, nodesAt-cons d q m (omega arith), e)
-
-pub eqTy-end : (t : Ty) (m : ℕ) → length t ≡ m → eqTy [] t ≡ eqb m 0
-eqTy-end [] m e = rw (← e)
-eqTy-end (x ∷ t) m e = sym (ne-eqb m 0 (λ z. (let q : suc (length t) ≡ m = e in omega arith)))
 
 pub take-none : (l : Ty) (m : ℕ) → m ≡ 0 → takeParts nodeParts l m ≡ []
 take-none [] m e = refl
@@ -90,15 +72,15 @@ part-start b at n =
     let f : n ≡ n - 0 = omega arith in
     (ap₂ (λ (x y : ℕ). takeParts nodeParts (nodesAt b x y) 1) e f, ap₂ (λ (x y : ℕ). dropParts nodeParts (nodesAt b x y) 1) e f)
 
-pub part-turn : (b : List ℕ) (at n i m : ℕ) → i < n → m ≢ 0 → Parting b at n i m → Parting b at n (i + 1) (m - 1 + nodeParts (headOf b (at + 2 * i)))
+pub part-turn : (b : List ℕ) (at n i m : ℕ) → i < n → m ≢ 0 → Parting b at n i m → Parting b at n (i + 1) (m - 1 + nodeParts (nodeAt b (at + 2 * i)))
 part-turn b at n i m l f h =
     let p : ℕ = at + 2 * i in
     let e : p + 2 ≡ at + 2 * (i + 1) = omega arith in
     let g : n - i - 1 ≡ n - (i + 1) = omega arith in
-    let k : ℕ = m - 1 + nodeParts (headOf b p) in (
+    let k : ℕ = m - 1 + nodeParts (nodeAt b p) in (
       h .0 ∙ ap (λ (x : Ty). nodesAt b at i ++ x) (take-turn b p (n - i) (omega arith) m f)
-          ∙ ap₂ (λ (x y : ℕ). nodesAt b at i ++ (headOf b p ∷ takeParts nodeParts (nodesAt b x y) k)) e g
-          ∙ sym (append-assoc (nodesAt b at i) (headOf b p ∷ []) (takeParts nodeParts (nodesAt b (at + 2 * (i + 1)) (n - (i + 1))) k))
+          ∙ ap₂ (λ (x y : ℕ). nodesAt b at i ++ (nodeAt b p ∷ takeParts nodeParts (nodesAt b x y) k)) e g
+          ∙ sym (append-assoc (nodesAt b at i) (nodeAt b p ∷ []) (takeParts nodeParts (nodesAt b (at + 2 * (i + 1)) (n - (i + 1))) k))
           ∙ ap (λ (x : Ty). x ++ takeParts nodeParts (nodesAt b (at + 2 * (i + 1)) (n - (i + 1))) k) (sym (nodesAt-snoc b at i)),
       h .1 ∙ drop-turn b p (n - i) (omega arith) m f ∙ ap₂ (λ (x y : ℕ). dropParts nodeParts (nodesAt b x y) k) e g,
     )
@@ -136,7 +118,7 @@ module _ (b : List ℕ) (at n r : ℕ) (e : r ≡ length (first (nodesAt b at n)
 -- ---- substitution
 module _ (x : ℕ) (r : Node) (t : List ℕ) (p left : ℕ) (h : 0 < left) where
   -- a node and its successors
-  sub-turn : (skip k v skip′ : ℕ) → substituteFrom x r (headOf t p ∷ nodesAt t (p + 2) (left - 1)) skip ≡ node k v ∷ substituteFrom x r (nodesAt t (p + 2) (left - 1)) skip′
+  sub-turn : (skip k v skip′ : ℕ) → substituteFrom x r (nodeAt t p ∷ nodesAt t (p + 2) (left - 1)) skip ≡ node k v ∷ substituteFrom x r (nodesAt t (p + 2) (left - 1)) skip′
       → substituting x r t p left skip ≡ substituting x r (set (set t p k) (p + 1) v) (p + 2) (left - 1) skip′
   unfolding substituting words
   sub-turn skip k v skip′ e =
@@ -150,20 +132,20 @@ module _ (x : ℕ) (r : Node) (t : List ℕ) (p left : ℕ) (h : 0 < left) where
   kept : set (set t p (getD t p 0)) (p + 1) (getD t (p + 1) 0) ≡ t
   kept = ap (λ (l : List ℕ). set l (p + 1) (getD t (p + 1) 0)) (set-getD t p 0) ∙ set-getD t (p + 1) 0
 
-  sub-kept : (skip skip′ : ℕ) → substituteFrom x r (headOf t p ∷ nodesAt t (p + 2) (left - 1)) skip ≡ headOf t p ∷ substituteFrom x r (nodesAt t (p + 2) (left - 1)) skip′
+  sub-kept : (skip skip′ : ℕ) → substituteFrom x r (nodeAt t p ∷ nodesAt t (p + 2) (left - 1)) skip ≡ nodeAt t p ∷ substituteFrom x r (nodesAt t (p + 2) (left - 1)) skip′
       → substituting x r t p left skip ≡ substituting x r t (p + 2) (left - 1) skip′
   sub-kept skip skip′ e = sub-turn skip (getD t p 0) (getD t (p + 1) 0) skip′ e ∙ ap (λ (l : List ℕ). substituting x r l (p + 2) (left - 1) skip′) kept
 
-  pub sub-skip : (skip : ℕ) → skip ≢ 0 → substituting x r t p left skip ≡ substituting x r t (p + 2) (left - 1) (skip - 1 + nodeParts (headOf t p))
+  pub sub-skip : (skip : ℕ) → skip ≢ 0 → substituting x r t p left skip ≡ substituting x r t (p + 2) (left - 1) (skip - 1 + nodeParts (nodeAt t p))
   sub-skip zero f = absurd (f refl)
   sub-skip (suc m) f =
-      let e : nodeParts (headOf t p) + m ≡ suc m - 1 + nodeParts (headOf t p) = omega arith in
-      sub-kept (suc m) (nodeParts (headOf t p) + m) refl ∙ ap (λ (y : ℕ). substituting x r t (p + 2) (left - 1) y) e
+      let e : nodeParts (nodeAt t p) + m ≡ suc m - 1 + nodeParts (nodeAt t p) = omega arith in
+      sub-kept (suc m) (nodeParts (nodeAt t p) + m) refl ∙ ap (λ (y : ℕ). substituting x r t (p + 2) (left - 1) y) e
 
-  pub sub-bound : isNode 11 x (headOf t p) ≡ false → isNode 14 x (headOf t p) ≡ true → substituting x r t p left 0 ≡ substituting x r t (p + 2) (left - 1) 1
+  pub sub-bound : isNode 11 x (nodeAt t p) ≡ false → isNode 14 x (nodeAt t p) ≡ true → substituting x r t p left 0 ≡ substituting x r t (p + 2) (left - 1) 1
   sub-bound e f = sub-kept 0 1 (rw (e, f))
 
-  pub sub-other : isNode 11 x (headOf t p) ≡ false → isNode 14 x (headOf t p) ≡ false → substituting x r t p left 0 ≡ substituting x r t (p + 2) (left - 1) 0
+  pub sub-other : isNode 11 x (nodeAt t p) ≡ false → isNode 14 x (nodeAt t p) ≡ false → substituting x r t p left 0 ≡ substituting x r t (p + 2) (left - 1) 0
   sub-other e f = sub-kept 0 0 (rw (e, f))
 
 and-left : (a b : Bool) → (a && b) ≡ true → a ≡ true
@@ -176,7 +158,7 @@ no-quantifier x k v e =
     let z : 11 ≡ k = eqb-true 11 k (and-left (eqb 11 k) (eqb x v) e) in
     rw (ne-eqb 14 k (omega arith))
 
-pub sub-hit : (x k v : ℕ) (t : List ℕ) (p left : ℕ) → 0 < left → isNode 11 x (headOf t p) ≡ true
+pub sub-hit : (x k v : ℕ) (t : List ℕ) (p left : ℕ) → 0 < left → isNode 11 x (nodeAt t p) ≡ true
     → substituting x (node k v) t p left 0 ≡ substituting x (node k v) (set (set t p k) (p + 1) v) (p + 2) (left - 1) 0
 sub-hit x k v t p left h e = sub-turn x (node k v) t p left h 0 k v 0 (rw (e, no-quantifier x (getD t p 0) (getD t (p + 1) 0) e))
 

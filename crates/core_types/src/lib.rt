@@ -5,7 +5,7 @@ ghost use lib.ListN.{length};
 ghost use lib.Seq.{sets};
 ghost use Rattle.sizes.specs.Sizes.{mostNodes, mostNumbers};
 ghost use Rattle.nodes.specs.Nodes.{node, nodeParts};
-ghost use Rattle.judgment.specs.Types.{isNode as nodeIs, eqTy, first, occurs as occursIn, isMonotype, substitute as substituted, frontNames, renameNode};
+ghost use Rattle.judgment.specs.Types.{isNode as nodeIs, first, occurs as occursIn, isMonotype, substitute as substituted, frontNames, renameNode};
 ghost use Rattle.nodes.specs.Nodes.{words, nodesAt};
 ghost use Rattle.core_types.specs.Walk.{substituting};
 ghost use mathlib.Core.List.{[]};
@@ -73,31 +73,6 @@ pub fn is_monotype(t: &[u32], at: usize, n: usize) -> bool
         left -= 1;
     }
     true
-}
-
-// The two types are one and the same.
-pub fn same_type(l: &[u32], la: usize, ln: usize, r: &[u32], ra: usize, rn: usize) -> bool
-    requires { ⌜ (la + 2 * ln ≤ length (now l)) × (ra + 2 * rn ≤ length (now r)) ⌝ }
-    ensures { λ b. ⌜ b ≡ eqTy (nodesAt (now (l .entry)) la ln) (nodesAt (now (r .entry)) ra rn) ⌝ }
-{
-    let mut p = la;
-    let mut pn = ln;
-    let mut q = ra;
-    let mut qn = rn;
-    while 0 < pn {
-        if qn == 0 {
-            return false;
-        }
-        if is_node(l[p], l[p + 1], r[q], r[q + 1]) {
-            p += 2;
-            pn -= 1;
-            q += 2;
-            qn -= 1;
-        } else {
-            return false;
-        }
-    }
-    qn == 0
 }
 
 // How many of the n nodes at word `at` of src the first type has.

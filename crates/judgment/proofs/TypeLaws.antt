@@ -11,7 +11,7 @@ use Rattle.nodes.proofs.PartLaws.{take-drop}
 use Rattle.nodes.specs.Lists.{All}
 use Rattle.nodes.proofs.ListLaws.{cond-ind, all-take, all-drop}
 use Rattle.nodes.specs.Nodes.{Node, node, Ty, kind, nodeParts}
-use Rattle.judgment.specs.Types.{unknown, arrow, app, forall, isNode, eqTy, first, rest, View, isArrow, isApp, isForall, isUnknown, isOther, view, null, substituteFrom, substitute, Renaming, renameNode, rename, afterFront}
+use Rattle.judgment.specs.Types.{unknown, arrow, app, forall, isNode, eqNode, eqTy, first, rest, View, isArrow, isApp, isForall, isUnknown, isOther, view, null, substituteFrom, substitute, Renaming, renameNode, rename, afterFront}
 use Rattle.spelling.specs.declared.Triple.{Triple}
 use Rattle.kinds.specs.Kinds.{partsOf}
 use Rattle.sheet.specs.Plan.{lineNode, nodesOf}
@@ -51,6 +51,25 @@ eqTy-true (x ∷ xs) [] e = absurd (false≢true e)
 eqTy-true (node k v ∷ xs) (y ∷ ys) e =
     let h = both (isNode k v y) (eqTy xs ys) e in
     ap₂ {C = Ty} (λ z zs. z ∷ zs) (sym (isNode-true k v y (h .0))) (eqTy-true xs ys (h .1))
+
+pub eqNode-same : (n : Node) → eqNode n n ≡ true
+eqNode-same (node k v) = rw (eqb-same k, eqb-same v) refl
+
+pub eqTy-same : (t : Ty) → eqTy t t ≡ true
+eqTy-same [] = refl
+eqTy-same (n ∷ t) = rw (eqNode-same n) (eqTy-same t)
+
+pub eqTy-not : (s t : Ty) → s ≢ t → eqTy s t ≡ false
+eqTy-not s t h = go (eqTy s t) refl
+  where
+    go : (b : Bool) → eqTy s t ≡ b → eqTy s t ≡ false
+    go true e = absurd (h (eqTy-true s t e))
+    go false e = e
+
+-- the same nodes in front of both
+pub eqTy-front : (x s t : Ty) → eqTy (x ++ s) (x ++ t) ≡ eqTy s t
+eqTy-front [] s t = refl
+eqTy-front (n ∷ x) s t = rw (eqNode-same n) (eqTy-front x s t)
 
 ---------------------------------------------------------------- the view of a type
 abbrev pub Shows : View → Ty → Type 0

@@ -1,9 +1,11 @@
--- Laws of `Whole`: parts put together, replaced and taken apart stay whole. Assumes nothing.
-use mathlib.Core.Path.{_≡_, refl, sym, ap, _∙_}
+-- Laws of `Whole`: parts put together, replaced and taken apart stay whole, and no whole list begins another. Assumes nothing.
+use mathlib.Core.Path.{_≡_, refl, sym, ap, ap₂, _∙_, subst⁻¹}
 use mathlib.Core.List.{List, [], _∷_, _++_}
-use Prim.Native.Nat.{ℕ, zero, suc, _+_}
+use Prim.Native.Nat.{ℕ, zero, suc, _+_, _≤_}
 use native.Mathlib.Omega.{arith}
+use lib.ListN.{length, take}
 use Rattle.nodes.specs.Parts.{takeParts, dropParts, Whole}
+use Rattle.nodes.proofs.PartLaws.{take-none}
 
 module _ {A : Type 0} (parts : A → ℕ) where
   whole-as : (xs : List A) {m n : ℕ} → m ≡ n → Whole parts xs m → Whole parts xs n
@@ -36,3 +38,29 @@ module _ {A : Type 0} (parts : A → ℕ) where
   whole-map others f e g nil cons (x ∷ xs) zero h = absurd h
   whole-map others f e g nil cons (x ∷ xs) (suc n) h =
       rw (cons x xs, e x) (whole-map others f e g nil cons xs (parts x + n) h)
+
+  -- m whole parts are the first m parts of whatever begins with them
+  pub take-whole : (xs ys : List A) (m : ℕ) → Whole parts xs m → takeParts parts (xs ++ ys) m ≡ xs
+  take-whole [] ys m h = ap (takeParts parts ys) h ∙ take-none parts ys
+  take-whole (x ∷ xs) ys zero h = absurd h
+  take-whole (x ∷ xs) ys (suc m) h = ap (λ (l : List A). x ∷ l) (take-whole xs ys (parts x + m) h)
+
+  -- no part is empty
+  pub whole-few : (xs : List A) (m : ℕ) → Whole parts xs m → m ≤ length xs
+  whole-few [] m h = let z : m ≡ 0 = h in omega arith
+  whole-few (x ∷ xs) zero h = absurd h
+  whole-few (x ∷ xs) (suc m) h = let z = whole-few xs (parts x + m) h in omega arith
+
+  -- where two lists that begin with as many parts agree in their first k elements, these parts do
+  pub prefix-free : (k : ℕ) (xs ys us vs : List A) (m : ℕ) → Whole parts xs m → Whole parts ys m → take k (xs ++ us) ≡ take k (ys ++ vs) → take k xs ≡ take k ys
+  prefix-free zero xs ys us vs m h g e = refl
+  prefix-free (suc k) [] [] us vs m h g e = refl
+  prefix-free (suc k) [] (y ∷ ys) us vs zero h g e = absurd g
+  prefix-free (suc k) [] (y ∷ ys) us vs (suc m) h g e = absurd (let z : suc m ≡ 0 = h in omega arith)
+  prefix-free (suc k) (x ∷ xs) ys us vs zero h g e = absurd h
+  prefix-free (suc k) (x ∷ xs) [] us vs (suc m) h g e = absurd (let z : suc m ≡ 0 = g in omega arith)
+  prefix-free (suc k) (x ∷ xs) (y ∷ ys) us vs (suc m) h g e =
+      let a : x ≡ y = cc in
+      let b : take k (xs ++ us) ≡ take k (ys ++ vs) = cc in
+      let f : Whole parts ys (parts x + m) = subst⁻¹ (λ (z : A). Whole parts ys (parts z + m)) a g in
+      ap₂ {C = List A} (λ z zs. z ∷ zs) a (prefix-free k xs ys us vs (parts x + m) h f b)

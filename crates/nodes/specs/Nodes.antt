@@ -29,10 +29,14 @@ unfoldable pub words : Ty → List ℕ
 words [] = []
 words (node k v ∷ t) = k ∷ v ∷ words t
 
+-- the node that stands at word p of b
+abbrev pub nodeAt : List ℕ → ℕ → Node
+nodeAt b p = node (getD b p 0) (getD b (p + 1) 0)
+
 -- the n nodes that stand in b from word p on
 unfoldable pub nodesAt : List ℕ → ℕ → ℕ → Ty
 nodesAt b p zero = []
-nodesAt b p (suc n) = node (getD b p 0) (getD b (p + 1) 0) ∷ nodesAt b (p + 2) n
+nodesAt b p (suc n) = nodeAt b p ∷ nodesAt b (p + 2) n
 
 -- n words that are 0; shut, so that no comparison goes through them one by one
 unfoldable pub zeros : ℕ → List ℕ

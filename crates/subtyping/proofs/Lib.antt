@@ -4,3 +4,4 @@ pub mod Insts
 pub mod Subs
 pub mod Outs
 pub mod Parts
+pub mod Comparing

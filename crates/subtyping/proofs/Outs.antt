@@ -1,5 +1,6 @@
 -- A sound type, written out, may be compared; two write-outs one after the other. Assumes nothing.
 use mathlib.Core.Path.{_≡_, sym, ap, ap₂, _∙_, subst⁻¹}
+use mathlib.Core.Logic.{_≢_}
 use mathlib.Core.Bool.{Bool, true, false, cond}
 use mathlib.Core.List.{List, [], _∷_}
 use Prim.Native.Nat.{ℕ, _+_, _*_, _≤_, _<_}
@@ -17,6 +18,7 @@ use Rattle.judgment.specs.Types.{view, eqTy}
 use Rattle.judgment.specs.Board.{Rule, done, zonk}
 use Rattle.judgment.specs.Rules.{subtypeBy}
 use Rattle.judgment.specs.Solutions.{Solution, value, writeOut}
+use Rattle.judgment.proofs.TypeLaws.{eqTy-not}
 use Rattle.judgment.proofs.SolutionLaws.{all-written, written-is-free}
 use Rattle.judgment.proofs.WholeTypes.{written-whole}
 use Rattle.book.specs.Book.{sols}
@@ -25,7 +27,7 @@ use Rattle.operations.specs.declared.Zonked.{Zonked}
 use Rattle.operations.specs.State.{WellFormed, Does, going, zonkRun, zonkWords, ZonkAsk, Zonks}
 use Rattle.operations.proofs.Latch.{stays-does}
 use Rattle.operations.proofs.Zonking.{zonk-few, zonk-fresh, zonk-below}
-use Rattle.operations.proofs.Then.{does-as, done-does, zonk-then, alive, grows}
+use Rattle.operations.proofs.Then.{does-as, zonk-then, alive, grows}
 use Rattle.subtyping.specs.Subtyping.{Made, shapesReport, twiceReport, Written, Sound, SubAsk, SubtypeAsk}
 
 some-node : (t : Ty) → Whole nodeParts t 1 → 0 < length t
@@ -107,6 +109,10 @@ module _ {b k rep : List ℕ} {c : Run} {at fn tn w : ℕ} (p : SubtypeAsk b k r
             right = written-out (D₂ [] .kept) (c .fresh) later (p .solutions) t T (p .right) (outs g .1) l₂;
           }
 
+      -- types that differ stand in the report as types that differ
+      pub out-differ : going (y .run .halt) ≡ true → writeOut (sols k) f ≢ writeOut (sols k) t → eqTy F T ≡ false
+      out-differ g h = eqTy-not F T (λ e. h (sym (outs g .0) ∙ e ∙ outs g .1))
+
       -- the rest of the rule, with the two types as they stand in the report
       pub twice-then : (ls : List Triple) (G : Ty → Ty → Rule) {b' k' rep' : List ℕ} {r : Run} → Does w ls b k rep₂ (y .run) (G F T) b' k' rep' r
           → Does w ls b k rep c (zonk f (λ (x : Ty). zonk t (G x))) b' k' rep' r
@@ -116,9 +122,6 @@ module _ {b k rep : List ℕ} {c : Run} {at fn tn w : ℕ} (p : SubtypeAsk b k r
       -- a run that is refused stays
       pub twice-stays : (ls : List Triple) (G : Ty → Ty → Rule) → going (y .run .halt) ≡ false → Does w ls b k rep c (zonk f (λ (x : Ty). zonk t (G x))) b k rep₂ (y .run)
       twice-stays ls G g = twice-then ls G (stays-does (D₂ ls .kept) w ls rep₂ g (G F T))
-
-      pub twice-done : (ls : List Triple) (G : Ty → Ty → Rule) → G F T ≡ done → Does w ls b k rep c (zonk f (λ (x : Ty). zonk t (G x))) b k rep₂ (y .run)
-      twice-done ls G e = twice-then ls G (does-as (λ _. sym e) (done-does (D₂ ls .kept)))
 
       -- every word of the report: the write-outs', and then what G makes of them, with the two types as they stand there
       module _ (q₁ : rep₁ ≡ zonkWords rep c (writeOut (sols k) f) 0 w) where
@@ -143,21 +146,14 @@ module _ {b k rep : List ℕ} {c : Run} {at fn tn w : ℕ} (p : SubtypeAsk b k r
         report-stays G g = twice-report g (G (c .fresh) (writeOut (sols k) f) (writeOut (sols k) t))
 
 -- ---- Sub on its two written-out types
-abbrev pub compared : Ty → Ty → Rule
-compared l r = cond (eqTy l r) done (subtypeBy l r (view l) (view r))
+abbrev pub writtenSub : Ty → Ty → Rule
+writtenSub l r = cond (eqTy l r) done (subtypeBy l r (view l) (view r))
 
-pub same-done : (l r : Ty) → eqTy l r ≡ true → compared l r ≡ done
+pub same-done : (l r : Ty) → eqTy l r ≡ true → writtenSub l r ≡ done
 same-done l r e = rw e
 
-pub other-shapes : (l r : Ty) → eqTy l r ≡ false → subtypeBy l r (view l) (view r) ≡ compared l r
+pub other-shapes : (l r : Ty) → eqTy l r ≡ false → subtypeBy l r (view l) (view r) ≡ writtenSub l r
 other-shapes l r e = rw e
 
-abbrev pub comparedReport : ℕ → Ty → Ty → List ℕ → List ℕ
-comparedReport u l r out = cond (eqTy l r) out (shapesReport out u l r (view r))
-
-module _ (u : ℕ) (l r : Ty) (out : List ℕ) where
-  pub same-report : eqTy l r ≡ true → out ≡ comparedReport u l r out
-  same-report e = rw e
-
-  pub other-report : eqTy l r ≡ false → shapesReport out u l r (view r) ≡ comparedReport u l r out
-  other-report e = rw e
+abbrev pub shapesOut : ℕ → Ty → Ty → List ℕ → List ℕ
+shapesOut u l r out = shapesReport out u l r (view r)

@@ -3,8 +3,8 @@ use mathlib.Core.Path.{_≡_}
 use mathlib.Core.Logic.{_≢_}
 use mathlib.Core.Bool.{Bool, true, false, cond}
 use mathlib.Core.List.{List, [], _∷_, _++_}
-use Prim.Native.Nat.{ℕ, _+_, _*_, _-_, _≤_, _<_}
-use lib.ListN.{length}
+use Prim.Native.Nat.{ℕ, suc, _+_, _*_, _-_, _≤_, _<_}
+use lib.ListN.{length, take}
 use lib.Seq.{sets}
 use Rattle.sizes.specs.Sizes.{mostNodes, mostNumbers}
 use Rattle.nodes.specs.Nodes.{Node, node, Ty, kind, number, nodeParts, words, nodesAt}
@@ -118,9 +118,13 @@ twiceReport rep c l r w f =
     let out = zonkWords (zonkWords rep c l 0 w) (z .run) r (z .nodes) w in
     cond (going (zonkRun (z .run) r (z .nodes) w .run .halt)) (f out) out
 
--- Sub of types that are l and r when written out
+-- Sub of types that are l and r when written out, and differ
+abbrev pub differReport : List ℕ → Run → Ty → Ty → ℕ → List ℕ
+differReport rep c l r w = twiceReport rep c l r w (λ out. shapesReport out (c .fresh) l r (view r))
+
+-- Sub of types that are l and r when written out: where no node differs, up to one more than the limit, nothing is written
 abbrev pub subtypeReport : List ℕ → Run → Ty → Ty → ℕ → List ℕ
-subtypeReport rep c l r w = twiceReport rep c l r w (λ out. cond (eqTy l r) out (shapesReport out (c .fresh) l r (view r)))
+subtypeReport rep c l r w = cond (eqTy (take (suc w) l) (take (suc w) r)) rep (differReport rep c l r w)
 
 -- ---- what a call asks
 -- A pair of kind 13 or 15 for the unsolved x, and a type whose parts are compared.

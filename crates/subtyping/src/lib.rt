@@ -1,4 +1,4 @@
-// Sub and the instantiations (worklist.rs: `solve_subtype`, `instantiate_left`, `instantiate_right`). Types are written out to the report, left and then right.
+// Sub and the instantiations (worklist.rs: `solve_subtype`, `instantiate_left`, `instantiate_right`). The two sides are compared while solutions are followed; sides that differ are written out to the report, left and then right.
 ghost use mathlib.Core.Path.{_≡_};
 ghost use mathlib.Core.Logic.{_≢_};
 ghost use mathlib.Core.Bool.{true};
@@ -14,12 +14,14 @@ ghost use Rattle.judgment.specs.Rules.{left as leftSide, right as rightSide, on
 ghost use Rattle.board.specs.Board.{Stacked};
 ghost use Rattle.book.specs.Book.{sols};
 ghost use Rattle.operations.specs.State.{WellFormed, Does, PerformsOnBoard, going};
-ghost use Rattle.subtyping.specs.Subtyping.{shapeOf, sideOf, splitBy, rightBy, partsBy, openedAt, monoReport, instReport, rightReport, unknownReport, shapesReport, subtypeReport, SplitAsk, MonoAsk, InstAsk, PartsAsk, OpenAsk, SubAsk, SubtypeAsk};
+ghost use Rattle.subtyping.specs.Subtyping.{shapeOf, sideOf, splitBy, rightBy, partsBy, openedAt, monoReport, instReport, rightReport, unknownReport, shapesReport, differReport, subtypeReport, SplitAsk, MonoAsk, InstAsk, PartsAsk, OpenAsk, SubAsk, SubtypeAsk};
 use board::before;
+use book::Met;
+use book::Rest;
+use book::compare;
 use core_types::first_part;
 use core_types::is_monotype;
 use core_types::occurs_check;
-use core_types::same_type;
 use core_types::substitute_type;
 use judgment::TypeError;
 use nodes::move_to_front;
@@ -338,7 +340,35 @@ fn subtype_shapes(
     unknown_right(board, book, report, c, l, r)
 }
 
-// Sub: writes out its two types, which stand one after the other from word `at` of the board on, left and then right; equal sides finish.
+// Sub of types that differ when written out: they stand one after the other from word `at` of the board on, and are written out, left and then right.
+fn subtype_out(
+    board: &mut [u32],
+    book: &mut [u32],
+    report: &mut [u32],
+    c: Run,
+    at: usize,
+    ln: usize,
+    rn: usize,
+    w: usize,
+) -> Run
+    requires { ⌜ SubtypeAsk (now board) (now book) (now report) c at ln rn w × (writeOut (sols (now book)) (nodesAt (now board) at ln) ≢ writeOut (sols (now book)) (nodesAt (now board) (at + 2 * ln) rn)) ⌝ }
+    ensures { λ o. ⌜ ((ls : List Triple) → Does w ls (now (board .entry)) (now (book .entry)) (now (report .entry)) c (subtypeRule (nodesAt (now (board .entry)) at ln) (nodesAt (now (board .entry)) (at + 2 * ln) rn)) (now (board .exit)) (now (book .exit)) (now (report .exit)) o) × (now (report .exit) ≡ differReport (now (report .entry)) c (writeOut (sols (now (book .entry))) (nodesAt (now (board .entry)) at ln)) (writeOut (sols (now (book .entry))) (nodesAt (now (board .entry)) (at + 2 * ln) rn)) w) ⌝ }
+{
+    let z = zonk(book, c, board, at, ln, report, 0, w);
+    let c1 = z.run;
+    let l = z.nodes;
+    let next = at + 2 * ln;
+    let y = zonk(book, c1, board, next, rn, report, l, w);
+    let c2 = y.run;
+    let r = y.nodes;
+    let halt = c2.halt;
+    if is_going(halt) {
+        return subtype_shapes(board, book, report, c2, l, r);
+    }
+    c2
+}
+
+// Sub: compares its two types, which stand one after the other from word `at` of the board on, with at most w nodes; equal sides finish, and where both have more nodes neither is written out.
 pub fn solve_subtype(
     board: &mut [u32],
     book: &mut [u32],
@@ -352,19 +382,10 @@ pub fn solve_subtype(
     requires { ⌜ SubtypeAsk (now board) (now book) (now report) c at ln rn w ⌝ }
     ensures { λ o. ⌜ ((ls : List Triple) → Does w ls (now (board .entry)) (now (book .entry)) (now (report .entry)) c (subtypeRule (nodesAt (now (board .entry)) at ln) (nodesAt (now (board .entry)) (at + 2 * ln) rn)) (now (board .exit)) (now (book .exit)) (now (report .exit)) o) × (now (report .exit) ≡ subtypeReport (now (report .entry)) c (writeOut (sols (now (book .entry))) (nodesAt (now (board .entry)) at ln)) (writeOut (sols (now (book .entry))) (nodesAt (now (board .entry)) (at + 2 * ln) rn)) w) ⌝ }
 {
-    let z = zonk(book, c, board, at, ln, report, 0, w);
-    let c1 = z.run;
-    let l = z.nodes;
     let next = at + 2 * ln;
-    let y = zonk(book, c1, board, next, rn, report, l, w);
-    let c2 = y.run;
-    let r = y.nodes;
-    let halt = c2.halt;
-    if is_going(halt) {
-        if same_type(report, 0, l, report, 2 * l, r) {
-            return c2;
-        }
-        return subtype_shapes(board, book, report, c2, l, r);
+    match compare(board, board, book, Rest::new(at, next, 1, w)) {
+        Met::Same(_) => c,
+        Met::Differ => subtype_out(board, book, report, c, at, ln, rn, w),
+        Met::Over => refuse(c, TypeError::TypeTooLong),
     }
-    c2
 }
