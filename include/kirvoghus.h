@@ -18,7 +18,7 @@ extern "C" {
 
 /* The number of this interface. It rises with every change that a caller has to
  * follow; kirvoghus_version says the library's. */
-#define KIRVOGHUS_VERSION 2
+#define KIRVOGHUS_VERSION 3
 
 /* The limit: so many nodes may one type have that is written out. A caller picks
  * 1 to the highest; the programs that come with the library pick 1,024. */
@@ -27,7 +27,7 @@ extern "C" {
 
 /* The least lengths of the buffers, in words of 32 bits; the report's goes with
  * the limit. */
-#define KIRVOGHUS_BOARD_WORDS 16384
+#define KIRVOGHUS_BOARD_WORDS 12288
 #define KIRVOGHUS_BOOK_WORDS 10192
 #define KIRVOGHUS_REPORT_WORDS(limit) (4 * (size_t)(limit))
 
@@ -153,7 +153,8 @@ extern "C" {
  * any other the board's words are 0, the book holds the solutions given in the
  * run and is else 0, and the report holds the types told and is else 0. Of
  * longer buffers the words past the lengths above keep what they held: of the
- * report those from KIRVOGHUS_REPORT_WORDS(limit) on.
+ * report those from KIRVOGHUS_REPORT_WORDS(limit) on, of a board of 16,384
+ * words, which is what interface 2 asks for and clears, the last 4,096.
  *
  * A higher limit changes no result but WRITTEN_OUT_TOO_LONG.
  */

@@ -31,7 +31,7 @@ def main():
         written = write_out(solutions, [(UNKNOWN, a)])
         entries.append((VAR, 10, written, []))
 
-    board, nodes = [0] * 16384 + [7, 7], 0
+    board, nodes = [0] * 12288 + [7, 7], 0
     for i, (kind, number, left, right) in enumerate(entries):
         board[8 * i:8 * i + 4] = [kind, number, len(left), len(right)]
         for node in left + right:

@@ -50,7 +50,7 @@ def expected(sheet, options):
         return int(options[options.index(name) + 1]) if name in options else default
 
     limit = option("-l", 1024)
-    lengths = f"{option('-b', 16384)},10192,{4 * limit}"
+    lengths = f"{option('-b', 12288)},10192,{4 * limit}"
     command = [REFERENCE, "answer", "--ceiling", str(option("-c", 10000)), "--limit", str(limit), "--lengths", lengths]
     answer = subprocess.run(command, input=sheet, capture_output=True, check=True)
     seven, report, *solutions = answer.stdout.decode().splitlines()

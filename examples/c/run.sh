@@ -10,8 +10,8 @@ if [ ! -f "$library" ]; then
     exit 2
 fi
 mkdir -p target || exit 2
-for name in check constants; do
-    ${CC:-cc} -std=c99 -Wall -Wextra -Werror -pedantic -O2 -g -I../../include $name.c "$library" -o target/$name || exit 2
+for name in check constants two; do
+    ${CC:-cc} -std=c99 -Wall -Wextra -Werror -pedantic -O2 -g -pthread -I../../include $name.c "$library" -o target/$name || exit 2
 done
 # The header is C++ as well; asked where there is a compiler for it.
 if command -v "${CXX:-c++}" > /dev/null; then
@@ -44,6 +44,22 @@ while read -r case sheet options; do
     # The options are words of their own.
     "$program" $options "sheets/$sheet.sheet" > target/output
     compare "$case" $?
+done < cases
+
+# Two plans side by side: each gets the numbers that it gets alone.
+before=
+while read -r case sheet options; do
+    [ -z "$options" ] || [ "$options" = -s ] || continue
+    if [ -n "$before" ]; then
+        target/two "sheets/$before_sheet.sheet" "sheets/$sheet.sheet" > target/output
+        if { head -n 1 "sheets/$before.expected"; head -n 1 "sheets/$case.expected"; } | diff -u - target/output; then
+            echo "ok        $before beside $case"
+        else
+            echo "DIFFERENT $before beside $case"
+            failed=1
+        fi
+    fi
+    before=$case before_sheet=$sheet
 done < cases
 
 # 2,001 lines, on standard input.

@@ -18,7 +18,7 @@ pub const MOST_LIMIT: u32 = 4096;
 
 /// The least lengths of board, book and report for a limit.
 pub fn sizes(limit: u32) -> [usize; 3] {
-    [16_384, 10_192, 4 * limit as usize]
+    [12_288, 10_192, 4 * limit as usize]
 }
 
 /// `check_type` keeps a string of the whole term for each step; it is asked

@@ -222,7 +222,7 @@ fn limits_that_a_caller_picks() {
 #[test]
 fn refusals_before_the_sheet_are_in_order() {
     let number = |ceiling, limit, lengths| answer_call(b"", ceiling, limit, lengths).number;
-    let short = [16_384, 10_192, 3];
+    let short = [12_288, 10_192, 3];
     assert_eq!(number(MOST_STEPS + 1, 0, short), 1);
     assert_eq!(number(MOST_STEPS, 0, short), 32);
     assert_eq!(number(MOST_STEPS, 1, short), 2);

@@ -4,7 +4,7 @@ use crate::types::Type;
 use crate::{LIMIT, MOST_LIMIT};
 
 /// The least length of the board, in words.
-pub const BOARD_WORDS: usize = 16_384;
+pub const BOARD_WORDS: usize = 12_288;
 
 /// The least length of the book, in words.
 pub const BOOK_WORDS: usize = 10_192;
@@ -43,7 +43,8 @@ impl Buffers {
     }
 
     /// Buffers of these lengths in words, all words 0. A call refuses shorter
-    /// ones and keeps the tails of longer ones.
+    /// ones and keeps the tails of longer ones: of a board of 16,384 words the
+    /// last 4,096.
     pub fn with_lengths(board: usize, book: usize, report: usize) -> Self {
         Buffers {
             board: vec![0; board],

@@ -129,6 +129,16 @@ fn tails_kept() {
     );
 }
 
+/// A board of the length that interface 2 asked for.
+#[test]
+fn a_board_of_16_384_words_keeps_its_last_4_096() {
+    let mut buffers = dirty(16_384, BOOK_WORDS, REPORT_WORDS);
+    let before = buffers.clone();
+    check(&sheet(&SEVEN_AS_INT), MOST_STEPS, &mut buffers);
+    assert_eq!(buffers.board()[..12_288], [0; 12_288]);
+    assert_eq!(buffers.board()[12_288..], before.board()[12_288..]);
+}
+
 #[test]
 fn limits_out_of_range() {
     let good = sheet(&SEVEN_AS_INT);

@@ -11,7 +11,7 @@ use lib.Seq.{sets, length-sets, take-append-seam, drop-append-seam}
 use lib.Dec.{leb, ltb}
 use borrow.Author.Tests.{leb-true, ltb-true}
 use borrow.Author.Count.{below-more}
-use Rattle.sizes.specs.Sizes.{mostEntries, mostNodes, boardBase, boardUsed, boardSize, boardStride}
+use Rattle.sizes.specs.Sizes.{mostEntries, mostNodes, boardBase, boardSize, boardStride}
 use Rattle.nodes.specs.Nodes.{Ty, words, nodesAt, zeros}
 use Rattle.nodes.proofs.Laws.{length-words, words-append, length-nodesAt, sets-append, getD-sets-below, getD-sets-above, getD-sets-in, nodesAt-same, nodesAt-agree, take-nodesAt, drop-nodesAt}
 use Rattle.spelling.specs.declared.Triple.{Triple}
@@ -246,12 +246,12 @@ module _ {w : List ℕ} {b : Board} (s : Stacked w b) (h : 0 < b .entries) where
     counted = λ i l. s .counted i (omega arith);
   }
 
-  pub top-within : topOf w b .at + 2 * (topOf w b .left + topOf w b .right) ≤ boardUsed
+  pub top-within : topOf w b .at + 2 * (topOf w b .left + topOf w b .right) ≤ boardSize
   unfolding topOf
   top-within = let f = s .fewNodes in let e = top-size in omega arith
 
 -- ---- no entry
-pub new-stacked : (w : List ℕ) → boardUsed ≤ length w → Stacked w (record { entries = 0; nodes = 0 })
+pub new-stacked : (w : List ℕ) → boardSize ≤ length w → Stacked w (record { entries = 0; nodes = 0 })
 unfolding nodesBelow
 new-stacked w h = record {
   room = h;

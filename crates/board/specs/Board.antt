@@ -1,6 +1,6 @@
 -- The board's words, and the entries that they hold. Assumes nothing: these are definitions.
 -- Entry i has words 8 i to 8 i + 3: what it is, its number, and how many nodes its two types have. The nodes of all types stand from word 4,096 on, two words each,
--- entry by entry. Words 12,288 to 16,383 are not used.
+-- entry by entry, up to word 12,287, the last.
 use mathlib.Core.Path.{_≡_}
 use mathlib.Core.Bool.{Bool, cond, _&&_}
 use mathlib.Core.Option.{Option, none, some}
@@ -9,7 +9,7 @@ use Prim.Native.Nat.{ℕ, zero, suc, _+_, _*_, _-_, _≤_, _<_}
 use lib.ListN.{length, getD, drop}
 use lib.Seq.{sets}
 use lib.Dec.{eqb, leb, ltb}
-use Rattle.sizes.specs.Sizes.{mostEntries, mostNodes, boardBase, boardUsed, boardStride}
+use Rattle.sizes.specs.Sizes.{mostEntries, mostNodes, boardBase, boardSize, boardStride}
 use Rattle.nodes.specs.Nodes.{node, Ty, kind, number, words, nodesAt}
 use Rattle.nodes.specs.Parts.{takeParts}
 use Rattle.spelling.specs.declared.Triple.{Triple}
@@ -78,7 +78,7 @@ entriesOf ls w (suc i) = entryAt ls w i ∷ entriesOf ls w i
 
 -- the words of a board: its nodes are those of its entries, and an entry's types are all that it counts
 pub record Stacked (w : List ℕ) (b : Board) : Type 0 where
-  pub room : boardUsed ≤ length w
+  pub room : boardSize ≤ length w
   pub fewEntries : b .entries ≤ mostEntries
   pub fewNodes : b .nodes ≤ mostNodes
   pub nodes : nodesBelow w (b .entries) ≡ b .nodes
@@ -96,7 +96,7 @@ abbrev pub grown : Board → ℕ → Board
 grown b n = record { entries = b .entries + 1; nodes = b .nodes + n }
 
 pub record PushAsk (w : List ℕ) (b : Board) (l : List ℕ) (la ln : ℕ) (r : List ℕ) (ra rn : ℕ) : Type 0 where
-  pub room : boardUsed ≤ length w
+  pub room : boardSize ≤ length w
   pub few : b .entries < mostEntries
   pub fits : b .nodes + (ln + rn) ≤ mostNodes
   pub left : la + 2 * ln ≤ length l

@@ -4,7 +4,7 @@ ghost use mathlib.Core.List.{List};
 ghost use Prim.Native.Nat.{_+_, _*_, _≤_, _<_};
 ghost use lib.ListN.{length};
 ghost use lib.Seq.{sets};
-ghost use Rattle.sizes.specs.Sizes.{mostEntries, boardUsed, boardSize};
+ghost use Rattle.sizes.specs.Sizes.{mostEntries, boardSize};
 ghost use Rattle.nodes.specs.Nodes.{nodesAt};
 ghost use Rattle.spelling.specs.declared.Triple.{Triple};
 ghost use Rattle.judgment.specs.Board.{hasTVar, before as isBefore};
@@ -149,7 +149,7 @@ pub fn find_var(board: &[u32], b: Board, name: u32) -> Found
 
 // A TVar of unknown k stands among the first n entries.
 fn has_tvar(board: &[u32], n: usize, k: u32) -> bool
-    requires { ⌜ (n ≤ mostEntries) × (boardUsed ≤ length (now board)) ⌝ }
+    requires { ⌜ (n ≤ mostEntries) × (boardSize ≤ length (now board)) ⌝ }
     ensures { λ r. ⌜ ((ls : List Triple) → r ≡ hasTVar k (entriesOf ls (now (board .entry)) n)) ⌝ }
 {
     let mut i = n;

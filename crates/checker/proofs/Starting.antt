@@ -6,7 +6,7 @@ use native.Mathlib.Nat.{add-zero}
 use native.Mathlib.Omega.{arith}
 use lib.ListN.{length, take, drop}
 use lib.Seq.{sets}
-use Rattle.sizes.specs.Sizes.{mostLines, mostNodes, typeWords, boardUsed, bookSize}
+use Rattle.sizes.specs.Sizes.{mostLines, mostNodes, typeWords, boardSize, bookSize}
 use Rattle.nodes.specs.Nodes.{Ty, words, nodesAt}
 use Rattle.nodes.specs.Lists.{All}
 use Rattle.nodes.specs.Parts.{takeParts, dropParts}
@@ -99,7 +99,7 @@ module _ (s : List ℕ) (h : Read s) where
   unfolding planOf termAt
   type-is = ap nodesOf (sym (part-lines ls at))
 
-  module _ (b k t : List ℕ) (lb : boardUsed ≤ length b) (lk : bookSize ≤ length k) (n : ℕ) (ln : n ≡ partLine ls at 1 - at) (tn : nodesAt t 0 n ≡ nodesOf (take (partLine ls at 1 - at) (drop at ls))) where
+  module _ (b k t : List ℕ) (lb : boardSize ≤ length b) (lk : bookSize ≤ length k) (n : ℕ) (ln : n ≡ partLine ls at 1 - at) (tn : nodesAt t 0 n ≡ nodesOf (take (partLine ls at 1 - at) (drop at ls))) where
     abbrev none : Board
     none = record { entries = 0; nodes = 0 }
 

@@ -4,7 +4,7 @@ use mathlib.Core.List.{List}
 use Prim.Native.Nat.{ℕ, _+_, _*_, _/_, _≤_}
 use lib.ListN.{length}
 use lib.Seq.{sets}
-use Rattle.sizes.specs.Sizes.{lineLength, typeWords, boardUsed, highestLimit, boardSize, bookSize, reportStride}
+use Rattle.sizes.specs.Sizes.{lineLength, typeWords, highestLimit, boardSize, bookSize, reportStride}
 use Rattle.grammar.specs.declared.Check.the-variants.{Plan}
 use Rattle.grammar.specs.Check.{check}
 use Rattle.judgment.specs.declared.Answer.{Answer}
@@ -21,7 +21,7 @@ middleLines = 256
 -- the buffers of a sheet that is taken, before its run
 pub record StartAsk (s b k t : List ℕ) : Type 0 where
   pub plan : Read s
-  pub board : boardUsed ≤ length b
+  pub board : boardSize ≤ length b
   pub book : bookSize ≤ length k
   pub type : typeWords ≤ length t
 

@@ -1,11 +1,13 @@
 -- Calls that are refused before a run, and calls with low limits and the highest, with the answers of `reference answer`, by computation;
 -- and books of several solutions, read back. Assumes nothing.
-use mathlib.Core.Path.{_≡_, refl}
+use mathlib.Core.Path.{_≡_, refl, ap, _∙_}
 use mathlib.Core.Bool.{cond, _||_}
 use mathlib.Core.List.{List, [], _∷_, _++_, map}
-use Prim.Native.Nat.{ℕ, _+_, _*_}
+use Prim.Native.Nat.{ℕ, _+_, _*_, _≤_}
+use native.Mathlib.Nat.{zero-add}
 use lib.Dec.{ltb}
 use lib.ListN.{length, getD, take, drop, replicate}
+use lib.Seq.{sets-eq}
 use Rattle.nodes.specs.Nodes.{Ty, words, nodesAt}
 use Rattle.spelling.specs.declared.Triple.{Triple}
 use Rattle.spelling.specs.Spelling.{fieldFrom, lineOf, lineAt, linesFrom, linesOf, firstMisspelt}
@@ -20,7 +22,8 @@ use Rattle.judgment.specs.Solutions.{Solution, key, value, find, links, 
 use Rattle.judgment.specs.Board.{boardNodes, findVar, before, perform, operations}
 use Rattle.judgment.specs.Rules.{instantiateFrom, subtype, openNames, signatureFrom, insert, pushVars, checkPatterns, checkArms, inferApp}
 use Rattle.judgment.specs.Run.{runFrom, checkType}
-use Rattle.judgment.specs.Result.{numbers, Buffers, Called, padded, pairsFrom, placeFrom, nodeWords, bookWords, reportWords, resultOf, runOf, judge, limitsWith, limits, refusedAt, byCheck, call}
+use Rattle.judgment.specs.Result.{Result, numbers, Buffers, Called, padded, pairsFrom, placeFrom, nodeWords, bookWords, reportWords, boardWords, resultOf, runOf, judge, limitsWith, limits, refusedAt, written, byCheck, call}
+use Rattle.judgment.proofs.Words.{length-board}
 use Rattle.judgment.proofs.Wall.{l, firstSheet, Row}
 use Rattle.judgment.proofs.Telling.{answers}
 
@@ -40,7 +43,7 @@ refusedCalls =
     (10001, firstSheet) ∷  -- a ceiling of 10,001
     []
 
-pub refused-calls : map (λ q. numbers (call (q .1) (q .0) 1024 (buffers 16384 10192 4096) .answer)) refusedCalls ≡
+pub refused-calls : map (λ q. numbers (call (q .1) (q .0) 1024 (buffers 12288 10192 4096) .answer)) refusedCalls ≡
     (3 ∷ 0 ∷ 0 ∷ 0 ∷ 0 ∷ 0 ∷ 0 ∷ []) ∷
     (3 ∷ 0 ∷ 0 ∷ 0 ∷ 0 ∷ 0 ∷ 0 ∷ []) ∷
     (4 ∷ 2 ∷ 0 ∷ 0 ∷ 0 ∷ 0 ∷ 0 ∷ []) ∷
@@ -54,12 +57,12 @@ pub refused-calls : map (λ q. numbers (call (q .1) (q .0) 1024 (buffers 16384 1
 unfolding call lineText fieldText fieldFrom lineOf lineAt linesFrom linesOf firstMisspelt findRow table rowOf begins headOf declaredBy isGoal arms following read readAt readSheet check
 refused-calls = refl
 
-pub nothing-written : map (λ q. call (q .1) (q .0) 1024 (buffers 16384 10192 4096) .after) refusedCalls ≡ map (λ q. buffers 16384 10192 4096) refusedCalls
+pub nothing-written : map (λ q. call (q .1) (q .0) 1024 (buffers 12288 10192 4096) .after) refusedCalls ≡ map (λ q. buffers 12288 10192 4096) refusedCalls
 unfolding call lineText fieldText fieldFrom lineOf lineAt linesFrom linesOf firstMisspelt findRow table rowOf begins headOf declaredBy isGoal arms following read readAt readSheet check
 nothing-written = refl
 
 -- a buffer that is one word short: document 01's 2
-pub short-buffers : map (λ b. numbers (call firstSheet 10000 1024 b .answer)) (buffers 16383 10192 4096 ∷ buffers 16384 10191 4096 ∷ buffers 16384 10192 4095 ∷ [])
+pub short-buffers : map (λ b. numbers (call firstSheet 10000 1024 b .answer)) (buffers 12287 10192 4096 ∷ buffers 12288 10191 4096 ∷ buffers 12288 10192 4095 ∷ [])
     ≡ replicate 3 (2 ∷ 0 ∷ 0 ∷ 0 ∷ 0 ∷ 0 ∷ 0 ∷ [])
 unfolding call lineText fieldText
 short-buffers = refl
@@ -68,7 +71,7 @@ short-buffers = refl
 abbrev call01 : List ℕ → ℕ → Buffers → Called
 call01 s c b =
     cond (ltb 10000 c) (record { answer = refusedAt 1 0; after = b })
-    (cond (ltb (length (b .board)) 16384 || (ltb (length (b .book)) 10192 || ltb (length (b .report)) 4096)) (record { answer = refusedAt 2 0; after = b })
+    (cond (ltb (length (b .board)) 12288 || (ltb (length (b .book)) 10192 || ltb (length (b .report)) 4096)) (record { answer = refusedAt 2 0; after = b })
     (byCheck s c 1024 b (check s)))
 
 pub usual-call : (s : List ℕ) (c : ℕ) (b : Buffers) → call s c 1024 b ≡ call01 s c b
@@ -84,9 +87,9 @@ asked =
     (10001, 0, buffers 0 0 0) ∷
     (10000, 0, buffers 0 0 0) ∷
     (10000, 4097, buffers 0 0 0) ∷
-    (10000, 4294967295, buffers 16384 10192 16384) ∷
-    (10000, 1, buffers 16384 10192 3) ∷
-    (10000, 4096, buffers 16384 10192 16383) ∷
+    (10000, 4294967295, buffers 12288 10192 16384) ∷
+    (10000, 1, buffers 12288 10192 3) ∷
+    (10000, 4096, buffers 12288 10192 16383) ∷
     []
 
 pub refused-asks : map (λ q. numbers (call firstSheet (q .0) (q .1) (q .2) .answer)) asked ≡
@@ -117,8 +120,8 @@ arrowSheet = sevenAs (lineText (l 13 0 0) ++ (lineText (l 12 1 0) ++ lineText (l
 abbrev told : Called → List ℕ × List ℕ
 told c = (numbers (c .answer), c .after .report)
 
-pub low-limits : told (call firstSheet 10000 1 (buffers 16384 10192 6)) ∷ told (call boolSheet 10000 1 (buffers 16384 10192 6))
-    ∷ told (call arrowSheet 10000 2 (buffers 16384 10192 10)) ∷ told (call arrowSheet 10000 3 (buffers 16384 10192 14)) ∷ [] ≡
+pub low-limits : told (call firstSheet 10000 1 (buffers 12288 10192 6)) ∷ told (call boolSheet 10000 1 (buffers 12288 10192 6))
+    ∷ told (call arrowSheet 10000 2 (buffers 12288 10192 10)) ∷ told (call arrowSheet 10000 3 (buffers 12288 10192 14)) ∷ [] ≡
     (0 ∷ 0 ∷ 5 ∷ 1 ∷ 0 ∷ 0 ∷ 1 ∷ [], 0 ∷ 0 ∷ 0 ∷ 0 ∷ 7 ∷ 7 ∷ []) ∷
     (15 ∷ 0 ∷ 4 ∷ 1 ∷ 1 ∷ 1 ∷ 1 ∷ [], 12 ∷ 1 ∷ 12 ∷ 2 ∷ 7 ∷ 7 ∷ []) ∷
     (23 ∷ 0 ∷ 4 ∷ 1 ∷ 0 ∷ 0 ∷ 1 ∷ [], 0 ∷ 0 ∷ 0 ∷ 0 ∷ 0 ∷ 0 ∷ 0 ∷ 0 ∷ 7 ∷ 7 ∷ []) ∷
@@ -127,9 +130,15 @@ pub low-limits : told (call firstSheet 10000 1 (buffers 16384 10192 6)) ∷ told
 unfolding call lineText fieldText fieldFrom lineOf lineAt linesFrom linesOf firstMisspelt findRow table rowOf begins headOf declaredBy isGoal arms following read readAt readSheet check triples judge resultOf runOf checkType runFrom perform operations boardNodes findVar before lookup instantiateFrom subtype openNames signatureFrom insert pushVars checkPatterns checkArms inferApp find links anySolved writeOutBy writeOut solutionNodes view termView lambdaOf occurs isMonotype substitute rename frontNames afterFront canUnify planOf declarations bindingsIn endFrom entriesEnd placesOf partLine isPlain partsOf reportWords padded words
 low-limits = refl
 
-pub highest-limit : numbers (call firstSheet 10000 4096 (buffers 16384 10192 16384) .answer) ≡ 0 ∷ 0 ∷ 5 ∷ 1 ∷ 0 ∷ 0 ∷ 1 ∷ []
+pub highest-limit : numbers (call firstSheet 10000 4096 (buffers 12288 10192 16384) .answer) ≡ 0 ∷ 0 ∷ 5 ∷ 1 ∷ 0 ∷ 0 ∷ 1 ∷ []
 unfolding call lineText fieldText fieldFrom lineOf lineAt linesFrom linesOf firstMisspelt findRow table rowOf begins headOf declaredBy isGoal arms following read readAt readSheet check triples judge resultOf runOf checkType runFrom perform operations boardNodes findVar before lookup instantiateFrom subtype openNames signatureFrom insert pushVars checkPatterns checkArms inferApp find links anySolved writeOutBy writeOut solutionNodes view termView lambdaOf occurs isMonotype substitute rename frontNames afterFront canUnify planOf declarations bindingsIn endFrom entriesEnd placesOf partLine isPlain partsOf reportWords padded words
 highest-limit = refl
+
+-- a run leaves 12,288 words of the board as 0 and keeps the others
+pub board-after : (w : ℕ) (b : Buffers) (r : Result) → 12288 ≤ length (b .board) → written w b r .after .board ≡ replicate 12288 0 ++ drop 12288 (b .board)
+unfolding boardWords
+board-after w b r h = sets-eq boardWords (b .board) 0 h
+    ∙ ap (λ (k : ℕ). boardWords ++ drop k (b .board)) (zero-add (length boardWords) ∙ length-board)
 
 -- what stands where a book's pair says
 abbrev stands : List ℕ → Solution → Ty

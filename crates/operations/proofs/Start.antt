@@ -4,7 +4,7 @@ use Prim.Native.Nat.{ℕ, _*_, _≤_}
 use native.Mathlib.Omega.{arith}
 use lib.ListN.{length}
 use lib.Seq.{sets}
-use Rattle.sizes.specs.Sizes.{boardUsed, bookSize}
+use Rattle.sizes.specs.Sizes.{boardSize, bookSize}
 use Rattle.judgment.specs.Result.{bookWords}
 use Rattle.board.proofs.Stacks.{new-stacked}
 use Rattle.book.proofs.Words.{new-booked, zero-at}
@@ -14,7 +14,7 @@ use Rattle.operations.specs.State.{noHalt, WellFormed}
 abbrev pub started : Run
 started = record { taken = 0; fresh = 0; board = record { entries = 0; nodes = 0 }; book = record { nodes = 0 }; halt = noHalt }
 
-pub start-formed : (b k : List ℕ) → boardUsed ≤ length b → bookSize ≤ length k → WellFormed b (sets k 0 (bookWords [])) started
+pub start-formed : (b k : List ℕ) → boardSize ≤ length b → bookSize ≤ length k → WellFormed b (sets k 0 (bookWords [])) started
 start-formed b k lb lk = record {
   board = new-stacked b lb;
   book = new-booked k lk;

@@ -38,18 +38,15 @@ usualLimit = 1024
 abbrev pub typeWords : ℕ
 typeWords = 2 * mostNodes
 
--- ---- the board: so many words an entry, the nodes from the base on, and words that no run uses
+-- ---- the board: so many words an entry, and the nodes from the base on
 abbrev pub boardStride : ℕ
 boardStride = 8
 
 abbrev pub boardBase : ℕ
 boardBase = boardStride * mostEntries
 
-abbrev pub boardUsed : ℕ
-boardUsed = boardBase + typeWords
-
 abbrev pub boardSize : ℕ
-boardSize = 16384
+boardSize = boardBase + typeWords
 
 -- ---- the book: so many words a number, and the nodes from the base on
 abbrev pub bookStride : ℕ

@@ -27,12 +27,12 @@ pub const USUAL_LIMIT: u32 = 1024;
 // Words of a type, two a node.
 pub const TYPE_WORDS: usize = 2 * MOST_NODES;
 
-// The board: so many words an entry, the nodes from the base on, and words that no run uses.
+// The board: so many words an entry, and the nodes from the base on.
 pub const BOARD_STRIDE: usize = 8;
 
 pub const BOARD_BASE: usize = BOARD_STRIDE * MOST_ENTRIES;
 
-pub const BOARD_SIZE: usize = 16384;
+pub const BOARD_SIZE: usize = BOARD_BASE + TYPE_WORDS;
 
 // The book: so many words a number, and the nodes from the base on.
 pub const BOOK_STRIDE: usize = 2;

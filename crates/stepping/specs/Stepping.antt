@@ -4,7 +4,7 @@ use mathlib.Core.Bool.{true}
 use mathlib.Core.List.{List, [], _∷_}
 use Prim.Native.Nat.{ℕ, _+_, _*_, _≤_, _<_}
 use lib.ListN.{length}
-use Rattle.sizes.specs.Sizes.{mostNodes, typeWords, boardUsed}
+use Rattle.sizes.specs.Sizes.{mostNodes, typeWords, boardSize}
 use Rattle.nodes.specs.Nodes.{nodesAt}
 use Rattle.nodes.specs.Lists.{All}
 use Rattle.spelling.specs.declared.Triple.{Triple}
@@ -78,7 +78,7 @@ EntrySound n (infApp f e t) = Sound n f × Sound n t
 pub record JudgeAsk (m : ℕ) (s b k rep : List ℕ) (c : Run) (o : Top) (t l r w v : List ℕ) : Type 0 where
   pub plan : Read s
   pub formed : WellFormed b k c
-  pub within : o .at + 2 * (o .left + o .right) ≤ boardUsed
+  pub within : o .at + 2 * (o .left + o .right) ≤ boardSize
   pub few : o .left + o .right ≤ mostNodes
   pub limit : m ≤ mostNodes
   pub report : 4 * m ≤ length rep
