@@ -3,7 +3,7 @@
 
 use crate::damage::damaged;
 use crate::generate::limits::{self, Found};
-use crate::generate::{random, small, Made};
+use crate::generate::{compared, random, small, Made};
 use crate::oracle::{
     answer_call, run_limited, sizes, under_limit, Answer, LIMIT, MOST_LIMIT, MOST_STEPS,
 };
@@ -157,7 +157,8 @@ fn shorter(limit: u32, at: usize) -> [usize; 3] {
 
 /// True if both give the same on random plans, on damaged sheets, on the plans
 /// of the wall and the limits, on every small plan, with short buffers and under
-/// limits that a caller picks.
+/// limits that a caller picks, these too on plans whose comparisons follow
+/// solutions.
 pub fn compare(seed: u64, count: usize, damages: usize) -> bool {
     let Some(Proved { check, .. }) = proved() else {
         return false;
@@ -169,6 +170,7 @@ pub fn compare(seed: u64, count: usize, damages: usize) -> bool {
     }
     refused(&mut tally, seed, damages);
     picked(&mut tally, seed, count.div_ceil(10));
+    followed(&mut tally, seed, count.div_ceil(5));
     tally.show();
     tally.differences == 0
 }
@@ -234,6 +236,31 @@ fn picked(tally: &mut Tally, seed: u64, count: usize) {
             if limit > 0 {
                 tally.put(&sheet, ceiling, limit, longer(limit, at / 2 % 2 * at));
             }
+        }
+    }
+}
+
+/// Comparisons that follow solutions on both sides: those made for it under low
+/// limits and under those around what they write out, random ones under any limit.
+fn followed(tally: &mut Tally, seed: u64, count: usize) {
+    const LOW: u32 = 40;
+    const AROUND: u32 = 4;
+    for (_, Made { ceiling, lines }) in compared::plans() {
+        let sheet = write(&lines);
+        let most = most_written(&lines, ceiling);
+        let low = 1..=LOW;
+        let around = LOW.max(most.saturating_sub(AROUND)) + 1..=most + AROUND;
+        for limit in low.chain(around).chain([LIMIT, MOST_LIMIT]) {
+            tally.put(&sheet, ceiling, limit, longer(limit, limit as usize));
+        }
+    }
+    let mut numbers = Random::new(seed + 4);
+    for (at, Made { ceiling, lines }) in compared::random(seed + 5, count).enumerate() {
+        let sheet = write(&lines);
+        let most = most_written(&lines, ceiling).min(MOST_LIMIT - 1) + 1;
+        for below in [most, MOST_LIMIT] {
+            let limit = 1 + numbers.below(below as usize) as u32;
+            tally.put(&sheet, ceiling, limit, longer(limit, at));
         }
     }
 }

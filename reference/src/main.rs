@@ -2,7 +2,7 @@
 
 use reference::checks::expected;
 use reference::generate::limits::{self, Found};
-use reference::generate::{self, small, Made};
+use reference::generate::{self, compared, small, Made};
 use reference::oracle::{
     answer_call, answer_lines, answer_sheet, sizes, under_limit, Answer, LIMIT, MOST_STEPS,
 };
@@ -19,7 +19,7 @@ const USAGE: &str = "usage: reference COMMAND
                                        words after it, each of which was 7
   answer [--ceiling N] --limits E,N,W,F,S
                                        the answer to the sheet under other limits
-  generate --seed S --count N [--kind random|small|limits|picked] [--answers] [--limits E,N,W,F,S]
+  generate --seed S --count N [--kind random|small|limits|picked|compared] [--answers] [--limits E,N,W,F,S]
                                        plans, one a line, in the format of src/record.rs; other
                                        limits: entries, nodes, written out, fresh, solutions
   record --out FILE                    the recorded list of plans and answers
@@ -169,9 +169,26 @@ fn generate_plans(options: &Options) -> Result<bool, String> {
         }
         "limits" => show_found(&limits::plans(), answers),
         "picked" => show_found(&limits::picked(), answers),
+        "compared" => show_compared(options, answers)?,
         other => return Err(format!("unknown kind {other}")),
     }
     Ok(true)
+}
+
+/// Those made for it and, where a seed is given, random ones.
+fn show_compared(options: &Options, answers: bool) -> Result<(), String> {
+    for (title, made) in compared::plans() {
+        println!("# {title}");
+        show(&made, answers);
+    }
+    if options.has("--seed") {
+        let (seed, count) = (
+            options.number("--seed", None)?,
+            options.number("--count", None)?,
+        );
+        compared::random(seed, count).for_each(|made| show(&made, answers));
+    }
+    Ok(())
 }
 
 fn show_found(plans: &[Found], answers: bool) {
