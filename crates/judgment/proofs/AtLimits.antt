@@ -124,10 +124,16 @@ late k m e =
     l 2 41 0 ∷ l 14 11 0 ∷ l 15 0 0 ∷ l 15 0 0 ∷ l 12 30 0 ∷ (parts m ++ (l 11 11 0 ∷ goal (
     l 24 0 0 ∷ l 29 0 0 ∷ l 28 5 0 ∷ l 22 1 0 ∷ l 22 2 0 ∷ l 21 40 0 ∷ l 21 41 0 ∷ l 22 7 0 ∷ []))))))
 
--- 23 by Sub on the left and on the right, and by InfApp alone
+-- a pattern in a pattern, whose two types are the same nodes as they stand, a Product of 1 + n
+abbrev matched : ℕ → List Triple
+matched n =
+    l 1 20 0 ∷ (parts n ++ (l 1 21 0 ∷ l 13 0 0 ∷ (parts n ++ (l 12 30 0 ∷ l 1 29 0 ∷ l 12 30 0 ∷ goal (
+    l 27 0 1 ∷ l 26 29 0 ∷ l 43 21 1 ∷ l 43 20 0 ∷ l 22 7 0 ∷ [])))))
+
+-- 23 by Sub on the left, on the right and on both sides alike, and by InfApp alone
 pub picked : map (λ (q : ℕ × List Triple). shortUnder (limitsWith (q .0)) (q .1))
     ((1, goal (l 22 7 0 ∷ [])) ∷ (1, declared 0) ∷ (1, declared 1) ∷ (2, declared 1) ∷ (2, declared 2) ∷ (1, asArrow) ∷ (2, asArrow) ∷ (3, asArrow)
-    ∷ (11, late 1 3 0) ∷ (12, late 1 3 0) ∷ (4096, late 66 60 5) ∷ (4096, late 66 60 6) ∷ []) ≡
+    ∷ (5, matched 5) ∷ (6, matched 5) ∷ (11, late 1 3 0) ∷ (12, late 1 3 0) ∷ (4096, late 66 60 5) ∷ (4096, late 66 60 6) ∷ []) ≡
     (0 ∷ 0 ∷ 5 ∷ 1 ∷ 0 ∷ 0 ∷ 1 ∷ [], 0, 1) ∷
     (0 ∷ 0 ∷ 5 ∷ 1 ∷ 0 ∷ 0 ∷ 1 ∷ [], 0, 1) ∷
     (23 ∷ 0 ∷ 3 ∷ 1 ∷ 0 ∷ 0 ∷ 1 ∷ [], 0, 0) ∷
@@ -136,6 +142,8 @@ pub picked : map (λ (q : ℕ × List Triple). shortUnder (limitsWith (q .0)) (q
     (23 ∷ 0 ∷ 4 ∷ 1 ∷ 0 ∷ 0 ∷ 1 ∷ [], 0, 1) ∷
     (23 ∷ 0 ∷ 4 ∷ 1 ∷ 0 ∷ 0 ∷ 1 ∷ [], 0, 1) ∷
     (15 ∷ 0 ∷ 4 ∷ 1 ∷ 1 ∷ 3 ∷ 1 ∷ [], 4, 1) ∷
+    (23 ∷ 0 ∷ 8 ∷ 3 ∷ 0 ∷ 0 ∷ 1 ∷ [], 0, 2) ∷
+    (0 ∷ 0 ∷ 17 ∷ 4 ∷ 0 ∷ 0 ∷ 1 ∷ [], 0, 4) ∷
     (23 ∷ 0 ∷ 63 ∷ 21 ∷ 0 ∷ 0 ∷ 0 ∷ [], 0, 43) ∷
     (13 ∷ 0 ∷ 63 ∷ 21 ∷ 12 ∷ 0 ∷ 0 ∷ [], 12, 43) ∷
     (13 ∷ 0 ∷ 63 ∷ 21 ∷ 4096 ∷ 0 ∷ 0 ∷ [], 4096, 354) ∷
