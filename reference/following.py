@@ -1,10 +1,13 @@
 #!/usr/bin/env python3
-"""following.py [--seed S] [--count N] [--table]: the definition of writing out beside a second one, on random books in any order of places.
+"""following.py [--seed S] [--count N] [--table | --places]: the definitions of writing out and of a chain beside second ones, on random books in
+any order of places.
 
-The second one is `followed` below, written from document 01's words alone: a solved unknown is followed into its solution, until only
-unsolved ones are left. A book's unknowns have ranks, and a solution mentions solved unknowns of lower rank only, so that none leads
-back; its places are shuffled, so that a solution may stand before or after those that it mentions. The prover computes `writeOut` on
-every one of them. --table writes judgment/proofs/Following.antt instead, the books of DIRECTED. Exit status 1 at a difference.
+The second ones are below: `followed`, written from document 01's words alone (a solved unknown is followed into its solution, until
+only unsolved ones are left), and `is_chain`, from the words of a chain (solved unknowns, each in the solution of the one before). A
+book's unknowns have ranks, and a solution mentions solved unknowns of lower rank only, so that none leads back; its places are
+shuffled, so that a solution may stand before or after those that it mentions. The prover computes `writeOut` and `isChain` on every
+one of them. --table writes judgment/proofs/Following.antt instead, the books of DIRECTED and CHAINS; --places book/proofs/Places.antt,
+where the solution of a node stands, by document 01's layout. Exit status 1 at a difference.
 """
 import argparse, random, tempfile
 from definition import nodes, proved, workplace
@@ -21,17 +24,53 @@ DIRECTED = [
     ({}, [(17, 0)]),
 ]
 
-HEAD = """-- Types written out over books in any order of places, by computation, with the answers of `followed` in reference/following.py, which makes this file. Assumes nothing.
+# book in order of places, and the unknowns of which it is asked whether they are a chain
+CHAINS = [
+    ({0: [(17, 1)], 1: [(12, 1)]}, [0, 1]),
+    ({1: [(12, 1)], 0: [(17, 1)]}, [0, 1]),  # in another order of places
+    ({0: [(17, 1)], 1: [(12, 1)]}, [1, 0]),  # back
+    ({0: [(17, 1)], 1: [(12, 1)]}, [0]),  # one link
+    ({0: [(17, 1)], 1: [(12, 1)]}, [1]),  # into a solution without unknowns
+    ({0: [(17, 1)]}, [0]),  # into one whose unknown is not solved
+    ({0: [(17, 1)]}, [0, 1]),  # which can't be followed
+    ({0: [(12, 1)]}, [1]),
+    ({}, []),
+    ({5: [(13, 0), (12, 1), (17, 3)], 3: [(16, 2), (17, 0), (17, 4)], 4: [(12, 2)], 0: [(12, 1)]}, [5, 3, 4]),  # through types of several nodes, falling and rising
+    ({5: [(13, 0), (12, 1), (17, 3)], 3: [(16, 2), (17, 0), (17, 4)], 4: [(12, 2)], 0: [(12, 1)]}, [5, 3, 0]),
+    ({5: [(13, 0), (12, 1), (17, 3)], 3: [(16, 2), (17, 0), (17, 4)], 4: [(12, 2)], 0: [(12, 1)]}, [5, 4]),  # one left out
+    ({0: [(13, 0), (18, 1), (12, 1)], 1: [(12, 1)]}, [0, 1]),  # a universal and a Con of that number are no unknowns
+]
+
+# Pairs of a book's words, the one after the last that may be solved among them, and nodes that are looked up: whatever number stands in
+# one, only an unknown below 1,000 can be solved, by a start from 2,000 on. In 16 bits 65,536 would be 0 and 66,535 would be 999.
+PAIRS = {0: (2003, 2), 1: (2000, 1), 2: (1999, 1), 999: (2007, 3), 1000: (5000, 7)}
+LOOKED_UP = [(17, n) for n in (0, 1, 2, 3, 998, 999, 1000, 1001, 65535, 65536, 65537, 66535, 66536, 131072, 2**31, 2**32 - 1)]
+LOOKED_UP += [(kind, 0) for kind in (0, 1, 11, 12, 13, 14, 15, 16, 18, 65553)]
+
+PLACES = """-- Where the solution of a node stands, for numbers of 32 bits and words as they come, by computation. The answers are those of `place` in
+-- reference/following.py, which makes this file. Assumes nothing.
 use mathlib.Core.Path.{_≡_, refl}
-use mathlib.Core.List.{List, [], _∷_, map}
-use Rattle.nodes.specs.Nodes.{node, Ty}
-use Rattle.judgment.specs.Solutions.{_≔_, Solutions, find, links, anySolved, writeOutBy, writeOut}
+use mathlib.Core.List.{List, [], _∷_, _++_, map}
+use Prim.Native.Nat.{ℕ}
+use lib.ListN.{replicate}
+use Rattle.nodes.specs.Nodes.{Node, node, kind, number}
+use Rattle.book.specs.declared.Found.{Found}
+use Rattle.book.specs.declared.Found.the-variants.{At, Nothing}
+use Rattle.book.specs.Book.{placeOf}
 """
 
-MODULE = """use mathlib.Core.Path.{_≡_, refl}
+COMMENT = """-- Types written out, and chains, over books in any order of places, by computation. The answers are those of `followed` and `is_chain`
+-- in reference/following.py, which makes this file. Assumes nothing.
+"""
+
+USES = """use mathlib.Core.Path.{_≡_, refl}
+use mathlib.Core.Bool.{Bool, true, false}
 use mathlib.Core.List.{List, [], _∷_, map}
-use Rattle.nodes.specs.Nodes.{Node, node, Ty}
-use Rattle.judgment.specs.Solutions.{Solution, _≔_, Solutions, find, links, anySolved, writeOutBy, writeOut}
+use Prim.Native.Nat.{ℕ}
+use Rattle.nodes.specs.Nodes.{node, Ty}
+use Rattle.judgment.specs.Types.{occurs}
+use Rattle.judgment.specs.Solutions.{_≔_, Solutions, find, links, anySolved, writeOutBy, writeOut}
+use Rattle.judgment.specs.Links.{isChain}
 """
 
 
@@ -43,6 +82,15 @@ def followed(book, ns):
         else:
             out.append((kind, number))
     return out
+
+
+def is_chain(book, ks):
+    return all(k in book for k in ks) and all((17, j) in book[k] for k, j in zip(ks, ks[1:]))
+
+
+def place(pairs, kind, number):
+    start, count = pairs.get(number, (0, 0))
+    return (start, count) if kind == 17 and number < 1000 and 2000 <= start else None
 
 
 def some_type(pick, unknowns, depth):
@@ -79,6 +127,20 @@ def cases(seed, count):
             yield book, asked, answer
 
 
+def some_walk(pick, book):
+    """Unknowns as one comes to them by following solutions, or almost: one left out, doubled, exchanged or added."""
+    walk = [pick.choice(list(book))]
+    while walk[-1] in book and pick.random() < 0.85:
+        unknowns = [n for k, n in book[walk[-1]] if k == 17]
+        if not unknowns:
+            break
+        walk.append(pick.choice(unknowns))
+    if pick.random() < 0.5:
+        at = pick.randrange(len(walk))
+        walk[at:at + 1] = pick.choice([[], [walk[at], walk[at]], [pick.randrange(20)], [walk[at], pick.choice(list(book))]])
+    return walk
+
+
 def in_place_order(book, asked):
     """What one pass in order of places gives: right only where no solution mentions one placed before it."""
     for k, s in book.items():
@@ -86,18 +148,48 @@ def in_place_order(book, asked):
     return asked
 
 
-def rows(found):
-    asked = "".join(f"    (({''.join(f'_≔_ {k} {nodes(s)} ∷ ' for k, s in b.items())}[]), {nodes(t)}) ∷\n" for b, t, _ in found)
-    answered = "".join(f"    {nodes(u)} ∷\n" for _, _, u in found)
-    return asked, answered
+def solutions(book):
+    return "(" + "".join(f"_≔_ {k} {nodes(s)} ∷ " for k, s in book.items()) + "[])"
 
 
-def theorem(name, found):
-    asked, answered = rows(found)
-    return (f"\nabbrev asked{name} : List (Solutions × Ty)\nasked{name} =\n{asked}    []\n"
-            f"\nabbrev answered{name} : List Ty\nanswered{name} =\n{answered}    []\n"
+def listed(rows):
+    return "".join(f"    {row} ∷\n" for row in rows) + "    []\n"
+
+
+def written(name, found):
+    return (f"\nabbrev asked{name} : List (Solutions × Ty)\nasked{name} =\n{listed(f'({solutions(b)}, {nodes(t)})' for b, t, _ in found)}"
+            f"\nabbrev answered{name} : List Ty\nanswered{name} =\n{listed(nodes(u) for _, _, u in found)}"
             f"\npub written{name} : map (λ q. writeOut (q .0) (q .1)) asked{name} ≡ answered{name}\n"
             f"unfolding find links anySolved writeOutBy writeOut\nwritten{name} = refl\n")
+
+
+def chained(name, found):
+    numbers = ["(" + "".join(f"{k} ∷ " for k in ks) + "[])" for _, ks in found]
+    return (f"\nabbrev walked{name} : List (Solutions × List ℕ)\nwalked{name} =\n{listed(f'({solutions(b)}, {n})' for (b, _), n in zip(found, numbers))}"
+            f"\nabbrev told{name} : List Bool\ntold{name} = {''.join(f'{is_chain(b, ks)} ∷ '.lower() for b, ks in found)}[]\n"
+            f"\npub chains{name} : map (λ q. isChain (q .0) (q .1)) walked{name} ≡ told{name}\n"
+            f"unfolding find occurs isChain\nchains{name} = refl\n")
+
+
+def words(pairs):
+    """As a list of the prover's, the pairs between in runs of zeros."""
+    text, at = [], 0
+    for k, (start, count) in pairs.items():
+        if at < k:
+            text.append(f"replicate {2 * (k - at)} 0")
+        text.append(f"({start} ∷ {count} ∷ [])")
+        at = k + 1
+    return " ++ (".join(text) + ")" * (len(text) - 1)
+
+
+def placed():
+    def told(place):
+        return "Nothing" if place is None else f"At (record {{ start = {place[0]}; count = {place[1]} }})"
+
+    return (f"\nabbrev words : List ℕ\nwords = {words(PAIRS)}\n"
+            f"\nabbrev told : List (Node × Found)\ntold =\n{listed(f'(node {k} {n}, {told(place(PAIRS, k, n))})' for k, n in LOOKED_UP)}"
+            f"\npub places : map (λ q. placeOf words (kind (q .0)) (number (q .0))) told ≡ map (λ q. q .1) told\n"
+            f"unfolding placeOf\nplaces = refl\n")
 
 
 def main():
@@ -105,16 +197,26 @@ def main():
     a.add_argument("--seed", type=int, default=1)
     a.add_argument("--count", type=int, default=1000)
     a.add_argument("--table", action="store_true")
+    a.add_argument("--places", action="store_true")
     o = a.parse_args()
+    if o.places:
+        print(PLACES + placed(), end="")
+        return
     if o.table:
-        print(HEAD + theorem("", [(b, t, followed(b, t)) for b, t in DIRECTED]), end="")
+        print(COMMENT + USES + written("", [(b, t, followed(b, t)) for b, t in DIRECTED]) + chained("", CHAINS), end="")
         return
     found = list(cases(o.seed, o.count))
     told = sum(in_place_order(b, t) != u for b, t, u in found)
+    pick = random.Random(o.seed)
+    walks = [(b, some_walk(pick, b)) for b, _, _ in found]
+    chains = sum(is_chain(b, ks) for b, ks in walks)
     with tempfile.TemporaryDirectory() as folder:
         workplace(folder)
-        proved(folder, MODULE + "".join(theorem(i, found[i: i + 50]) for i in range(0, len(found), 50)), f"{len(found)} books")
+        text = USES.replace("judgment·specs.specs", "judgment.specs")
+        text += "".join(written(i, found[i: i + 50]) + chained(i, walks[i: i + 50]) for i in range(0, len(found), 50))
+        proved(folder, text, f"{len(found)} books")
     print(f"{len(found)} of {len(found)} types written out alike; one pass in order of places gives another for {told} of them")
+    print(f"{len(walks)} of {len(walks)} walks judged alike; {chains} of them are chains")
 
 
 if __name__ == "__main__":

@@ -2,3 +2,5 @@ pub mod Holdings
 pub mod Turns
 pub mod Words
 pub mod Comparing
+pub mod Links
+pub mod Places

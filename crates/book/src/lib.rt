@@ -5,7 +5,7 @@ ghost use mathlib.Core.List.{[]};
 ghost use Prim.Native.Nat.{_+_, _*_, _≤_, _<_};
 ghost use lib.ListN.{length};
 ghost use lib.Seq.{sets};
-ghost use Rattle.sizes.specs.Sizes.{bookSize};
+ghost use Rattle.sizes.specs.Sizes.{mostNumbers, bookSize};
 ghost use Rattle.nodes.specs.Nodes.{nodesAt};
 ghost use Rattle.judgment.specs.Solutions.{writeOut};
 ghost use Rattle.judgment.specs.Result.{bookWords};
@@ -106,6 +106,20 @@ pub fn solve(book: &mut [u32], b: Book, k: u32, src: &[u32], from: usize, n: usi
     Book { nodes: b.nodes + n }
 }
 
+// Where the solution of unknown k stands, if it has one. Whatever follows a chain goes on by this, its numbers in 16 bits.
+fn link(book: &[u32], k: u16) -> Found
+    requires { ⌜ (bookSize ≤ length (now book)) × (k < mostNumbers) ⌝ }
+    ensures { λ r. ⌜ r ≡ placeOf (now (book .entry)) 17 k ⌝ }
+{
+    let pair = BOOK_STRIDE * (k as usize);
+    let start = wide(book[pair]);
+    if start < BOOK_BASE {
+        return Found::Nothing;
+    }
+    let count = wide(book[pair + 1]);
+    Found::At(Place { start, count })
+}
+
 // Where the solution of a node stands, if it is a solved unknown.
 pub fn find(book: &[u32], kind: u32, number: u32) -> Found
     requires { ⌜ bookSize ≤ length (now book) ⌝ }
@@ -114,17 +128,10 @@ pub fn find(book: &[u32], kind: u32, number: u32) -> Found
     if kind != 17 {
         return Found::Nothing;
     }
-    let k = wide(number);
-    if Book::NUMBERS <= k {
+    if Book::NUMBERS <= wide(number) {
         return Found::Nothing;
     }
-    let pair = BOOK_STRIDE * k;
-    let start = wide(book[pair]);
-    if start < BOOK_BASE {
-        return Found::Nothing;
-    }
-    let count = wide(book[pair + 1]);
-    Found::At(Place { start, count })
+    link(book, number as u16)
 }
 
 // Writes out the `left` nodes at word `at` of src, from node n of out on and up to node `end`, following each solved unknown into its solution.

@@ -22,6 +22,7 @@ pub mod WholeTypes
 pub mod Visits
 pub mod WholeTerms
 pub mod WholeRun
+pub mod Links
 pub mod Orders
 pub mod Narrow
 pub mod Raised

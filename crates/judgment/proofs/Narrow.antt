@@ -8,7 +8,7 @@ use mathlib.Core.Option.{Option, none, some}
 use mathlib.Core.List.{List, [], _∷_, _++_}
 use lib.Dec.{eqb, leb, ltb}
 use lib.ListN.{length, take, drop, length-append, length-take, length-drop}
-use borrow.Author.Tests.{ltb-true, ltb-false, leb-true, eqb-false}
+use borrow.Author.Tests.{ltb-false, leb-true, le-leb, eqb-false}
 use Rattle.sizes.specs.Sizes.{mostLines, highestCeiling, mostNodes, mostNumbers, highestLimit}
 use Rattle.nodes.specs.Nodes.{Node, node, Ty}
 use Rattle.nodes.specs.Lists.{All}
@@ -27,6 +27,7 @@ use Rattle.judgment.specs.Types.{eqTy, View, isArrow, isApp, isForall, i
 use Rattle.judgment.specs.Terms.{Term, part, afterParts, Lambda, lambdaOf, TermView, isVar, isLitInt, isLambda, isApply, isTypeLambda, isConstructor, isCase, isBinOp, isIf, isIntrinsic, isNone, viewBy, termView, PatternView, patternView}
 use Rattle.judgment.specs.Solutions.{_≔_, Solutions, value, find, writeOut, solutionNodes}
 use Rattle.judgment.specs.Board.{Entry, tvar, var, sub, inf, chk, infApp, Board, findVar, before, Rule, done, refuse, fresh, push, solve, zonk, look, State, state, Outcome, finished, refused, roomFor, Operation, perform, operations}
+use Rattle.judgment.specs.Chain.{counterOf}
 use Rattle.judgment.specs.Rules.{Env, Side, left, right, openBody, solveMonotype, instantiateBy, instantiateFrom, mismatch, unknownRight, unknownLeft, subtypeBy, subtype, openNames, instantiateConstructor, signatureBy, signatureFrom, insert, pushVars, patternParts, patternConstructor, patternBy, checkPatterns, checkArms, variable, constructor, inferBy, checkArrow, checkBy, applyBy, inferApp, rule}
 use Rattle.judgment.specs.Run.{Step, step, End, accepted, ceiling, refusedBy, Run, run, addStep, onward, runFrom, checkType}
 use Rattle.judgment.specs.Result.{errorNumber, errorDetails, endNumber, endDetails, envOf, runOf, resultOf, judge, limitsWith, Buffers, Called, refusedAt, byCheck, limitBad, tooShort, call}
@@ -37,6 +38,7 @@ use Rattle.judgment.proofs.RuleLaws.{EnvOK, Explains, rule-good, writte
 use Rattle.judgment.proofs.Promised.{plan-env, plan-inv, sheet-plan}
 use Rattle.judgment.proofs.Rounds.{substitute-length}
 use Rattle.judgment.proofs.WholeRun.{EnvWhole, StateWhole, OutcomeWhole, solving-ind, perform-whole, rule-whole, plan-whole}
+use Rattle.judgment.proofs.Links.{perform-counted}
 
 -- How large the seven numbers of an answer are. The details are names, nodes of a written-out type, parameters of a constructor, unknowns and counts.
 pub record Narrow (a : Answer) : Type 0 where
@@ -64,28 +66,27 @@ Brief σ (zonk t f) = length (writeOut σ t) ≤ highestLimit → Brief σ (f (w
 Brief σ (look f) = (Γ : Board) → Brief σ (f Γ)
 
 abbrev OutcomeNarrow : Outcome → Type 0
-OutcomeNarrow (finished (state Γ σ n)) = n ≤ mostNumbers
-OutcomeNarrow (refused r ts (state Γ σ n)) = (n ≤ mostNumbers) × Small r
+OutcomeNarrow (finished s) = Unit {0}
+OutcomeNarrow (refused r ts s) = Small r
 
 module _ (limit : ℕ) (low : limit ≤ highestLimit) where
-  perform-narrow : (p : Rule) (Γ : Board) (σ : Solutions) (n : ℕ) → n ≤ mostNumbers → Brief σ p → OutcomeNarrow (perform (limitsWith limit) p Γ σ n)
+  perform-narrow : (p : Rule) (Γ : Board) (σ : Solutions) (n : ℕ) → Brief σ p → OutcomeNarrow (perform (limitsWith limit) p Γ σ n)
   unfolding perform
-  perform-narrow done Γ σ n h g = h
-  perform-narrow (refuse r ts) Γ σ n h g = (h, g)
-  perform-narrow (fresh f) Γ σ n h g =
-      cond-ind OutcomeNarrow (ltb n mostNumbers) (λ e. perform-narrow (f n) Γ σ (suc n) (ltb-true n mostNumbers e) (g n)) (λ _. (h, omega arith))
-  perform-narrow (push e p) Γ σ n h g =
-      cond-ind OutcomeNarrow (roomFor (limitsWith limit) e Γ) (λ _. perform-narrow p (e ∷ Γ) σ n h g) (λ _. (h, omega arith))
-  perform-narrow (solve k s p) Γ σ n h g =
+  perform-narrow done Γ σ n g = tt
+  perform-narrow (refuse r ts) Γ σ n g = g
+  perform-narrow (fresh f) Γ σ n g = cond-ind OutcomeNarrow (ltb n mostNumbers) (λ e. perform-narrow (f n) Γ σ (suc n) (g n)) (λ _. omega arith)
+  perform-narrow (push e p) Γ σ n g =
+      cond-ind OutcomeNarrow (roomFor (limitsWith limit) e Γ) (λ _. perform-narrow p (e ∷ Γ) σ n g) (λ _. omega arith)
+  perform-narrow (solve k s p) Γ σ n g =
       solving-ind OutcomeNarrow (find k σ) s
       (cond-ind OutcomeNarrow (leb (solutionNodes σ + length s) mostNodes)
-      (λ _. perform-narrow p Γ (σ ++ (_≔_ k s ∷ [])) n h (g (σ ++ (_≔_ k s ∷ [])))) (λ _. (h, omega arith)))
-      (perform-narrow p Γ σ n h (g σ))
-      (h, omega arith)
-  perform-narrow (zonk t f) Γ σ n h g =
+      (λ _. perform-narrow p Γ (σ ++ (_≔_ k s ∷ [])) n (g (σ ++ (_≔_ k s ∷ [])))) (λ _. omega arith))
+      (perform-narrow p Γ σ n (g σ))
+      (omega arith)
+  perform-narrow (zonk t f) Γ σ n g =
       cond-ind OutcomeNarrow (leb (length (writeOut σ t)) limit)
-      (λ e. perform-narrow (f (writeOut σ t)) Γ σ n h (g (omega (arith, leb-true (length (writeOut σ t)) limit e)))) (λ _. (h, omega arith))
-  perform-narrow (look f) Γ σ n h g = perform-narrow (f Γ) Γ σ n h (g Γ)
+      (λ e. perform-narrow (f (writeOut σ t)) Γ σ n (g (omega (arith, leb-true (length (writeOut σ t)) limit e)))) (λ _. omega arith)
+  perform-narrow (look f) Γ σ n g = perform-narrow (f Γ) Γ σ n (g Γ)
 
 ---------------------------------------------------------------- instantiation
 -- an unknown that a view shows
@@ -378,12 +379,12 @@ module _ (limit : ℕ) (low : limit ≤ highestLimit) (Plain : Type 0) (E : Env)
   rule-brief Γ σ n i l (infApp f e c) h w = λ hf hc. applyBy-brief σ E sE (writeOut σ f) e (writeOut σ c) (view (writeOut σ f)) hf
 
   onward-narrow : (c : ℕ) (Q : Board → Solutions → ℕ → Type 0) (s : State) (e : Entry) (os : List Operation) (o : Outcome) (again : State → Run)
-      → Kept Plain Q o → OutcomeWhole o → OutcomeNarrow o
+      → Kept Plain Q o → OutcomeWhole o → counterOf o ≤ mostNumbers → OutcomeNarrow o
       → ((Γ₁ : Board) (σ₁ : Solutions) (n₁ : ℕ) → Inv Plain Γ₁ σ₁ n₁ → StateWhole (state Γ₁ σ₁ n₁) → n₁ ≤ mostNumbers → RunNarrow c (again (state Γ₁ σ₁ n₁)))
       → RunNarrow (suc c) (onward (limitsWith limit) E s e os o again)
-  onward-narrow c Q s e os (finished (state Γ₁ σ₁ n₁)) again k w g f =
-      add-narrow c (step s e os (finished (state Γ₁ σ₁ n₁))) (again (state Γ₁ σ₁ n₁)) (f Γ₁ σ₁ n₁ (k .0) w g)
-  onward-narrow c Q s e os (refused r ts (state Γ₁ σ₁ n₁)) again k w g f = (omega arith, g .1, g .0)
+  onward-narrow c Q s e os (finished (state Γ₁ σ₁ n₁)) again k w l g f =
+      add-narrow c (step s e os (finished (state Γ₁ σ₁ n₁))) (again (state Γ₁ σ₁ n₁)) (f Γ₁ σ₁ n₁ (k .0) w l)
+  onward-narrow c Q s e os (refused r ts (state Γ₁ σ₁ n₁)) again k w l g f = (omega arith, g, l)
 
   run-narrow : (c : ℕ) (Γ : Board) (σ : Solutions) (n : ℕ) → Inv Plain Γ σ n → StateWhole (state Γ σ n) → n ≤ mostNumbers
       → RunNarrow c (runFrom (limitsWith limit) E c (state Γ σ n))
@@ -396,7 +397,8 @@ module _ (limit : ℕ) (low : limit ≤ highestLimit) (Plain : Type 0) (E : Env)
       onward-narrow c (Explains Plain σ e) (state (e ∷ Γ) σ n) e (operations (limitsWith limit) (rule E e) Γ σ n) (perform (limitsWith limit) (rule E e) Γ σ n) (λ s. runFrom (limitsWith limit) E c s)
       (perform-kept Plain (limitsWith limit) (Explains Plain σ e) (rule E e) Γ σ n j (rule-good Plain E hE Γ σ n j e (i .entries .0)))
       (perform-whole (limitsWith limit) (rule E e) Γ σ n (w .0 .1) (w .1) (rule-whole E wE e (w .0 .0)))
-      (perform-narrow limit low (rule E e) Γ σ n l (rule-brief Γ σ n j l e (i .entries .0) (w .0 .0)))
+      (leb-true _ mostNumbers (perform-counted (limitsWith limit) (rule E e) Γ σ n (le-leb n mostNumbers l)))
+      (perform-narrow limit low (rule E e) Γ σ n (rule-brief Γ σ n j l e (i .entries .0) (w .0 .0)))
       (λ Γ₁ σ₁ n₁ i₁ w₁ l₁. run-narrow c Γ₁ σ₁ n₁ i₁ w₁ l₁)
 
 ---------------------------------------------------------------- a plan

@@ -329,12 +329,12 @@ fine-snoc σ k s f u h = record {
     newer n g j r e (inr q) = free-one k (solvedUnknowns σ) (subst (λ (i : ℕ). Free (k ∷ solvedUnknowns σ) (node 17 i)) (ap key q) (subst (Free (k ∷ solvedUnknowns σ)) e g))
 
 -- the solution just given: under all later solutions its unknown is the same type
-in-append : (σ τ : Solutions) (x : Solution) → In x σ → In x (σ ++ τ)
+pub in-append : (σ τ : Solutions) (x : Solution) → In x σ → In x (σ ++ τ)
 in-append [] τ x m = absurd m
 in-append (y ∷ σ) τ x (inl e) = inl e
 in-append (y ∷ σ) τ x (inr m) = inr (in-append σ τ x m)
 
-in-last : (σ : Solutions) (x : Solution) → In x (σ ++ (x ∷ []))
+pub in-last : (σ : Solutions) (x : Solution) → In x (σ ++ (x ∷ []))
 in-last [] x = inl refl
 in-last (y ∷ σ) x = inr (in-last σ x)
 

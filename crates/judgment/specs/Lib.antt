@@ -8,3 +8,4 @@ pub mod Run
 pub mod Result
 pub mod Good
 pub mod Promise
+pub mod Links
