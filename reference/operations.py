@@ -3,9 +3,12 @@
 
 A fresh number is the counter. An entry takes a slot of eight words (kind, number, node counts of
 its two types) and its nodes go on top of the others, from word 4,096 on. A solution's nodes follow the others from word
-2,000 of the book on; words 2k and 2k+1 are its start and its count. Usage: operations.py > crates/operations_run/stdout
+2,000 of the book on; words 2k and 2k+1 are its start and its count. Then the longest chain that a book holds, followed from its first
+unknown. Usage: operations.py > crates/operations_run/stdout
 """
-UNKNOWN, ARROW, VAR, SUB = 17, 13, 2, 3
+import sys
+
+CON, UNKNOWN, ARROW, VAR, SUB = 12, 17, 13, 2, 3
 
 
 def write_out(solutions, nodes):
@@ -56,6 +59,13 @@ def main():
             for i, word in enumerate(words):
                 if word:
                     print(i, word)
+
+    sys.setrecursionlimit(10000)
+    chain = {k: [(UNKNOWN, k + 1)] for k in range(999)} | {999: [(CON, 1)]}
+    written = write_out(chain, [(UNKNOWN, 0)])
+    print("same" if written == [(CON, 1)] else "differ")
+    for i, word in enumerate(word for node in written for word in node):
+        print(i, word)
 
 
 main()

@@ -1,16 +1,24 @@
 // Every operation on real buffers: what stands in them afterwards is written out, word by word.
 ghost use mathlib.Core.Path.{_≡_};
-ghost use mathlib.Core.List.{List};
+ghost use mathlib.Core.List.{List, [], _∷_};
 ghost use Rattle.spelling.specs.declared.Triple.{Triple};
-ghost use Rattle.sizes.specs.Sizes.{usualLimit, boardSize, bookSize, usualReport};
-ghost use Prim.Native.Nat.{_*_, _≤_};
+ghost use Rattle.sizes.specs.Sizes.{mostNodes, mostNumbers, usualLimit, boardSize, bookSize, usualReport};
+ghost use Prim.Native.Nat.{_*_, _≤_, _<_};
 ghost use lib.ListN.{length};
+ghost use Rattle.nodes.specs.Nodes.{node};
+ghost use Rattle.judgment.specs.Links.{chained};
+ghost use Rattle.book.specs.Book.{sols, Booked, given, grown};
 ghost use Rattle.operations.specs.State.{WellFormed, Does};
 ghost use Rattle.operations_run.specs.Script.{script as scriptRule};
 use board::Board;
 use board::clear_board;
 use book::Book;
+use book::Met;
+use book::Rest;
 use book::clear_book;
+use book::compare;
+use book::solve;
+use book::write_out;
 use io::print_decimal;
 use io::write_all;
 use judgment::TypeError;
@@ -48,6 +56,30 @@ fn script(board: &mut [u32], book: &mut [u32], report: &mut [u32], c: Run) -> Ru
     let c6 = z.run;
     let n = z.nodes;
     push_var(board, c6, 10, report, 0, n)
+}
+
+// Gives unknown k a solution of one node.
+fn solve_by(book: &mut [u32], b: Book, k: u32, kind: u32, number: u32) -> Book
+    requires { ⌜ (bookSize ≤ length (now book)) × (k < mostNumbers) × (b .nodes < mostNodes) ⌝ }
+    ensures { λ r. ⌜ (now (book .exit) ≡ given (now (book .entry)) b k (node kind number ∷ [])) × (r ≡ grown b 1) ⌝ }
+{
+    let solution = [kind, number];
+    solve(book, b, k, &solution, 0, 1)
+}
+
+// The longest chain that a book holds: 0 is solved by 1, 1 by 2 and so on, and 999 by Int.
+fn chain(book: &mut [u32]) -> Book
+    requires { ⌜ bookSize ≤ length (now book) ⌝ }
+    ensures { λ r. ⌜ Booked (now (book .exit)) r × (sols (now (book .exit)) ≡ chained 999) ⌝ }
+{
+    clear_book(book);
+    let mut b = Book::new();
+    let mut k = 0u32;
+    while k < 999 {
+        b = solve_by(book, b, k, 17, k + 1);
+        k += 1;
+    }
+    solve_by(book, b, k, 12, 1)
 }
 
 fn number(n: usize) {
@@ -115,9 +147,37 @@ fn run(board: &mut [u32], book: &mut [u32], report: &mut [u32])
     show(board, book, report, c4);
 }
 
+fn show_met(m: Met) {
+    match m {
+        Met::Same(_) => {
+            let _same = write_all(1, b"same\n");
+        }
+        Met::Differ => {
+            let _differ = write_all(1, b"differ\n");
+        }
+        Met::Over => {
+            let _over = write_all(1, b"over\n");
+        }
+    }
+}
+
+// Follows that chain from 0: compared with Int, and written out.
+fn follow(book: &[u32], out: &mut [u32], b: Book)
+    requires { ⌜ Booked (now book) b × (sols (now book) ≡ chained 999) × (2 ≤ length (now out)) ⌝ }
+{
+    let first = [17u32, 0];
+    let int = [12u32, 1];
+    show_met(compare(&first, &int, book, Rest::new(0, 0, 1, 1)));
+    let _wrote = write_out(&first, 0, 1, book, out, 0, 1);
+    words(out);
+}
+
 fn main() {
     let mut board = [7u32; BOARD_SIZE + 2];
     let mut book = [7u32; BOOK_SIZE + 2];
     let mut report = [7u32; USUAL_REPORT + 1];
     run(&mut board, &mut book, &mut report);
+    let mut written = [0u32; 2];
+    let b = chain(&mut book);
+    follow(&book, &mut written, b);
 }
