@@ -60,12 +60,17 @@ pub longest : Longest (λ σ. (w : List ℕ) × (b : Book) × Booked w b × (sol
 longest =
     let h = risen-held 999 (omega arith) in
     let last = one-more (h .0) 999 (node 12 1) (omega arith) (last-free 999) (h .1) in
+    let links = chained-links 999 in
     record {
-      most = λ σ g. subst (LinksUpTo 1000) (g .3) (book-links (g .0) (g .1) (g .2));
-      met = (chained 999, (given (h .0) (record { nodes = 999 }) 999 (con 1), record { nodes = 1000 }, last .0, last .1), chained-links 999);
+      most = λ σ g ks e. (let l = subst (LinksUpTo mostNumbers) (g .3) (book-links (g .0) (g .1) (g .2)) ks e in omega arith);
+      met = (chained 999, (given (h .0) (record { nodes = 999 }) 999 (con 1), record { nodes = 1000 }, last .0, last .1), (links .0, links .1, (let l = links .2 in omega arith)));
     }
 
--- and by computation
+-- and by computation: no lower bound would do
 pub thousand : isChain (chained 999) (rising 0 1000) ≡ true
 unfolding find occurs isChain risen rising
 thousand = refl
+
+pub no-fewer : (m : ℕ) → LinksUpTo m (chained 999) → 1000 ≤ m
+unfolding rising
+no-fewer m h = h (rising 0 1000) thousand

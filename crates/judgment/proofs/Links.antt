@@ -24,7 +24,7 @@ use Rattle.judgment.specs.Solutions.{Solution, _≔_, Solutions, key, va
 use Rattle.judgment.specs.Board.{Entry, chk, Board, upTo, unlimited, Limit, within, below, Limits, Rule, done, refuse, fresh, push, solve, zonk, look, State, state, Operation, Outcome, finished, refused, roomFor, perform, operations}
 use Rattle.judgment.specs.Chain.{counterOf}
 use Rattle.judgment.specs.Rules.{Env, rule}
-use Rattle.judgment.specs.Run.{Step, step, Run, run, addStep, onward, runFrom, checkType}
+use Rattle.judgment.specs.Run.{Step, step, Run, run, steps, addStep, onward, runFrom, checkType}
 use Rattle.judgment.specs.Result.{limitsWith, envOf, runOf}
 use Rattle.judgment.specs.Promise.{solutions}
 use Rattle.judgment.specs.Good.{Free, Under, Fine, SolutionOK, Inv}
@@ -242,6 +242,11 @@ longest m = record { most = λ σ g. good-links ⊥ (g .0) σ m (g .1); met = me
         (chained n, ([], i), chained-links n)
 
 ---------------------------------------------------------------- runs
+-- a state for every entry taken, and one more
+pub states-length : (R : Run) → length (states R) ≡ suc (length (steps R))
+states-length (run [] d s) = refl
+states-length (run (step t e os o ∷ ss) d s) = ap suc (states-length (run ss d s))
+
 within-suc : (n : ℕ) (l : Limit) → below n l ≡ true → within (suc n) l ≡ true
 within-suc n (upTo m) e = le-leb (suc n) m (ltb-true n m e)
 within-suc n unlimited e = refl

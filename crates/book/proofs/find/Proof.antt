@@ -1,5 +1,7 @@
+use Prim.Native.Nat.{_≤_}
 use native.Mathlib.Omega.{arith}
 use borrow.Author.Needs.{needs}
+use Rattle.sizes.specs.Sizes.{mostNumbers}
 use Rattle.spelling.proofs.Tests.{tests}
 use Rattle.book.specs.Book.{placeOf}
 use Rattle.book.proofs.find.Statement.{statement}
@@ -13,7 +15,9 @@ returns-2 : tie.Need-returns-2
 unfolding placeOf
 returns-2 c =
     let k = c .before .before .if1 .left in
-    let h = rw (c .before .wide .ensures) at (c .if2 .taken) in
+    let e = c .before .wide .ensures in
+    let t = c .if2 .taken in
+    let h : mostNumbers ≤ c .before .before .before .before .args .number = omega arith in
     simp tests
 
 cast-link : tie.Need-cast-link
