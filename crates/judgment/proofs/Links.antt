@@ -1,4 +1,4 @@
--- No chain passes as many links as there are numbers: of solutions that lead nowhere back (`few-links`), of good states, where as many are met (`longest`), and of every state
+-- No chain has more links than there are numbers: in solutions that lead nowhere back (`few-links`), in good states, where as many are met (`longest`), and in every state
 -- of every run from a good start under any limits (`run-links`), so of every sheet's (`sheet-links`). Assumes nothing.
 use Prim.Native.Nat.{ℕ, zero, suc, _+_, _≤_, _<_}
 use native.Mathlib.Decide.{ℕ-discrete}
@@ -20,17 +20,17 @@ use Rattle.grammar.specs.declared.Check.the-variants.{Plan}
 use Rattle.grammar.specs.Check.{check}
 use Rattle.sheet.specs.Plan.{triples, planOf}
 use Rattle.judgment.specs.Types.{unknown, con, isNode, occurs}
-use Rattle.judgment.specs.Solutions.{Solution, _≔_, Solutions, key, value, find, writeOut, solutionNodes, Distinct, solvedUnknowns}
+use Rattle.judgment.specs.Solutions.{_≔_, Solutions, key, find, writeOut, solutionNodes, Distinct, solvedUnknowns}
 use Rattle.judgment.specs.Board.{Entry, chk, Board, upTo, unlimited, Limit, within, below, Limits, Rule, done, refuse, fresh, push, solve, zonk, look, State, state, Operation, Outcome, finished, refused, roomFor, perform, operations}
 use Rattle.judgment.specs.Chain.{counterOf}
 use Rattle.judgment.specs.Rules.{Env, rule}
-use Rattle.judgment.specs.Run.{Step, step, Run, run, steps, addStep, onward, runFrom, checkType}
+use Rattle.judgment.specs.Run.{step, Run, run, steps, addStep, onward, runFrom, checkType}
 use Rattle.judgment.specs.Result.{limitsWith, envOf, runOf}
-use Rattle.judgment.specs.Promise.{solutions}
-use Rattle.judgment.specs.Good.{Free, Under, Fine, SolutionOK, Inv}
+use Rattle.judgment.specs.Promise.{Follows, solutions}
+use Rattle.judgment.specs.Good.{Free, Fine, SolutionOK, Inv}
 use Rattle.judgment.specs.Links.{leadsOn, isChain, LinksUpTo, Longest, risen, chained, states, counter}
 use Rattle.judgment.proofs.TypeLaws.{both, isNode-true, eqb-true, eqb-same, eqb-false}
-use Rattle.judgment.proofs.SolutionLaws.{find-some, find-in, other-free, no-fine, fine-snoc, in-append, in-last}
+use Rattle.judgment.proofs.SolutionLaws.{find-some, find-in, other-free, low-in, rank-falls, no-fine, fine-snoc, in-append, in-last}
 use Rattle.judgment.proofs.Invariant.{Kept, perform-kept}
 use Rattle.judgment.proofs.RuleLaws.{EnvOK, Explains, rule-good}
 use Rattle.judgment.proofs.WholeRun.{solving-ind}
@@ -95,16 +95,34 @@ followed σ k ks e = let h = both (leadsOn (find k σ) ks) (isChain σ ks) e in 
     go none q l c = absurd (false≢true l)
     go (some s) q l c = (s, q, l, c)
 
+-- a chain goes on where following does
+pub chain-follows : (σ : Solutions) (k j : ℕ) (ks : List ℕ) → isChain σ (k ∷ j ∷ ks) ≡ true → Follows σ j k
+chain-follows σ k j ks e = let a = followed σ k (j ∷ ks) e in (a .0, find-some σ k (a .0) (a .1), occurs-in j (a .0) (a .2))
+
+in-occurs : (k : ℕ) (t : Ty) → In (node 17 k) t → occurs k t ≡ true
+unfolding occurs
+in-occurs k [] i = absurd i
+in-occurs k (n ∷ t) (inl e) = ap (λ (b : Bool). b || occurs k t) (ap (isNode 17 k) (sym e) ∙ eqb-same k)
+in-occurs k (n ∷ t) (inr i) = rw (in-occurs k t i) (or-true (isNode 17 k n))
+  where
+    or-true : (b : Bool) → (b || true) ≡ true
+    or-true true = refl
+    or-true false = refl
+
+pub follows-chain : (σ : Solutions) → Distinct (solvedUnknowns σ) → (k j : ℕ) (ks : List ℕ) → Follows σ j k → isChain σ (j ∷ ks) ≡ true → isChain σ (k ∷ j ∷ ks) ≡ true
+unfolding isChain
+follows-chain σ d k j ks p e =
+    ap₂ {C = Bool} (λ x y. x && y) (ap (λ (o : Option Ty). leadsOn o (j ∷ ks)) (find-in σ d (_≔_ k (p .0)) (p .1)) ∙ in-occurs j (p .0) (p .2)) e
+
 module _ (σ : Solutions) (f : Fine σ) where
   -- ranks fall along a chain
   ranked : (k : ℕ) (ks : List ℕ) → isChain σ (k ∷ ks) ≡ true → length ks ≤ f .rank k
   ranked k [] e = omega arith
   ranked k (j ∷ ks) e =
-      let a = followed σ k (j ∷ ks) e in
-      let b = followed σ j ks (a .3) in
-      let fall = all-in (Under (f .rank) σ (f .rank k)) (a .0) (node 17 j) (occurs-in j (a .0) (a .2))
-      (all-in (λ x. All (Under (f .rank) σ (f .rank (key x))) (value x)) σ (_≔_ k (a .0)) (find-some σ k (a .0) (a .1)) (f .falls)) j (b .0) refl (find-some σ j (b .0) (b .1)) in
-      let rest = ranked j ks (a .3) in
+      let c = followed σ k (j ∷ ks) e .3 in
+      let b = followed σ j ks c in
+      let fall = rank-falls σ f j k (b .0) (chain-follows σ k j ks e) (find-some σ j (b .0) (b .1)) in
+      let rest = ranked j ks c in
       omega arith
 
   -- no more links than solutions
@@ -112,7 +130,7 @@ module _ (σ : Solutions) (f : Fine σ) where
   links-solutions [] e = omega arith
   links-solutions (k ∷ ks) e =
       let a = followed σ k ks e in
-      let low = all-in (λ x. f .rank (key x) < length σ) σ (_≔_ k (a .0)) (find-some σ k (a .0) (a .1)) (f .low) in
+      let low = low-in σ f (_≔_ k (a .0)) (find-some σ k (a .0) (a .1)) in
       let rest = ranked k ks e in
       omega arith
 
@@ -135,7 +153,7 @@ few-links σ f m h ks e =
 pub good-links : (Plain : Type 0) (Γ : Board) (σ : Solutions) (n : ℕ) → Inv Plain Γ σ n → LinksUpTo n σ
 good-links Plain Γ σ n i = few-links σ (i .fine) n (all-map (λ x h. h .0) σ (i .solutions))
 
--- and none in solutions that more were added to: as they stand between the operations of a step
+-- A chain stays as more solutions are given. So what bounds the chains of a run's last solutions bounds those at any moment, between the operations of a step too.
 found-still : (σ τ : Solutions) (k : ℕ) (s : Ty) → find k σ ≡ some s → find k (σ ++ τ) ≡ some s
 unfolding find
 found-still [] τ k s e = absurd (Option·none-ne-some s e)
@@ -176,7 +194,7 @@ risen-below zero = tt
 risen-below (suc n) =
     all-append (λ x. key x < suc n) (risen n) (_≔_ n (unknown (suc n)) ∷ []) (all-map (λ x l. (let z = l in omega arith)) (risen n) (risen-below n)) (omega arith, tt)
 
--- solving n is allowed, by what is no solved unknown
+-- what solving n next asks
 pub risen-free : (n j : ℕ) → n ≤ j → Free (solvedUnknowns (risen n)) (node 17 j)
 risen-free n j l = free-above n j l (risen n) (risen-below n)
 

@@ -207,8 +207,12 @@ module _ (σ : Solutions) (f : Fine σ) where
           ((λ j r p k. absurd (true≢false (sym (ap (isSolved σ) p ∙ ap known (find-in σ (f .once) (_≔_ j r) k)) ∙ e))), tt)))
           (down t (h .1))
 
-  low-in : (x : Solution) → In x σ → f .rank (key x) < length σ
+  pub low-in : (x : Solution) → In x σ → f .rank (key x) < length σ
   low-in x m = all-in (λ y. f .rank (key y) < length σ) σ x m (f .low)
+
+  pub rank-falls : (j k : ℕ) (s : Ty) → Follows σ j k → In (_≔_ j s) σ → f .rank j < f .rank k
+  rank-falls j k s p i =
+      all-in (Under (f .rank) σ (f .rank k)) (p .0) (node 17 j) (p .2) (all-in (λ x. All (Under (f .rank) σ (f .rank (key x))) (value x)) σ (_≔_ k (p .0)) (p .1) (f .falls)) j s refl i
 
   -- a written-out type has none of the solved unknowns
   pub written-is-free : (t : Ty) → All (Free (solvedUnknowns σ)) (writeOut σ t)
@@ -237,7 +241,7 @@ module _ (σ : Solutions) (f : Fine σ) where
   acc (suc m) k h =
       Acc·intro k (λ j p. acc m j (λ s i.
       (let l = h (p .0) (p .1) in
-      let z = all-in (Under (f .rank) σ (f .rank k)) (p .0) (node 17 j) (p .2) (all-in (λ x. All (Under (f .rank) σ (f .rank (key x))) (value x)) σ (_≔_ k (p .0)) (p .1) (f .falls)) j s refl i in
+      let z = rank-falls j k s p i in
       omega arith)))
 
   pub ends : (k : ℕ) → Acc (Follows σ) k

@@ -1,4 +1,4 @@
-// Every operation on real buffers: what stands in them afterwards is written out, word by word.
+// Every operation on real buffers, and the longest chain that a book holds, followed: what stands in them afterwards is written out, word by word.
 ghost use mathlib.Core.Path.{_≡_};
 ghost use mathlib.Core.List.{List, [], _∷_};
 ghost use Rattle.spelling.specs.declared.Triple.{Triple};
@@ -7,6 +7,7 @@ ghost use Prim.Native.Nat.{_*_, _≤_, _<_};
 ghost use lib.ListN.{length};
 ghost use Rattle.nodes.specs.Nodes.{node};
 ghost use Rattle.judgment.specs.Links.{chained};
+ghost use Rattle.book.specs.declared.Book.{Book as BookOf};
 ghost use Rattle.book.specs.Book.{sols, Booked, given, grown};
 ghost use Rattle.operations.specs.State.{WellFormed, Does};
 ghost use Rattle.operations_run.specs.Script.{script as scriptRule};
@@ -162,8 +163,8 @@ fn show_met(m: Met) {
 }
 
 // Follows that chain from 0: compared with Int, and written out.
-fn follow(book: &[u32], out: &mut [u32], b: Book)
-    requires { ⌜ Booked (now book) b × (sols (now book) ≡ chained 999) × (2 ≤ length (now out)) ⌝ }
+fn follow(book: &[u32], out: &mut [u32])
+    requires { ⌜ ((b : BookOf) × Booked (now book) b) × (sols (now book) ≡ chained 999) × (2 ≤ length (now out)) ⌝ }
 {
     let first = [17u32, 0];
     let int = [12u32, 1];
@@ -178,6 +179,6 @@ fn main() {
     let mut report = [7u32; USUAL_REPORT + 1];
     run(&mut board, &mut book, &mut report);
     let mut written = [0u32; 2];
-    let b = chain(&mut book);
-    follow(&book, &mut written, b);
+    let _nodes = chain(&mut book);
+    follow(&book, &mut written);
 }

@@ -4,7 +4,7 @@ use Rattle.operations_run.proofs.follow.Statement.{statement}
 use Rattle.operations_run.proofs.follow.Tie as tie
 
 compare-requires : tie.Need-compare-requires
-compare-requires c κs = let p = c .before .before .before .before .before .pre in rw (c .new .ensures) (follow-asks (p .0) (p .1))
+compare-requires c κs = let p = c .before .before .before .before .before .pre in rw (c .new .ensures) (follow-asks (p .0 .1) (p .1))
 
 pub follow-spec : {M : Type 1} → statement M
 follow-spec =
