@@ -4,7 +4,7 @@ use mathlib.Core.List.{List, [], _∷_, _++_}
 use Prim.Native.Nat.{ℕ, zero, suc, _+_, _*_, _-_, _/_}
 use lib.ListN.{length, replicate, take, drop}
 use lib.Dec.{ltb, leb, eqb}
-use Rattle.sizes.specs.Sizes.{lineLength}
+use Rattle.sizes.specs.Sizes.{lineLength, highestName}
 use Rattle.spelling.specs.declared.Triple.{Triple}
 use Rattle.spelling.specs.declared.Line.{Line}
 use Rattle.spelling.specs.declared.Line.the-variants.{Spelt, Misspelt}
@@ -31,7 +31,7 @@ headIn x Misspelt = No
 
 -- an entry: its name is 1 to 9,999 and above the last one of its kind
 abbrev pub named : ℕ → Triple → Declared
-named last t = cond (ltb last (t .value) && leb (t .value) 9999) (Named (t .kind) (t .value)) Not
+named last t = cond (ltb last (t .value) && leb (t .value) highestName) (Named (t .kind) (t .value)) Not
 
 -- kind 1, then kind 2, then kind 3
 unfoldable pub declaredBy : ℕ → ℕ → Triple → Declared

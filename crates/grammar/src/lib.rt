@@ -5,6 +5,7 @@ use kinds::PATTERN;
 use kinds::TERM;
 use kinds::TYPE;
 use kinds::head_of;
+use sizes::HIGHEST_NAME;
 use sizes::LINE_LENGTH;
 use sizes::SHEET_BYTES;
 use spelling::Line;
@@ -182,7 +183,7 @@ fn named(t: Triple, last: u64) -> Declared
     ensures { λ r. ⌜ r ≡ namedBy last t ⌝ }
 {
     if last < t.value {
-        if t.value <= 9999 {
+        if t.value <= HIGHEST_NAME {
             return Declared::Named {
                 kind: t.kind,
                 name: t.value,

@@ -4,6 +4,7 @@ use mathlib.Core.Bool.{Bool, true, false, cond, _&&_}
 use mathlib.Core.List.{List, [], _∷_}
 use Prim.Native.Nat.{ℕ, _+_, _*_, _/_, _%_}
 use lib.Dec.{leb, eqb}
+use Rattle.sizes.specs.Sizes.{highestName}
 use Rattle.spelling.specs.declared.Triple.{Triple}
 use Rattle.kinds.specs.declared.Row.{Row}
 use Rattle.kinds.specs.declared.Head.{Head}
@@ -93,7 +94,7 @@ rowOf k = find k table
 
 -- an unused value is 0, a LitInt's may be any, names are 1 to 9,999, operators 1 to 6
 abbrev pub valueOk : ℕ → ℕ → Bool
-valueOk rule v = cond (eqb rule unused) (eqb v 0) (cond (eqb rule number) true (leb 1 v && leb v (cond (eqb rule name) 9999 6)))
+valueOk rule v = cond (eqb rule unused) (eqb v 0) (cond (eqb rule number) true (leb 1 v && leb v (cond (eqb rule name) highestName 6)))
 
 -- counts are 0 to 99, an unused count is 0
 abbrev pub countOk : ℕ → ℕ → Bool

@@ -1,4 +1,5 @@
 // The table by kind: which sort of part a line begins, what its fields hold, and which parts follow it (core.rs).
+use sizes::HIGHEST_NAME;
 use spelling::Triple;
 ghost use mathlib.Core.Path.{_≡_};
 ghost use Prim.Native.Nat.{ℕ, _<_};
@@ -122,7 +123,7 @@ fn value_ok(rule: u64, value: u64) -> bool
     }
     if 1 <= value {
         if rule == NAME {
-            value <= 9999
+            value <= HIGHEST_NAME
         } else {
             value <= 6
         }

@@ -1,15 +1,15 @@
 -- The lines of a sheet that is taken: entries with their types, the expected type, the term. Assumes nothing.
 use mathlib.Core.Path.{_≡_, refl, sym, ap, _∙_}
 use mathlib.Core.Logic.{_⊎_, inl, inr}
-use mathlib.Core.Bool.{Bool, true, false, cond, _&&_, _||_}
+use mathlib.Core.Bool.{Bool, true, false, cond, _&&_}
 use mathlib.Core.List.{List, [], _∷_, _++_}
-use Prim.Native.Nat.{ℕ, zero, suc, _+_, _-_, _/_, _%_, _≤_, _<_}
+use Prim.Native.Nat.{ℕ, zero, suc, _+_, _-_, _/_, _≤_, _<_}
 use native.Mathlib.Nat.{zero-add, sub-zero}
 use native.Mathlib.Omega.{arith}
 use lib.ListN.{length, getD, drop, drop-of-length-le}
 use lib.Dec.{eqb, leb, ltb}
 use borrow.Author.Tests.{eqb-true, ltb-true, ltb-false}
-use Rattle.sizes.specs.Sizes.{lineLength}
+use Rattle.sizes.specs.Sizes.{lineLength, highestName}
 use Rattle.nodes.specs.Parts.{takeParts}
 use Rattle.nodes.proofs.PartLaws.{is-take}
 use Rattle.spelling.specs.declared.Triple.{Triple}
@@ -48,7 +48,7 @@ says-cond t true f g = f refl
 says-cond t false f g = g refl
 
 says-named : (last : ℕ) (t : Triple) → Kinded (t .kind) → Says t (named last t)
-says-named last t k = says-cond t (ltb last (t .value) && leb (t .value) 9999) (λ _. an-entry (t .kind) (t .value) (kinded-entry t k) k) (λ _. neither)
+says-named last t k = says-cond t (ltb last (t .value) && leb (t .value) highestName) (λ _. an-entry (t .kind) (t .value) (kinded-entry t k) k) (λ _. neither)
 
 kinded-as : (j k : ℕ) → j ≡ k → Kinded k → Kinded j
 kinded-as j k e (inl p) = inl (e ∙ p)

@@ -1,14 +1,15 @@
 -- The lines of a whole type are, as nodes, one whole type: `type-whole`. Words hold their values: `type-narrow`; and those of a term, but for a literal: `term-narrow`. Assumes nothing.
-use mathlib.Core.Path.{_≡_, refl, sym, ap, _∙_, subst, subst⁻¹}
-use mathlib.Core.Logic.{_⊎_, inl, inr, ⊎-elim}
+use mathlib.Core.Path.{_≡_, refl, sym, ap, _∙_, subst⁻¹}
+use mathlib.Core.Logic.{_⊎_, inl, inr}
 use mathlib.Core.Bool.{Bool, true, false, not, cond, _&&_, _||_, and-eq-true-iff}
 use mathlib.Core.List.{List, [], _∷_, _++_, append-nil}
-use Prim.Native.Nat.{ℕ, zero, suc, _+_, _≤_, _<_}
+use Prim.Native.Nat.{ℕ, zero, suc, _≤_, _<_}
 use native.Mathlib.Omega.{arith}
 use lib.ListN.{length, replicate, length-append, length-replicate}
 use lib.Dec.{eqb, leb}
-use borrow.Author.Tests.{eqb-true, eqb-false, ne-eqb, leb-true}
-use Rattle.nodes.specs.Nodes.{Node, node, Ty, nodeParts}
+use borrow.Author.Tests.{eqb-true, ne-eqb, leb-true}
+use Rattle.sizes.specs.Sizes.{highestName}
+use Rattle.nodes.specs.Nodes.{node, nodeParts}
 use Rattle.nodes.specs.Parts.{Whole}
 use Rattle.nodes.specs.Lists.{All}
 use Rattle.spelling.specs.declared.Triple.{Triple}
@@ -17,7 +18,7 @@ use Rattle.kinds.specs.declared.Row.{Row}
 use Rattle.kinds.specs.Kinds.{aType, aTerm, nothing, number, table, rowOf, unlisted, valueOk, countOk, begins}
 use Rattle.nodes.proofs.ListLaws.{cond-ind}
 use Rattle.kinds.proofs.Rows.{everyListed, listed-passes}
-use Rattle.grammar.specs.Grammar.{Item, part, entries, goal, ok, due, repeated, following}
+use Rattle.grammar.specs.Grammar.{Item, part, entries, goal, ok, due, following}
 use Rattle.sheet.specs.Plan.{lineNode, nodesOf, Narrow}
 use Rattle.sheet.specs.Form.{Forms, IsPart}
 use Rattle.sheet.proofs.Forming.{due-following}
@@ -111,15 +112,15 @@ type-line t e =
 abbrev namesOnly : ℕ → Row → Bool
 namesOnly k r = not (eqb (r .sort) aType) || not (eqb (r .value) number)
 
-pub name-small : (rule v : ℕ) → not (eqb rule number) ≡ true → valueOk rule v ≡ true → v ≤ 9999
+pub name-small : (rule v : ℕ) → not (eqb rule number) ≡ true → valueOk rule v ≡ true → v ≤ highestName
 name-small rule v e = go (eqb rule 0) (eqb rule number) e
   where
-    go : (b c : Bool) → not c ≡ true → cond b (eqb v 0) (cond c true (leb 1 v && leb v (cond (eqb rule 1) 9999 6))) ≡ true → v ≤ 9999
+    go : (b c : Bool) → not c ≡ true → cond b (eqb v 0) (cond c true (leb 1 v && leb v (cond (eqb rule 1) highestName 6))) ≡ true → v ≤ highestName
     go true c e q = let z = eqb-true v 0 q in omega arith
     go false true e q = absurd (let z : _≡_ {A = ℕ} 0 1 = cc in omega arith)
     go false false e q =
-        let m = leb-true v (cond (eqb rule 1) 9999 6) (and-eq-true-iff (leb 1 v) _ .0 q .1) in
-        let most : cond (eqb rule 1) 9999 6 ≤ 9999 = cond-ind (λ (x : ℕ). x ≤ 9999) (eqb rule 1) (λ _. omega arith) (λ _. omega arith) in
+        let m = leb-true v (cond (eqb rule 1) highestName 6) (and-eq-true-iff (leb 1 v) _ .0 q .1) in
+        let most : cond (eqb rule 1) highestName 6 ≤ highestName = cond-ind (λ (x : ℕ). x ≤ highestName) (eqb rule 1) (λ _. omega arith) (λ _. omega arith) in
         omega arith
 
 pub name-narrow : (rule v : ℕ) → not (eqb rule number) ≡ true → valueOk rule v ≡ true → v < 4294967296

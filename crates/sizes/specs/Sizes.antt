@@ -11,6 +11,10 @@ lineLength = 29
 abbrev pub sheetBytes : ℕ
 sheetBytes = lineLength * mostLines
 
+-- names are 1 to this
+abbrev pub highestName : ℕ
+highestName = 9999
+
 -- ---- limits
 abbrev pub highestCeiling : ℕ
 highestCeiling = 10000

@@ -7,6 +7,9 @@ pub const LINE_LENGTH: usize = 29;
 
 pub const SHEET_BYTES: usize = LINE_LENGTH * MOST_LINES;
 
+// Names are 1 to this.
+pub const HIGHEST_NAME: u64 = 9999;
+
 // The highest ceiling.
 pub const HIGHEST_CEILING: u32 = 10000;
 
