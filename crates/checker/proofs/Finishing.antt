@@ -14,7 +14,7 @@ use Rattle.sizes.specs.Sizes.{boardSize, bookSize, reportStride}
 use Rattle.nodes.specs.Nodes.{words, nodesAt, zeros}
 use Rattle.nodes.proofs.ListLaws.{cond-ind}
 use Rattle.nodes.proofs.Laws.{length-words, length-nodesAt, getD-sets-below, getD-sets-in}
-use Rattle.sheet.specs.Plan.{isPlain, planOf}
+use Rattle.sheet.specs.Plan.{plainPlan, planOf}
 use Rattle.sheet.specs.Rows.{rows}
 use Rattle.judgment.specs.declared.Answer.{Answer}
 use Rattle.judgment.specs.Solutions.{Solutions}
@@ -163,7 +163,7 @@ end-clears h e q = let x = end-within h e in omega arith
 pub ran : (s : List ℕ) (C limit : ℕ) {b k : List ℕ} (rep : List ℕ) (c : Run) {b' rep' : List ℕ} {a : Answer} {plain : Bool} {size n : ℕ}
     → WellFormed b k c × (told 0 (runFrom (limitsWith limit) (envOn s) C (startOf (rows s))) ≡ record { end = endOf rep c; taken = c .taken; last = stateOf (rows s) b k c })
     → length k ≡ bookSize → length rep ≡ reportStride * limit → b' ≡ boardWords → size ≡ length rep → n ≡ reportEnd size (c .halt) → rep' ≡ sets rep n (zeros (size - n))
-    → plain ≡ isPlain (rows s) → ((rep : List ℕ) → a ≡ answerBy plain (endOf rep c) (c .taken) (c .fresh)) → Ran limit (judge (limitsWith limit) C (rows s)) b' k rep' a
+    → plain ≡ plainPlan (rows s) → ((rep : List ℕ) → a ≡ answerBy plain (endOf rep c) (c .taken) (c .fresh)) → Ran limit (judge (limitsWith limit) C (rows s)) b' k rep' a
 unfolding planOf
 ran s C limit {b} {k} rep c {size} {n} h lk lr eb es en er ep ea =
     let j = judged s C limit b k rep c (h .1) in

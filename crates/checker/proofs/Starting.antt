@@ -24,7 +24,7 @@ use Rattle.sheet.proofs.TypeLines.{type-narrow}
 use mathlib.Core.Bool.{Bool, true, false, cond, true≢false}
 use Rattle.judgment.specs.Board.{Limits, State, Outcome, finished, refused}
 use Rattle.judgment.specs.Run.{runFrom}
-use Rattle.judgment.proofs.Promised.{plan-inv}
+use Rattle.judgment.proofs.Plans.{plan-inv}
 use Rattle.judgment.specs.Result.{startOf, bookWords}
 use Rattle.applying.specs.Applying.{envOn}
 use Rattle.board.specs.declared.Board.{Board}
@@ -44,7 +44,7 @@ use Rattle.judgment.specs.Chain.{told}
 use Rattle.checker.specs.Calling.{StartAsk}
 use Rattle.stepping.proofs.Judging.{part-stands}
 use Rattle.stepping.proofs.Reading.{read-few, read-formed, read-good, read-whole}
-use Rattle.stepping.proofs.Reaching.{OutcomeOK, of-outcome, bare-inv}
+use Rattle.stepping.proofs.Reaching.{OutcomeOK, of-outcome}
 
 -- a part that is all there is
 no-lines : (ts : List Triple) → Forms ts [] → ts ≡ []
@@ -201,7 +201,7 @@ start-stands s b k c h q =
     let w = read-whole h in
     let e = start-is s b k c q in
     let o = of-outcome ⊥ (c .halt) [] (entriesOf (rows s) b (c .board .entries)) (sols k) (c .fresh)
-    (subst⁻¹ (OutcomeOK ⊥) (q .2 []) (record { inv = bare-inv (p .plain ≡ true) (plan-inv p (read-good h)); entries = (w .1, tt); solutions = tt })) in
+    (subst⁻¹ (OutcomeOK ⊥) (q .2 []) (record { inv = plan-inv p (read-good h); entries = (w .1, tt); solutions = tt })) in
     (record { plan = h; formed = q .0; good = o }, e .0)
 
 -- its run is the sheet's

@@ -15,7 +15,7 @@ termOn s line = cond (eqb line 0) [] (subTerm s (line - 1))
 
 -- the number of the interface; it rises with every change that a caller has to follow
 abbrev pub version : ℕ
-version = 3
+version = 4
 
 -- refusal 2 is, with this limit, for buffers of which one has fewer words than these
 abbrev pub Least : ℕ → ℕ → ℕ → ℕ → Type 0

@@ -90,7 +90,7 @@ pub extern "C" fn kirvoghus_check_type(
 pub extern "C" fn kirvoghus_version() -> u32
     ensures { λ r. ⌜ r ≡ version ⌝ }
 {
-    3
+    4
 }
 
 // The words of the board: so many are written by a run, and a call takes no fewer.

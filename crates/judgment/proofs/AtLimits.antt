@@ -7,7 +7,7 @@ use Prim.Native.Nat.{ℕ, zero, suc, _+_}
 use lib.ListN.{length, replicate}
 use Rattle.spelling.specs.declared.Triple.{Triple}
 use Rattle.kinds.specs.Kinds.{partsOf, rowOf, find as findRow, table}
-use Rattle.sheet.specs.Plan.{planOf, declarations, bindingsIn, endFrom, entriesEnd, placesOf, partLine, isPlain, lookup}
+use Rattle.sheet.specs.Plan.{planOf, declarations, bindingsIn, endFrom, entriesEnd, placesOf, partLine, isPlain, names, plainEntries, plainPlan, lookup}
 use Rattle.judgment.specs.Types.{view, occurs, isMonotype, substitute, rename, frontNames, afterFront, canUnify}
 use Rattle.judgment.specs.Terms.{termView, lambdaOf}
 use Rattle.judgment.specs.Solutions.{find, links, anySolved, writeOutBy, writeOut, solutionNodes}
@@ -72,28 +72,28 @@ large body =
     l 2 40 0 ∷ l 16 0 30 ∷ (times 10 product ++ (replicate 20 (l 12 1 0) ++ goal (l 27 0 1 ∷ when (l 21 40 0 ∷ l 21 40 0 ∷ l 41 0 0 ∷ body))))
 
 pub entries : short (quantified 509) ∷ short (quantified 510) ∷ [] ≡ (0 ∷ 0 ∷ 514 ∷ 510 ∷ 0 ∷ 0 ∷ 0 ∷ [], 0, 1) ∷ (22 ∷ 0 ∷ 2 ∷ 511 ∷ 0 ∷ 0 ∷ 0 ∷ [], 0, 0) ∷ []
-unfolding shortUnder judge resultOf runOf checkType runFrom perform operations boardNodes findVar before lookup instantiateFrom subtype openNames signatureFrom insert pushVars checkPatterns checkArms inferApp find links anySolved writeOutBy writeOut solutionNodes view termView lambdaOf occurs isMonotype substitute rename frontNames afterFront canUnify planOf declarations bindingsIn endFrom entriesEnd placesOf partLine isPlain partsOf rowOf findRow table
+unfolding shortUnder judge resultOf runOf checkType runFrom perform operations boardNodes findVar before lookup instantiateFrom subtype openNames signatureFrom insert pushVars checkPatterns checkArms inferApp find links anySolved writeOutBy writeOut solutionNodes view termView lambdaOf occurs isMonotype substitute rename frontNames afterFront canUnify planOf declarations bindingsIn endFrom entriesEnd placesOf partLine isPlain names plainEntries plainPlan partsOf rowOf findRow table
 entries = refl
 
 pub board-nodes : short (arms 49 wildcard) ∷ short (arms 50 wildcard) ∷ [] ≡ (0 ∷ 0 ∷ 330 ∷ 63 ∷ 0 ∷ 0 ∷ 1 ∷ [], 0, 63) ∷ (22 ∷ 0 ∷ 4 ∷ 3 ∷ 0 ∷ 0 ∷ 1 ∷ [], 0, 0) ∷ []
-unfolding shortUnder judge resultOf runOf checkType runFrom perform operations boardNodes findVar before lookup instantiateFrom subtype openNames signatureFrom insert pushVars checkPatterns checkArms inferApp find links anySolved writeOutBy writeOut solutionNodes view termView lambdaOf occurs isMonotype substitute rename frontNames afterFront canUnify planOf declarations bindingsIn endFrom entriesEnd placesOf partLine isPlain partsOf rowOf findRow table
+unfolding shortUnder judge resultOf runOf checkType runFrom perform operations boardNodes findVar before lookup instantiateFrom subtype openNames signatureFrom insert pushVars checkPatterns checkArms inferApp find links anySolved writeOutBy writeOut solutionNodes view termView lambdaOf occurs isMonotype substitute rename frontNames afterFront canUnify planOf declarations bindingsIn endFrom entriesEnd placesOf partLine isPlain names plainEntries plainPlan partsOf rowOf findRow table
 board-nodes = refl
 
 -- a pattern's arity is tested after its Sub is pushed: 14, and 22 where the Sub does not fit although everything before it does
 pub arity-after-sub : short (arms 51 noParts) ∷ short (arms 52 noParts) ∷ short (arms 52 wildcard) ∷ [] ≡ (14 ∷ 0 ∷ 2 ∷ 2 ∷ 1 ∷ 0 ∷ 1 ∷ [], 0, 0) ∷ (22 ∷ 0 ∷ 2 ∷ 2 ∷ 0 ∷ 0 ∷ 1 ∷ [], 0, 0) ∷ (22 ∷ 0 ∷ 3 ∷ 3 ∷ 0 ∷ 0 ∷ 1 ∷ [], 0, 0) ∷ []
-unfolding shortUnder judge resultOf runOf checkType runFrom perform operations boardNodes findVar before lookup instantiateFrom subtype openNames signatureFrom insert pushVars checkPatterns checkArms inferApp find links anySolved writeOutBy writeOut solutionNodes view termView lambdaOf occurs isMonotype substitute rename frontNames afterFront canUnify planOf declarations bindingsIn endFrom entriesEnd placesOf partLine isPlain partsOf rowOf findRow table
+unfolding shortUnder judge resultOf runOf checkType runFrom perform operations boardNodes findVar before lookup instantiateFrom subtype openNames signatureFrom insert pushVars checkPatterns checkArms inferApp find links anySolved writeOutBy writeOut solutionNodes view termView lambdaOf occurs isMonotype substitute rename frontNames afterFront canUnify planOf declarations bindingsIn endFrom entriesEnd placesOf partLine isPlain names plainEntries plainPlan partsOf rowOf findRow table
 arity-after-sub = refl
 
 pub written-nodes : short (wide 23) ∷ short (wide 24) ∷ [] ≡ (0 ∷ 0 ∷ 15 ∷ 4 ∷ 0 ∷ 0 ∷ 1 ∷ [], 0, 2050) ∷ (23 ∷ 0 ∷ 10 ∷ 4 ∷ 0 ∷ 0 ∷ 1 ∷ [], 0, 2) ∷ []
-unfolding shortUnder judge resultOf runOf checkType runFrom perform operations boardNodes findVar before lookup instantiateFrom subtype openNames signatureFrom insert pushVars checkPatterns checkArms inferApp find links anySolved writeOutBy writeOut solutionNodes view termView lambdaOf occurs isMonotype substitute rename frontNames afterFront canUnify planOf declarations bindingsIn endFrom entriesEnd placesOf partLine isPlain partsOf rowOf findRow table
+unfolding shortUnder judge resultOf runOf checkType runFrom perform operations boardNodes findVar before lookup instantiateFrom subtype openNames signatureFrom insert pushVars checkPatterns checkArms inferApp find links anySolved writeOutBy writeOut solutionNodes view termView lambdaOf occurs isMonotype substitute rename frontNames afterFront canUnify planOf declarations bindingsIn endFrom entriesEnd placesOf partLine isPlain names plainEntries plainPlan partsOf rowOf findRow table
 written-nodes = refl
 
 pub fresh-numbers : short (many 59) ∷ short (many 60) ∷ [] ≡ (0 ∷ 0 ∷ 1080 ∷ 1000 ∷ 0 ∷ 0 ∷ 0 ∷ [], 0, 21) ∷ (24 ∷ 0 ∷ 1073 ∷ 1000 ∷ 0 ∷ 0 ∷ 0 ∷ [], 0, 20) ∷ []
-unfolding shortUnder judge resultOf runOf checkType runFrom perform operations boardNodes findVar before lookup instantiateFrom subtype openNames signatureFrom insert pushVars checkPatterns checkArms inferApp find links anySolved writeOutBy writeOut solutionNodes view termView lambdaOf occurs isMonotype substitute rename frontNames afterFront canUnify planOf declarations bindingsIn endFrom entriesEnd placesOf partLine isPlain partsOf rowOf findRow table
+unfolding shortUnder judge resultOf runOf checkType runFrom perform operations boardNodes findVar before lookup instantiateFrom subtype openNames signatureFrom insert pushVars checkPatterns checkArms inferApp find links anySolved writeOutBy writeOut solutionNodes view termView lambdaOf occurs isMonotype substitute rename frontNames afterFront canUnify planOf declarations bindingsIn endFrom entriesEnd placesOf partLine isPlain names plainEntries plainPlan partsOf rowOf findRow table
 fresh-numbers = refl
 
 pub solution-nodes : short (large (l 24 0 0 ∷ l 23 10 0 ∷ l 12 1 0 ∷ l 21 10 0 ∷ l 22 7 0 ∷ [])) ∷ short (large (times 4 (l 28 1 0 ∷ l 22 1 0 ∷ []) ++ (l 22 1 0 ∷ []))) ∷ [] ≡ (0 ∷ 0 ∷ 56 ∷ 14 ∷ 0 ∷ 0 ∷ 1 ∷ [], 0, 4096) ∷ (25 ∷ 0 ∷ 75 ∷ 17 ∷ 0 ∷ 0 ∷ 1 ∷ [], 0, 3076) ∷ []
-unfolding shortUnder judge resultOf runOf checkType runFrom perform operations boardNodes findVar before lookup instantiateFrom subtype openNames signatureFrom insert pushVars checkPatterns checkArms inferApp find links anySolved writeOutBy writeOut solutionNodes view termView lambdaOf occurs isMonotype substitute rename frontNames afterFront canUnify planOf declarations bindingsIn endFrom entriesEnd placesOf partLine isPlain partsOf rowOf findRow table
+unfolding shortUnder judge resultOf runOf checkType runFrom perform operations boardNodes findVar before lookup instantiateFrom subtype openNames signatureFrom insert pushVars checkPatterns checkArms inferApp find links anySolved writeOutBy writeOut solutionNodes view termView lambdaOf occurs isMonotype substitute rename frontNames afterFront canUnify planOf declarations bindingsIn endFrom entriesEnd placesOf partLine isPlain names plainEntries plainPlan partsOf rowOf findRow table
 solution-nodes = refl
 
 -- without limits each plan that passes one is accepted
@@ -104,7 +104,7 @@ pub without : map (shortUnder noLimits) (quantified 510 ∷ arms 50 wildcard ∷
     (0 ∷ 0 ∷ 1081 ∷ 1001 ∷ 0 ∷ 0 ∷ 0 ∷ [], 0, 21) ∷
     (0 ∷ 0 ∷ 79 ∷ 17 ∷ 0 ∷ 0 ∷ 1 ∷ [], 0, 4097) ∷
     []
-unfolding shortUnder judge resultOf runOf checkType runFrom perform operations boardNodes findVar before lookup instantiateFrom subtype openNames signatureFrom insert pushVars checkPatterns checkArms inferApp find links anySolved writeOutBy writeOut solutionNodes view termView lambdaOf occurs isMonotype substitute rename frontNames afterFront canUnify planOf declarations bindingsIn endFrom entriesEnd placesOf partLine isPlain partsOf rowOf findRow table
+unfolding shortUnder judge resultOf runOf checkType runFrom perform operations boardNodes findVar before lookup instantiateFrom subtype openNames signatureFrom insert pushVars checkPatterns checkArms inferApp find links anySolved writeOutBy writeOut solutionNodes view termView lambdaOf occurs isMonotype substitute rename frontNames afterFront canUnify planOf declarations bindingsIn endFrom entriesEnd placesOf partLine isPlain names plainEntries plainPlan partsOf rowOf findRow table
 without = refl
 
 -- a variable of the expected type, a Product of 1 + n nodes
@@ -149,5 +149,5 @@ pub picked : map (λ (q : ℕ × List Triple). shortUnder (limitsWith (q .0)) (q
     (13 ∷ 0 ∷ 63 ∷ 21 ∷ 4096 ∷ 0 ∷ 0 ∷ [], 4096, 354) ∷
     (23 ∷ 0 ∷ 63 ∷ 21 ∷ 0 ∷ 0 ∷ 0 ∷ [], 0, 356) ∷
     []
-unfolding shortUnder judge resultOf runOf checkType runFrom perform operations boardNodes findVar before lookup instantiateFrom subtype openNames signatureFrom insert pushVars checkPatterns checkArms inferApp find links anySolved writeOutBy writeOut solutionNodes view termView lambdaOf occurs isMonotype substitute rename frontNames afterFront canUnify planOf declarations bindingsIn endFrom entriesEnd placesOf partLine isPlain partsOf rowOf findRow table
+unfolding shortUnder judge resultOf runOf checkType runFrom perform operations boardNodes findVar before lookup instantiateFrom subtype openNames signatureFrom insert pushVars checkPatterns checkArms inferApp find links anySolved writeOutBy writeOut solutionNodes view termView lambdaOf occurs isMonotype substitute rename frontNames afterFront canUnify planOf declarations bindingsIn endFrom entriesEnd placesOf partLine isPlain names plainEntries plainPlan partsOf rowOf findRow table
 picked = refl

@@ -15,7 +15,7 @@ use Rattle.spelling.specs.Text.{fieldText, lineText}
 use Rattle.kinds.specs.Kinds.{partsOf, rowOf, find as findRow, table, begins, headOf}
 use Rattle.grammar.specs.Grammar.{declaredBy, isGoal, arms, following, read, readAt}
 use Rattle.grammar.specs.Check.{readSheet, check}
-use Rattle.sheet.specs.Plan.{triples, planOf, declarations, bindingsIn, endFrom, entriesEnd, placesOf, partLine, isPlain, lookup}
+use Rattle.sheet.specs.Plan.{triples, planOf, declarations, bindingsIn, endFrom, entriesEnd, placesOf, partLine, isPlain, names, plainEntries, plainPlan, lookup}
 use Rattle.judgment.specs.Types.{view, occurs, isMonotype, substitute, rename, frontNames, afterFront, canUnify}
 use Rattle.judgment.specs.Terms.{termView, lambdaOf}
 use Rattle.judgment.specs.Solutions.{Solution, key, value, find, links, anySolved, writeOutBy, writeOut, solutionNodes}
@@ -127,11 +127,11 @@ pub low-limits : told (call firstSheet 10000 1 (buffers 12288 10192 6)) ∷ told
     (23 ∷ 0 ∷ 4 ∷ 1 ∷ 0 ∷ 0 ∷ 1 ∷ [], 0 ∷ 0 ∷ 0 ∷ 0 ∷ 0 ∷ 0 ∷ 0 ∷ 0 ∷ 7 ∷ 7 ∷ []) ∷
     (15 ∷ 0 ∷ 4 ∷ 1 ∷ 1 ∷ 3 ∷ 1 ∷ [], 12 ∷ 1 ∷ 13 ∷ 0 ∷ 12 ∷ 1 ∷ 12 ∷ 1 ∷ 0 ∷ 0 ∷ 0 ∷ 0 ∷ 7 ∷ 7 ∷ []) ∷
     []
-unfolding call lineText fieldText fieldFrom lineOf lineAt linesFrom linesOf firstMisspelt findRow table rowOf begins headOf declaredBy isGoal arms following read readAt readSheet check triples judge resultOf runOf checkType runFrom perform operations boardNodes findVar before lookup instantiateFrom subtype openNames signatureFrom insert pushVars checkPatterns checkArms inferApp find links anySolved writeOutBy writeOut solutionNodes view termView lambdaOf occurs isMonotype substitute rename frontNames afterFront canUnify planOf declarations bindingsIn endFrom entriesEnd placesOf partLine isPlain partsOf reportWords padded words
+unfolding call lineText fieldText fieldFrom lineOf lineAt linesFrom linesOf firstMisspelt findRow table rowOf begins headOf declaredBy isGoal arms following read readAt readSheet check triples judge resultOf runOf checkType runFrom perform operations boardNodes findVar before lookup instantiateFrom subtype openNames signatureFrom insert pushVars checkPatterns checkArms inferApp find links anySolved writeOutBy writeOut solutionNodes view termView lambdaOf occurs isMonotype substitute rename frontNames afterFront canUnify planOf declarations bindingsIn endFrom entriesEnd placesOf partLine isPlain names plainEntries plainPlan partsOf reportWords padded words
 low-limits = refl
 
 pub highest-limit : numbers (call firstSheet 10000 4096 (buffers 12288 10192 16384) .answer) ≡ 0 ∷ 0 ∷ 5 ∷ 1 ∷ 0 ∷ 0 ∷ 1 ∷ []
-unfolding call lineText fieldText fieldFrom lineOf lineAt linesFrom linesOf firstMisspelt findRow table rowOf begins headOf declaredBy isGoal arms following read readAt readSheet check triples judge resultOf runOf checkType runFrom perform operations boardNodes findVar before lookup instantiateFrom subtype openNames signatureFrom insert pushVars checkPatterns checkArms inferApp find links anySolved writeOutBy writeOut solutionNodes view termView lambdaOf occurs isMonotype substitute rename frontNames afterFront canUnify planOf declarations bindingsIn endFrom entriesEnd placesOf partLine isPlain partsOf reportWords padded words
+unfolding call lineText fieldText fieldFrom lineOf lineAt linesFrom linesOf firstMisspelt findRow table rowOf begins headOf declaredBy isGoal arms following read readAt readSheet check triples judge resultOf runOf checkType runFrom perform operations boardNodes findVar before lookup instantiateFrom subtype openNames signatureFrom insert pushVars checkPatterns checkArms inferApp find links anySolved writeOutBy writeOut solutionNodes view termView lambdaOf occurs isMonotype substitute rename frontNames afterFront canUnify planOf declarations bindingsIn endFrom entriesEnd placesOf partLine isPlain names plainEntries plainPlan partsOf reportWords padded words
 highest-limit = refl
 
 -- a run leaves 12,288 words of the board as 0 and keeps the others

@@ -1,5 +1,6 @@
 pub mod Wall
 pub mod Telling
+pub mod Marks
 pub mod AtLimits
 pub mod Calls
 pub mod Following
@@ -13,6 +14,9 @@ pub mod Zonk
 pub mod Runs
 pub mod Events
 pub mod Full
+pub mod PushedLines
+pub mod Restricted
+pub mod Plans
 pub mod Promised
 pub mod Carried
 pub mod Left

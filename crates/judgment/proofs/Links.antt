@@ -34,7 +34,7 @@ use Rattle.judgment.proofs.SolutionLaws.{find-some, find-in, other-free
 use Rattle.judgment.proofs.Invariant.{Kept, perform-kept}
 use Rattle.judgment.proofs.RuleLaws.{EnvOK, Explains, rule-good}
 use Rattle.judgment.proofs.WholeRun.{solving-ind}
-use Rattle.judgment.proofs.Promised.{plan-env, plan-inv, sheet-plan}
+use Rattle.judgment.proofs.Plans.{plan-env, plan-inv, sheet-plan}
 
 ---------------------------------------------------------------- different numbers below m are at most m
 -- the one that is m taken out
@@ -337,4 +337,4 @@ unfolding runOf checkType
 sheet-links s c w e =
     let p = planOf (triples s) in
     let g = sheet-plan s e in
-    limited-links (p .plain ≡ true) w (envOf p) (plan-env p g) c (chk (p .term) (p .expected) ∷ []) [] 0 (plan-inv p g) (omega arith)
+    limited-links ⊥ w (envOf p) (plan-env p g) c (chk (p .term) (p .expected) ∷ []) [] 0 (plan-inv p g) (omega arith)

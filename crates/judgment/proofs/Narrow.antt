@@ -9,7 +9,7 @@ use mathlib.Core.List.{List, [], _∷_, _++_}
 use lib.Dec.{eqb, leb, ltb}
 use lib.ListN.{length, take, drop, length-append, length-take, length-drop}
 use borrow.Author.Tests.{ltb-false, leb-true, le-leb, eqb-false}
-use Rattle.sizes.specs.Sizes.{mostLines, highestCeiling, mostNodes, mostNumbers, highestLimit}
+use Rattle.sizes.specs.Sizes.{highestName, mostLines, highestCeiling, mostNodes, mostNumbers, highestLimit}
 use Rattle.nodes.specs.Nodes.{Node, node, Ty}
 use Rattle.nodes.specs.Lists.{All}
 use Rattle.nodes.proofs.ListLaws.{cond-ind, all-take, all-drop}
@@ -35,7 +35,7 @@ use Rattle.judgment.specs.Good.{EntryWhole, OK, EntryOK, Inv}
 use Rattle.judgment.proofs.TypeLaws.{eqb-true, Shows, view-shows}
 use Rattle.judgment.proofs.Invariant.{Kept, perform-kept}
 use Rattle.judgment.proofs.RuleLaws.{EnvOK, Explains, rule-good, written-ok}
-use Rattle.judgment.proofs.Promised.{plan-env, plan-inv, sheet-plan}
+use Rattle.judgment.proofs.Plans.{plan-env, plan-inv, sheet-plan}
 use Rattle.judgment.proofs.Rounds.{substitute-length}
 use Rattle.judgment.proofs.WholeRun.{EnvWhole, StateWhole, OutcomeWhole, solving-ind, perform-whole, rule-whole, plan-whole}
 use Rattle.judgment.proofs.Links.{perform-counted}
@@ -46,14 +46,14 @@ pub record Narrow (a : Answer) : Type 0 where
   pub line : a .line ≤ mostLines + 1
   pub taken : a .taken ≤ highestCeiling
   pub fresh : a .fresh ≤ mostNumbers
-  pub detail1 : a .detail1 ≤ 9999
+  pub detail1 : a .detail1 ≤ highestName
   pub detail2 : a .detail2 ≤ highestLimit
   pub plain : a .plain ≤ 1
 
 ---------------------------------------------------------------- what a rule must show
 -- a refusal's number and details
 abbrev Small : TypeError → Type 0
-Small r = (errorNumber r ≤ 25) × (errorDetails r .0 ≤ 9999) × (errorDetails r .1 ≤ highestLimit)
+Small r = (errorNumber r ≤ 25) × (errorDetails r .0 ≤ highestName) × (errorDetails r .1 ≤ highestLimit)
 
 -- every refusal is small, whatever is fresh, pushed and solved; a type that is written out has few nodes
 abbrev Brief : Solutions → Rule → Type 0
@@ -94,7 +94,7 @@ abbrev Below : View → Type 0
 Below (isArrow a b) = Unit {0}
 Below (isApp a b) = Unit {0}
 Below (isForall x b) = Unit {0}
-Below (isUnknown k) = k ≤ 9999
+Below (isUnknown k) = k ≤ highestName
 Below isOther = Unit {0}
 
 -- unknowns are below the counter
@@ -111,10 +111,10 @@ module _ (σ : Solutions) where
   openBody-brief left x b f c = λ u. c (substitute x (node 18 u) b) (substitute-length x (node 18 u) b 0)
   openBody-brief right x b f c = λ a. c (substitute x (node 17 a) b) (substitute-length x (node 17 a) b 0)
 
-  monotype-brief : (k : ℕ) (t : Ty) → k ≤ 9999 → length t ≤ highestLimit → Brief σ (solveMonotype k t)
+  monotype-brief : (k : ℕ) (t : Ty) → k ≤ highestName → length t ≤ highestLimit → Brief σ (solveMonotype k t)
   monotype-brief k t hk ht = cond-ind (Brief σ) (isMonotype t) (λ _ τ. tt) (λ _. omega arith)
 
-  instantiateBy-brief : (d : Side) (k : ℕ) (t : Ty) (again : Ty → Rule) (v : View) → Shows v t → k ≤ 9999 → length t ≤ highestLimit
+  instantiateBy-brief : (d : Side) (k : ℕ) (t : Ty) (again : Ty → Rule) (v : View) → Shows v t → k ≤ highestName → length t ≤ highestLimit
       → ((u : Ty) → length u ≤ highestLimit → Brief σ (again u)) → Brief σ (instantiateBy d k t again v)
   instantiateBy-brief d k t again (isUnknown b) s hk ht c = λ Γ. cond-ind (Brief σ) (before k b Γ) (λ _ τ. tt) (λ _. monotype-brief k t hk ht)
   instantiateBy-brief d k t again (isArrow t₁ t₂) s hk ht c = λ a b τ. tt
@@ -122,7 +122,7 @@ module _ (σ : Solutions) where
   instantiateBy-brief d k t again (isForall x b) s hk ht c = openBody-brief d x b again (λ u e. c u (omega (arith, ap length s)))
   instantiateBy-brief d k t again isOther s hk ht c = monotype-brief k t hk ht
 
-  instantiateFrom-brief : (m : ℕ) (d : Side) (k : ℕ) (t : Ty) → k ≤ 9999 → length t ≤ highestLimit → Brief σ (instantiateFrom m d k t)
+  instantiateFrom-brief : (m : ℕ) (d : Side) (k : ℕ) (t : Ty) → k ≤ highestName → length t ≤ highestLimit → Brief σ (instantiateFrom m d k t)
   unfolding instantiateFrom
   instantiateFrom-brief zero d k t hk ht = omega arith
   instantiateFrom-brief (suc m) d k t hk ht =
@@ -133,10 +133,10 @@ module _ (σ : Solutions) where
     mismatch-brief : Brief σ (mismatch l r)
     mismatch-brief = omega arith
 
-    unknownRight-brief : (k : ℕ) → k ≤ 9999 → Brief σ (unknownRight l r k)
+    unknownRight-brief : (k : ℕ) → k ≤ highestName → Brief σ (unknownRight l r k)
     unknownRight-brief k h = cond-ind (Brief σ) (occurs k l) (λ _. mismatch-brief) (λ _. instantiateFrom-brief (suc (length l)) right k l h hl)
 
-    unknownLeft-brief : (k : ℕ) (otherwise : Rule) → k ≤ 9999 → Brief σ otherwise → Brief σ (unknownLeft l r k otherwise)
+    unknownLeft-brief : (k : ℕ) (otherwise : Rule) → k ≤ highestName → Brief σ otherwise → Brief σ (unknownLeft l r k otherwise)
     unknownLeft-brief k otherwise h g = cond-ind (Brief σ) (occurs k r) (λ _. g) (λ _. instantiateFrom-brief (suc (length r)) left k r h hr)
 
     subtypeBy-brief : (v w : View) → Below v → Below w → Brief σ (subtypeBy l r v w)
@@ -237,7 +237,7 @@ module _ (σ : Solutions) where
   pushVars-brief (_∶_ x t ∷ bs) p g = pushVars-brief bs p g
 
   module _ (E : Env) (hE : All Short (E .constructors)) where
-    patternConstructor-brief : (x c : ℕ) (t : Ty) (again : List Ty → Rule) (k : Option Ty) → x ≤ 9999 → c ≤ 99 → FoundShort k
+    patternConstructor-brief : (x c : ℕ) (t : Ty) (again : List Ty → Rule) (k : Option Ty) → x ≤ highestName → c ≤ 99 → FoundShort k
         → ((ps : List Ty) → Brief σ (again ps)) → Brief σ (patternConstructor E x c t again k)
     patternConstructor-brief x c t again none hx hc hk f = omega arith
     patternConstructor-brief x c t again (some k) hx hc hk f =
@@ -274,16 +274,16 @@ module _ (σ : Solutions) where
 ---------------------------------------------------------------- terms
 -- the names and counts that a term's view shows, and the lines of arms
 abbrev ViewInRange : TermView → Type 0
-ViewInRange (isVar x) = x ≤ 9999
+ViewInRange (isVar x) = x ≤ highestName
 ViewInRange isLitInt = Unit {0}
 ViewInRange (isLambda x s e) = Unit {0}
 ViewInRange (isApply f e) = Unit {0}
 ViewInRange (isTypeLambda x e) = Unit {0}
-ViewInRange (isConstructor x) = x ≤ 9999
+ViewInRange (isConstructor x) = x ≤ highestName
 ViewInRange (isCase n e arms) = All InRange (arms .lines)
 ViewInRange (isBinOp op e₁ e₂) = Unit {0}
 ViewInRange (isIf e₁ e₂ e₃) = Unit {0}
-ViewInRange (isIntrinsic x n e) = (x ≤ 9999) × (n ≤ 99)
+ViewInRange (isIntrinsic x n e) = (x ≤ highestName) × (n ≤ 99)
 ViewInRange isNone = Unit {0}
 
 view-in-range : (ls : List Triple) (next : ℕ) → All InRange ls → ViewInRange (viewBy ls next)
@@ -301,7 +301,7 @@ view-in-range (t ∷ ls) next h =
     (λ _. cond-ind W (eqb (t .kind) 29) (λ _. tt)
     (λ _. cond-ind W (eqb (t .kind) 30) (λ e. (name 30 e (omega arith), h .0 .count)) (λ _. tt))))))))))
   where
-    name : (k : ℕ) → eqb (t .kind) k ≡ true → k ≢ 22 → t .value ≤ 9999
+    name : (k : ℕ) → eqb (t .kind) k ≡ true → k ≢ 22 → t .value ≤ highestName
     name k e n = h .0 .value (λ q. n (let z = eqb-true (t .kind) k e in omega arith))
 
 term-in-range : (e : Term) → All InRange (e .lines) → ViewInRange (termView e)
@@ -310,13 +310,13 @@ term-in-range e h = view-in-range (e .lines) (e .line + 1) h
 
 ---------------------------------------------------------------- every rule
 module _ (σ : Solutions) (E : Env) (hE : All Short (E .constructors)) where
-  variable-brief : (x : ℕ) (t : Ty) (a b c : Option Ty) → x ≤ 9999 → Brief σ (variable E x t a b c)
+  variable-brief : (x : ℕ) (t : Ty) (a b c : Option Ty) → x ≤ highestName → Brief σ (variable E x t a b c)
   variable-brief x t (some u) b c h = tt
   variable-brief x t none (some u) c h = tt
   variable-brief x t none none (some u) h = tt
   variable-brief x t none none none h = omega arith
 
-  constructor-brief : (x : ℕ) (t : Ty) (k : Option Ty) → x ≤ 9999 → Brief σ (constructor E x t k)
+  constructor-brief : (x : ℕ) (t : Ty) (k : Option Ty) → x ≤ highestName → Brief σ (constructor E x t k)
   constructor-brief x t none h = omega arith
   constructor-brief x t (some k) h = instantiateConstructor-brief σ k (λ u. push (sub u t) done) (λ u l. tt)
 
@@ -402,7 +402,7 @@ module _ (limit : ℕ) (low : limit ≤ highestLimit) (Plain : Type 0) (E : Env)
       (λ Γ₁ σ₁ n₁ i₁ w₁ l₁. run-narrow c Γ₁ σ₁ n₁ i₁ w₁ l₁)
 
 ---------------------------------------------------------------- a plan
-end-small : (d : End) → EndNarrow d → (endNumber d ≤ 25) × (endDetails d .0 ≤ 9999) × (endDetails d .1 ≤ highestLimit)
+end-small : (d : End) → EndNarrow d → (endNumber d ≤ 25) × (endDetails d .0 ≤ highestName) × (endDetails d .1 ≤ highestLimit)
 end-small accepted h = omega arith
 end-small ceiling h = omega arith
 end-small (refusedBy r ts) h = h
@@ -446,7 +446,7 @@ judge-narrow s c w l hw e =
     let pw = plan-whole s e in
     let first : Board = chk (p .term) (p .expected) ∷ [] in
     result-narrow c (p .plain) l (runFrom (limitsWith w) (envOf p) c (state first [] 0))
-    (run-narrow w hw (p .plain ≡ true) (envOf p) (plan-env p g) (pw .0) (plan-short (triples s) (plan-few s e)) c first [] 0 (plan-inv p g) ((pw .1, tt), tt) (omega arith))
+    (run-narrow w hw ⊥ (envOf p) (plan-env p g) (pw .0) (plan-short (triples s) (plan-few s e)) c first [] 0 (plan-inv p g) ((pw .1, tt), tt) (omega arith))
 
 ---------------------------------------------------------------- a whole call
 pub limit-good : (w : ℕ) → limitBad w ≡ false → (0 < w) × (w ≤ highestLimit)

@@ -1,35 +1,31 @@
 -- The promise, proved: of any good start under any limits (`start-promise`), of a plan (`plan-promise`), and of every sheet that passes
 -- refusals 3 to 5 (`promise`). And raising the ceiling changes no result but 21 (`raise`). Assumes nothing.
-use Prim.Native.Nat.{ℕ, _+_, _≤_}
+use Prim.Native.Nat.{ℕ, _≤_}
 use native.Mathlib.Omega.{arith}
 use mathlib.Core.Path.{_≡_, refl, sym, _∙_, ap, subst, subst⁻¹}
 use mathlib.Core.Logic.{_≢_}
 use mathlib.Core.Bool.{Bool, true}
-use mathlib.Core.List.{List, [], _∷_, _++_}
-use lib.ListN.{take, drop}
-use lib.Dec.{eqb}
-use Rattle.nodes.specs.Nodes.{Node, Ty, kind}
+use mathlib.Core.List.{List, [], _∷_}
 use Rattle.nodes.specs.Lists.{All, count}
-use Rattle.nodes.specs.Parts.{takeParts}
-use Rattle.nodes.proofs.ListLaws.{cond-ind, all-map, all-take, all-of-take, all-of-drop, count-append}
+use Rattle.nodes.proofs.ListLaws.{all-map, count-append}
 use Rattle.spelling.specs.declared.Triple.{Triple}
-use Rattle.kinds.specs.Kinds.{partsOf}
 use Rattle.grammar.specs.declared.Check.the-variants.{Plan}
 use Rattle.grammar.specs.Check.{check}
-use Rattle.sheet.specs.Plan.{triples, lineNode, Declaration, declarations, Binding, _∶_, Bindings, bindingsIn, placesOf, Plan as PlanOf, planOf}
-use Rattle.sheet.proofs.LineKinds.{no-unknown, plain-kinds}
-use Rattle.judgment.specs.Solutions.{_≔_, Solutions, value, writeOut}
+use Rattle.sheet.specs.Plan.{triples, Plan as PlanOf, planOf}
+use Rattle.judgment.specs.Solutions.{Solutions, value, writeOut}
 use Rattle.judgment.specs.Board.{Entry, tvar, var, sub, inf, chk, infApp, Board, Limits, State, state}
 use Rattle.judgment.specs.Rules.{Env}
 use Rattle.judgment.specs.Run.{End, ceiling, Run, run, steps, end, runFrom, checkType}
 use Rattle.judgment.specs.Result.{endNumber, envOf, runOf, resultOf, judge}
 use Rattle.judgment.specs.Promise.{taken, events, pushes, NotMet, Quantifierless, Same, InFull, Promise}
-use Rattle.judgment.specs.Good.{Fine, Lines, Mono, OK, Inv}
-use Rattle.judgment.proofs.TypeLaws.{all-nodes}
-use Rattle.judgment.proofs.SolutionLaws.{no-fine, ends, never-back, all-written}
-use Rattle.judgment.proofs.RuleLaws.{Equal, BindingOK, EnvOK}
+use Rattle.judgment.specs.Restricted.{restricted}
+use Rattle.judgment.specs.Good.{Fine, Mono, Inv}
+use Rattle.judgment.proofs.SolutionLaws.{ends, never-back, all-written}
+use Rattle.judgment.proofs.RuleLaws.{Equal, EnvOK}
 use Rattle.judgment.proofs.Events.{Adds, run-adds, run-unmet}
 use Rattle.judgment.proofs.Full.{in-full, full-is}
+use Rattle.judgment.proofs.Restricted.{restrict}
+use Rattle.judgment.proofs.Plans.{GoodPlan, plan-env, plan-inv, restricted-good}
 use Rattle.judgment.proofs.Runs.{Empties, Accepted, FactsOf, run-facts, raise-ceiling}
 
 -- ---- any good start
@@ -67,82 +63,17 @@ start-promise plain L E hE c Γ σ n i =
     claim plain Γ σ n (runFrom L E c (state Γ σ n)) (run-facts (plain ≡ true) L E hE c Γ σ n i) (run-adds L E c Γ σ n)
     (run-unmet L E (plain ≡ true) hE c Γ σ n i)
 
--- ---- a plan: what holds of every node of its types and of every line of its term
-abbrev pub bindingType : Binding → Ty
-bindingType (_∶_ x t) = t
-
-pub record PlanHas (P : Node → Type 0) (p : PlanOf) : Type 0 where
-  pub constructors : All (λ b. All P (bindingType b)) (p .constructors)
-  pub context : All (λ b. All P (bindingType b)) (p .context)
-  pub term : Lines P (p .term)
-  pub expected : All P (p .expected)
-
--- a plan's types have no unknown; a plain one has no quantifier and no type abstraction
-pub record GoodPlan (p : PlanOf) : Type 0 where
-  pub no-unknowns : PlanHas (λ x. kind x ≢ 17) p
-  pub if-plain : p .plain ≡ true → PlanHas (λ x. (kind x ≢ 14) × (kind x ≢ 25)) p
-
-module _ {A : Type 0} (Plain : Type 0) (f : A → Node) where
-  ok-of : (xs : List A) → All (λ x. kind (f x) ≢ 17) xs → (Plain → All (λ x. (kind (f x) ≢ 14) × (kind (f x) ≢ 25)) xs) → All (λ x. OK Plain 0 (f x)) xs
-  ok-of [] h g = tt
-  ok-of (x ∷ xs) h g = ((λ e. absurd (h .0 e), λ p. g p .0), ok-of xs (h .1) (λ p. g p .1))
-
-bindings-ok : (Plain : Type 0) (bs : Bindings) → All (λ b. All (λ x. kind x ≢ 17) (bindingType b)) bs
-    → (Plain → All (λ b. All (λ x. (kind x ≢ 14) × (kind x ≢ 25)) (bindingType b)) bs) → All (BindingOK Plain 0) bs
-bindings-ok Plain [] h g = tt
-bindings-ok Plain (_∶_ x t ∷ bs) h g = (ok-of Plain (λ n. n) t (h .0) (λ p. g p .0), bindings-ok Plain bs (h .1) (λ p. g p .1))
-
--- where a plan's run starts
-module _ (p : PlanOf) (g : GoodPlan p) where
-  pub plan-env : EnvOK (p .plain ≡ true) (envOf p)
-  plan-env = record {
-    constructors = bindings-ok (p .plain ≡ true) (p .constructors) (g .no-unknowns .constructors) (λ e. g .if-plain e .constructors);
-    context = bindings-ok (p .plain ≡ true) (p .context) (g .no-unknowns .context) (λ e. g .if-plain e .context);
-  }
-
-  pub plan-inv : Inv (p .plain ≡ true) (chk (p .term) (p .expected) ∷ []) [] 0
-  plan-inv = record {
-    entries = ((ok-of (p .plain ≡ true) lineNode (p .term .lines) (g .no-unknowns .term) (λ e. g .if-plain e .term), ok-of (p .plain ≡ true) (λ n. n) (p .expected) (g .no-unknowns .expected) (λ e. g .if-plain e .expected)), tt);
-    fine = no-fine;
-    solutions = tt;
-  }
-
-pub plan-promise : (L : Limits) (c : ℕ) (p : PlanOf) → GoodPlan p → Promise (state (chk (p .term) (p .expected) ∷ []) [] 0) (p .plain) (runOf L c p)
+-- ---- a plan
+pub plan-promise : (L : Limits) (c : ℕ) (p : PlanOf) → GoodPlan (p .plain ≡ true) p → Promise (state (chk (p .term) (p .expected) ∷ []) [] 0) (p .plain) (runOf L c p)
 unfolding runOf checkType
 plan-promise L c p g = start-promise (p .plain) L (envOf p) (plan-env p g) c (chk (p .term) (p .expected) ∷ []) [] 0 (plan-inv p g)
-
--- ---- a sheet
-module _ (P : Node → Type 0) (ls : List Triple) (h : All (λ l. P (lineNode l)) ls) where
-  bindings-have : (k : ℕ) (es : List Declaration) → All (λ b. All P (bindingType b)) (bindingsIn k ls es)
-  unfolding bindingsIn
-  bindings-have k [] = tt
-  bindings-have k (e ∷ es) =
-      cond-ind (All (λ b. All P (bindingType b))) (eqb (e .head .kind) k)
-      (λ _. (all-nodes P (take (e .count) (drop (e .line) ls)) (all-of-take (λ l. P (lineNode l)) (e .count) (drop (e .line) ls) (all-of-drop (λ l. P (lineNode l)) (e .line) ls h)), bindings-have k es))
-      (λ _. bindings-have k es)
-
-  lines-have : PlanHas P (planOf ls)
-  unfolding planOf
-  lines-have = record {
-    constructors = bindings-have 1 (declarations ls 0 0);
-    context = bindings-have 2 (declarations ls 0 0);
-    term = all-of-drop (λ l. P (lineNode l)) (placesOf ls .term) ls h;
-    expected =
-        all-nodes P (takeParts partsOf (drop (placesOf ls .expected) ls) 1)
-        (all-take partsOf (λ l. P (lineNode l)) (drop (placesOf ls .expected) ls) 1 (all-of-drop (λ l. P (lineNode l)) (placesOf ls .expected) ls h));
-  }
-
-pub sheet-plan : (s : List ℕ) → check s ≡ Plan → GoodPlan (planOf (triples s))
-unfolding planOf
-sheet-plan s e = record {
-  no-unknowns = lines-have (λ x. kind x ≢ 17) (triples s) (no-unknown s e);
-  if-plain = λ q. lines-have (λ x. (kind x ≢ 14) × (kind x ≢ 25)) (triples s) (plain-kinds (triples s) q);
-}
 
 -- THE PROMISE: for every sheet that passes refusals 3 to 5, under any limits and every ceiling
 pub promise : (L : Limits) (s : List ℕ) (c : ℕ) → check s ≡ Plan
     → (let p = planOf (triples s) in Promise (state (chk (p .term) (p .expected) ∷ []) [] 0) (p .plain) (runOf L c p))
-promise L s c e = plan-promise L c (planOf (triples s)) (sheet-plan s e)
+promise L s c e =
+    let p = planOf (triples s) in
+    subst⁻¹ (Promise (state (chk (p .term) (p .expected) ∷ []) [] 0) (p .plain)) (restrict L c p) (plan-promise L c (restricted p) (restricted-good s e))
 
 -- ---- the ceiling
 not-21 : (e : End) → endNumber e ≢ 21 → e ≢ ceiling

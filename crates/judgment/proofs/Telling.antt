@@ -6,7 +6,7 @@ use Prim.Native.Nat.{ℕ}
 use Rattle.nodes.specs.Nodes.{node}
 use Rattle.spelling.specs.declared.Triple.{Triple}
 use Rattle.kinds.specs.Kinds.{partsOf, rowOf, find as findRow, table}
-use Rattle.sheet.specs.Plan.{planOf, declarations, bindingsIn, endFrom, entriesEnd, placesOf, partLine, isPlain, lookup}
+use Rattle.sheet.specs.Plan.{planOf, declarations, bindingsIn, endFrom, entriesEnd, placesOf, partLine, isPlain, names, plainEntries, plainPlan, lookup}
 use Rattle.judgment.specs.Types.{view, occurs, isMonotype, substitute, rename, frontNames, afterFront, canUnify}
 use Rattle.judgment.specs.Terms.{termView, lambdaOf}
 use Rattle.judgment.specs.Solutions.{_≔_, find, links, anySolved, writeOutBy, writeOut, solutionNodes}
@@ -133,5 +133,5 @@ answers =
     []
 
 pub as-the-rust : map (λ q. row (q .0) (q .1)) told ≡ answers
-unfolding row judge resultOf runOf checkType runFrom perform operations boardNodes findVar before lookup instantiateFrom subtype openNames signatureFrom insert pushVars checkPatterns checkArms inferApp find links anySolved writeOutBy writeOut solutionNodes view termView lambdaOf occurs isMonotype substitute rename frontNames afterFront canUnify planOf declarations bindingsIn endFrom entriesEnd placesOf partLine isPlain partsOf rowOf findRow table
+unfolding row judge resultOf runOf checkType runFrom perform operations boardNodes findVar before lookup instantiateFrom subtype openNames signatureFrom insert pushVars checkPatterns checkArms inferApp find links anySolved writeOutBy writeOut solutionNodes view termView lambdaOf occurs isMonotype substitute rename frontNames afterFront canUnify planOf declarations bindingsIn endFrom entriesEnd placesOf partLine isPlain names plainEntries plainPlan partsOf rowOf findRow table
 as-the-rust = refl

@@ -12,7 +12,7 @@ use Rattle.kinds.specs.Kinds.{partsOf, rowOf, find as findRow, table, begins, h
 use Rattle.grammar.specs.declared.Check.the-variants.{Plan}
 use Rattle.grammar.specs.Grammar.{declaredBy, isGoal, arms, following, read, readAt}
 use Rattle.grammar.specs.Check.{readSheet, check}
-use Rattle.sheet.specs.Plan.{triples, planOf, declarations, bindingsIn, endFrom, entriesEnd, placesOf, partLine, isPlain, lookup}
+use Rattle.sheet.specs.Plan.{triples, planOf, declarations, bindingsIn, endFrom, entriesEnd, placesOf, partLine, isPlain, names, plainEntries, plainPlan, lookup}
 use Rattle.judgment.specs.Types.{view, occurs, isMonotype, substitute, rename, frontNames, afterFront, canUnify}
 use Rattle.judgment.specs.Terms.{termView, lambdaOf}
 use Rattle.judgment.specs.Solutions.{_≔_, Solutions, find, links, anySolved, writeOutBy, writeOut, solutionNodes}
@@ -67,7 +67,7 @@ answered =
     []
 
 pub on-the-wall : map (λ q. row (q .0) (q .1)) asked ≡ answered
-unfolding row judge resultOf runOf checkType runFrom perform operations boardNodes findVar before lookup instantiateFrom subtype openNames signatureFrom insert pushVars checkPatterns checkArms inferApp find links anySolved writeOutBy writeOut solutionNodes view termView lambdaOf occurs isMonotype substitute rename frontNames afterFront canUnify planOf declarations bindingsIn endFrom entriesEnd placesOf partLine isPlain partsOf rowOf findRow table
+unfolding row judge resultOf runOf checkType runFrom perform operations boardNodes findVar before lookup instantiateFrom subtype openNames signatureFrom insert pushVars checkPatterns checkArms inferApp find links anySolved writeOutBy writeOut solutionNodes view termView lambdaOf occurs isMonotype substitute rename frontNames afterFront canUnify planOf declarations bindingsIn endFrom entriesEnd placesOf partLine isPlain names plainEntries plainPlan partsOf rowOf findRow table
 on-the-wall = refl
 
 -- the book of the first plan: unknown 0's solution has one node, at word 2,000, and is Int

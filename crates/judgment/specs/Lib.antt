@@ -8,4 +8,5 @@ pub mod Run
 pub mod Result
 pub mod Good
 pub mod Promise
+pub mod Restricted
 pub mod Links

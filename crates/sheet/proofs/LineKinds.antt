@@ -1,24 +1,23 @@
 -- Which kinds the lines of a sheet that is taken have: never that of an output. Assumes nothing.
-use mathlib.Core.Path.{_≡_, refl, sym, ap, _∙_}
-use mathlib.Core.Logic.{_≢_, inl, inr}
-use mathlib.Core.Bool.{Bool, true, false, not, cond, _&&_, _||_, and-eq-true-iff}
+use mathlib.Core.Path.{_≡_, refl, sym}
+use mathlib.Core.Logic.{_≢_, inl}
+use mathlib.Core.Bool.{Bool, true, false, not, cond, _||_, and-eq-true-iff}
 use mathlib.Core.List.{List, [], _∷_, _++_}
-use Prim.Native.Nat.{ℕ, zero, suc, _+_}
+use Prim.Native.Nat.{ℕ, zero, suc}
 use native.Mathlib.Omega.{arith}
 use lib.ListN.{replicate}
 use lib.Dec.{eqb}
-use borrow.Author.Tests.{eqb-true, eqb-false}
+use borrow.Author.Tests.{eqb-true, eqb-false, ne-eqb}
 use Rattle.nodes.specs.Lists.{All}
 use Rattle.nodes.proofs.ListLaws.{cond-ind, all-append}
 use Rattle.spelling.specs.declared.Triple.{Triple}
 use Rattle.spelling.specs.declared.Line.the-variants.{Spelt}
 use Rattle.kinds.specs.declared.Head.{Head}
 use Rattle.kinds.specs.declared.Head.the-variants.{Parts, No}
-use Rattle.kinds.specs.Kinds.{aType, aTerm, aPattern, anArm, table, find, rowOf, valueOk, countOk, begins, headOf}
+use Rattle.kinds.specs.Kinds.{aType, aTerm, aPattern, anArm, table, find, rowOf, begins, headOf}
 use Rattle.grammar.specs.declared.Declared.{Declared}
-use Rattle.grammar.specs.declared.Declared.the-variants.{Named, Expected, Not}
 use Rattle.grammar.specs.declared.Check.the-variants.{Plan}
-use Rattle.grammar.specs.Grammar.{Item, part, entries, goal, ok, due, arms, repeated, following, fits, partsDue, declaredBy, stands, entryDue, isGoal}
+use Rattle.grammar.specs.Grammar.{Item, part, entries, goal, ok, due, arms, repeated, following, fits, partsDue, stands, entryDue, isGoal}
 use Rattle.grammar.specs.Check.{check}
 use Rattle.sheet.specs.Plan.{triples, isEntry, isPlain}
 use Rattle.sheet.specs.Form.{Forms}
@@ -102,7 +101,7 @@ forms-kinds (t ∷ ts) (x ∷ ahead) s f =
 pub no-unknown : (s : List ℕ) → check s ≡ Plan → All (λ t. t .kind ≢ 17) (triples s)
 no-unknown s e = forms-kinds (triples s) (entries 1 0 ∷ []) (inl refl, tt) (sheet-forms s e)
 
--- the plain mark: no line of kind 14 or 25
+-- plain lines: none of kind 14 or 25
 pub plain-kinds : (ls : List Triple) → isPlain ls ≡ true → All (λ t. (t .kind ≢ 14) × (t .kind ≢ 25)) ls
 unfolding isPlain
 plain-kinds [] e = tt
@@ -114,3 +113,8 @@ plain-kinds (t ∷ ts) e =
     neither-kind true p q′ q e = absurd (let z : _≡_ {A = ℕ} 0 1 = cc in omega arith)
     neither-kind false p true q e = absurd (let z : _≡_ {A = ℕ} 0 1 = cc in omega arith)
     neither-kind false p false q e = (eqb-false (t .kind) 14 p, eqb-false (t .kind) 25 q)
+
+pub kinds-plain : (ls : List Triple) → All (λ t. (t .kind ≢ 14) × (t .kind ≢ 25)) ls → isPlain ls ≡ true
+unfolding isPlain
+kinds-plain [] h = refl
+kinds-plain (t ∷ ts) h = rw (ne-eqb (t .kind) 14 (h .0 .0), ne-eqb (t .kind) 25 (h .0 .1)) (kinds-plain ts (h .1))

@@ -1,34 +1,35 @@
 -- How large the fields of a line are where a part stands, and how many lines there are. Assumes nothing.
-use mathlib.Core.Path.{_≡_, refl, subst⁻¹}
+use mathlib.Core.Path.{_≡_, refl, sym, ap, _∙_, subst⁻¹}
 use mathlib.Core.Logic.{_≢_, _⊎_, inl, inr}
-use mathlib.Core.Bool.{Bool, true, false, not, cond, _||_}
+use mathlib.Core.Bool.{Bool, true, false, not, cond, _&&_, _||_, and-eq-true-iff, false≢true}
 use mathlib.Core.List.{List, [], _∷_, _++_}
-use Prim.Native.Nat.{ℕ, _≤_}
+use Prim.Native.Nat.{ℕ, _≤_, _<_}
 use native.Mathlib.Omega.{arith}
-use lib.ListN.{length}
+use lib.ListN.{length, drop}
 use lib.Dec.{eqb, leb}
 use borrow.Author.Tests.{eqb-true, ne-eqb, leb-true}
-use Rattle.sizes.specs.Sizes.{mostLines}
+use Rattle.sizes.specs.Sizes.{mostLines, highestName}
 use Rattle.nodes.specs.Lists.{All}
 use Rattle.spelling.specs.declared.Triple.{Triple}
 use Rattle.spelling.specs.declared.Line.the-variants.{Spelt}
 use Rattle.kinds.specs.declared.Row.{Row}
-use Rattle.kinds.specs.Kinds.{number, table, rowOf, unlisted, countOk}
+use Rattle.kinds.specs.Kinds.{aTerm, number, table, rowOf, unlisted, countOk}
 use Rattle.kinds.proofs.Rows.{listed-passes}
 use Rattle.grammar.specs.declared.Check.{Check}
 use Rattle.grammar.specs.declared.Check.the-variants.{Plan, Length}
 use Rattle.grammar.specs.Grammar.{Item, part, entries, goal, ok, due}
 use Rattle.grammar.specs.Check.{lengthOk, check}
 use Rattle.grammar.proofs.Lines.{few-lines}
-use Rattle.sheet.specs.Plan.{triples}
-use Rattle.sheet.specs.Form.{Forms, IsPart}
+use Rattle.sheet.specs.Plan.{triples, placesOf, isUse, names}
+use Rattle.sheet.specs.Used.{tableLength, SmallNames}
+use Rattle.sheet.specs.Form.{Forms, IsPart, Formed}
 use Rattle.sheet.proofs.Lines.{length-triples}
 use Rattle.sheet.proofs.Forming.{AllParts, parts-append, due-following, due-parts}
 use Rattle.sheet.proofs.TypeLines.{value-ok, count-ok, name-small}
 
 -- a value but a literal's is at most 9,999, a count at most 99
 pub record InRange (t : Triple) : Type 0 where
-  pub value : t .kind ≢ 22 → t .value ≤ 9999
+  pub value : t .kind ≢ 22 → t .value ≤ highestName
   pub count : t .count ≤ 99
 
 -- only a literal's value is a number, whether the kind is listed or not
@@ -75,6 +76,26 @@ forms-in-range (t ∷ ts) (goal ∷ ahead) p f = absurd p
 -- every line of one whole type, term or pattern
 pub part-in-range : (x : ℕ) (ts : List Triple) → IsPart x ts → All InRange ts
 part-in-range x ts f = forms-in-range ts (part x ∷ []) tt f
+
+-- so is every name that the term uses
+use-small : (t : Triple) (x : ℕ) → InRange t → (eqb (t .value) x && isUse t) ≡ true → x < tableLength
+use-small t x h e =
+    let b = and-eq-true-iff (eqb (t .value) x) (isUse t) .0 e in
+    let v = eqb-true (t .value) x (b .0) in
+    let l = h .value (λ k. false≢true (sym (ap (λ (j : ℕ). eqb j 21 || (eqb j 26 || eqb j 43)) k) ∙ b .1)) in
+    omega arith
+
+names-small : (ts : List Triple) → All InRange ts → SmallNames ts
+unfolding names
+names-small [] h x e = absurd (false≢true e)
+names-small (t ∷ ts) h x e = go (eqb (t .value) x && isUse t) refl (λ q. names-small ts (h .1) x q) e
+  where
+    go : (a : Bool) → (eqb (t .value) x && isUse t) ≡ a → (names x ts ≡ true → x < tableLength) → (a || names x ts) ≡ true → x < tableLength
+    go true q f e = use-small t x (h .0) q
+    go false q f e = f e
+
+pub term-names : (ls : List Triple) → Formed ls → SmallNames (drop (placesOf ls .term) ls)
+term-names ls f = names-small (drop (placesOf ls .term) ls) (part-in-range aTerm (drop (placesOf ls .term) ls) (f .term))
 
 -- a plan has at most 2,000 lines
 pub plan-few : (s : List ℕ) → check s ≡ Plan → length (triples s) ≤ mostLines

@@ -1,3 +1,4 @@
 pub mod Plan
 pub mod Rows
 pub mod Form
+pub mod Used

@@ -119,6 +119,27 @@ unfoldable pub isPlain : List Triple → Bool
 isPlain [] = true
 isPlain (t ∷ ts) = not (eqb (t .kind) 14 || eqb (t .kind) 25) && isPlain ts
 
+-- a variable, a constructor or a pattern's constructor
+abbrev pub isUse : Triple → Bool
+isUse t = eqb (t .kind) 21 || (eqb (t .kind) 26 || eqb (t .kind) 43)
+
+-- x stands on one of the lines as the name of such
+unfoldable pub names : ℕ → List Triple → Bool
+names x [] = false
+names x (t ∷ ts) = (eqb (t .value) x && isUse t) || names x ts
+
+-- of the entries, those whose name stands in the term are plain
+unfoldable pub plainEntries : List Triple → List Triple → List Declaration → Bool
+plainEntries term ls [] = true
+plainEntries term ls (e ∷ es) = (not (names (e .head .value) term) || isPlain (take (e .count) (drop (e .line) ls))) && plainEntries term ls es
+
+-- The plain mark: of the expected type, the term, and the entries that the term names. An entry of either kind is named by a line of any of
+-- the three kinds, wherever in the term it stands.
+unfoldable pub plainPlan : List Triple → Bool
+plainPlan ls =
+    let term = drop (placesOf ls .term) ls in
+    isPlain (takeParts partsOf (drop (placesOf ls .expected) ls) 1) && (isPlain term && plainEntries term ls (declarations ls 0 0))
+
 -- a term as it stands on the sheet: the number of its first line, from 0, and its lines
 pub record Term : Type 0 where
   pub line : ℕ
@@ -137,5 +158,5 @@ planOf ls = record {
   context = bindingsIn 2 ls (declarations ls 0 0);
   expected = nodesOf (takeParts partsOf (drop (placesOf ls .expected) ls) 1);
   term = record { line = placesOf ls .term; lines = drop (placesOf ls .term) ls };
-  plain = isPlain ls;
+  plain = plainPlan ls;
 }

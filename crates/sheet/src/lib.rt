@@ -3,19 +3,21 @@
 // they mean as a plan is for a sheet that `grammar::check_sheet` takes.
 use kinds::parts_of;
 use reading::line_of_sheet;
+use sizes::HIGHEST_NAME;
 use sizes::LINE_LENGTH;
 use spelling::Line;
 use spelling::Triple;
 ghost use mathlib.Core.Path.{_≡_};
-ghost use mathlib.Core.Bool.{cond};
+ghost use mathlib.Core.Bool.{not, cond, _||_};
 ghost use mathlib.Core.List.{List};
-ghost use Prim.Native.Nat.{_+_, _*_, _/_, _%_, _≤_, _<_};
+ghost use Prim.Native.Nat.{_+_, _*_, _-_, _/_, _%_, _≤_, _<_};
 ghost use lib.ListN.{length, getD, take, drop};
 ghost use lib.Seq.{sets};
 ghost use Rattle.sizes.specs.Sizes.{lineLength, mostLines};
 ghost use Rattle.nodes.specs.Nodes.{number, words};
 ghost use Rattle.nodes.specs.Lists.{All};
-ghost use Rattle.sheet.specs.Plan.{noTriple, triples, partLine, lineNode, nodesOf, Narrow, isEntry, named, declarations, findEntry, entriesEnd, placesOf, isPlain as plainMark};
+ghost use Rattle.sheet.specs.Plan.{noTriple, triples, partLine, lineNode, nodesOf, Narrow, isEntry, named, declarations, findEntry, entriesEnd, placesOf, isPlain, isUse, plainEntries, plainPlan};
+ghost use Rattle.sheet.specs.Used.{tableLength, markName, marked, isMarked, Tells, SmallNames};
 ghost use Rattle.sheet.specs.Rows.{packed, rowTriple, rows, endAt, EndsFrom, Ended, setRow, RowAsk, linked, linkEntry, Unlinked, unlinkedWords, linkAll, sheetWords};
 
 // How many lines there are: each has a row of two words, and behind the rows two words that link the entries.
@@ -288,13 +290,12 @@ pub fn find_places(s: &[u64]) -> Places
     Places { expected, term }
 }
 
-// No line has kind 14 or 25.
-pub fn is_plain(s: &[u64]) -> bool
-    ensures { λ r. ⌜ r ≡ plainMark (rows (now (s .entry))) ⌝ }
+// No line from `first` up to `end` has kind 14 or 25.
+fn plain_lines(s: &[u64], first: usize, end: usize) -> bool
+    ensures { λ r. ⌜ r ≡ isPlain (take (end - first) (drop first (rows (now (s .entry))))) ⌝ }
 {
-    let lines = line_count(s);
-    let mut i = 0;
-    while i < lines {
+    let mut i = first;
+    while i < end {
         let t = triple_at(s, i);
         if t.kind == 14 {
             return false;
@@ -305,6 +306,119 @@ pub fn is_plain(s: &[u64]) -> bool
         i += 1;
     }
     true
+}
+
+// A variable, a constructor or a pattern's constructor: a line that uses the name on it.
+fn is_use(t: Triple) -> bool
+    ensures { λ r. ⌜ r ≡ isUse t ⌝ }
+{
+    if t.kind == 21 {
+        return true;
+    }
+    if t.kind == 26 {
+        return true;
+    }
+    t.kind == 43
+}
+
+// A byte for each name.
+const TABLE_LENGTH: usize = HIGHEST_NAME as usize + 1;
+
+// Marks the name that a line uses, if it uses one.
+fn mark_name(used: &mut [u8], t: Triple)
+    requires { ⌜ length (now used) ≡ tableLength ⌝ }
+    ensures { λ _. ⌜ now (used .exit) ≡ markName t (now (used .entry)) ⌝ }
+{
+    if is_use(t) {
+        if t.value <= HIGHEST_NAME {
+            used[t.value as usize] = 1;
+        }
+    }
+}
+
+// Marks those of the lines from `first` on.
+fn mark_names(used: &mut [u8], s: &[u64], first: usize)
+    requires { ⌜ length (now used) ≡ tableLength ⌝ }
+    ensures { λ _. ⌜ now (used .exit) ≡ marked (drop first (rows (now (s .entry)))) (now (used .entry)) ⌝ }
+{
+    let lines = line_count(s);
+    let mut i = first;
+    while i < lines {
+        mark_name(used, triple_at(s, i));
+        i += 1;
+    }
+}
+
+fn is_marked(used: &[u8], name: u64) -> bool
+    requires { ⌜ length (now used) ≡ tableLength ⌝ }
+    ensures { λ r. ⌜ r ≡ isMarked (now (used .entry)) name ⌝ }
+{
+    if name <= HIGHEST_NAME {
+        return used[name as usize] == 1;
+    }
+    false
+}
+
+// An entry of that name, its type the lines from `first` up to `end`: plain, or its name is not marked.
+fn plain_entry(used: &[u8], s: &[u64], name: u64, first: usize, end: usize) -> bool
+    requires { ⌜ length (now used) ≡ tableLength ⌝ }
+    ensures { λ r. ⌜ r ≡ (not (isMarked (now (used .entry)) name) || isPlain (take (end - first) (drop first (rows (now (s .entry)))))) ⌝ }
+{
+    if is_marked(used, name) {
+        return plain_lines(s, first, end);
+    }
+    true
+}
+
+// Every entry whose name is marked is plain.
+fn plain_entries(used: &[u8], s: &[u64]) -> bool
+    requires { ⌜ (length (now used) ≡ tableLength) × Ended (now s) ⌝ }
+    ensures { λ r. ⌜ ((term : List Triple) → Tells (now (used .entry)) term → r ≡ plainEntries term (rows (now (s .entry))) (declarations (rows (now (s .entry))) 0 0)) ⌝ }
+{
+    let lines = line_count(s);
+    let mut at = 0;
+    while at < lines {
+        let t = triple_at(s, at);
+        if !is_entry(t) {
+            return true;
+        }
+        let end = part_line(s, at + 1, 1);
+        if !plain_entry(used, s, t.value, at + 1, end) {
+            return false;
+        }
+        at = end;
+    }
+    true
+}
+
+// The entries whose names the term, from line `term` on, uses are plain. The names are marked first, so that each line is read a fixed
+// number of times.
+fn plain_catalogue(s: &[u64], term: usize) -> bool
+    requires { ⌜ Ended (now s) × SmallNames (drop term (rows (now s))) ⌝ }
+    ensures { λ r. ⌜ r ≡ plainEntries (drop term (rows (now (s .entry)))) (rows (now (s .entry))) (declarations (rows (now (s .entry))) 0 0) ⌝ }
+{
+    let mut used = [0u8; TABLE_LENGTH];
+    mark_names(&mut used, s, term);
+    plain_entries(&used, s)
+}
+
+// The plain mark. Most plans have no line of kind 14 or 25 at all.
+pub fn is_plain(s: &[u64]) -> bool
+    requires { ⌜ Ended (now s) × SmallNames (drop (placesOf (rows (now s)) .term) (rows (now s))) ⌝ }
+    ensures { λ r. ⌜ r ≡ plainPlan (rows (now (s .entry))) ⌝ }
+{
+    let lines = line_count(s);
+    if plain_lines(s, 0, lines) {
+        return true;
+    }
+    let p = find_places(s);
+    if !plain_lines(s, p.expected, part_line(s, p.expected, 1)) {
+        return false;
+    }
+    if !plain_lines(s, p.term, lines) {
+        return false;
+    }
+    plain_catalogue(s, p.term)
 }
 
 // A line's number as a node: a Product's is its count.

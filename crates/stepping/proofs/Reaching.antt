@@ -1,13 +1,12 @@
 -- What every state of a sheet's run has, and so what a step may ask for. Assumes nothing.
-use mathlib.Core.Path.{_≡_, _∙_, subst, subst⁻¹}
+use mathlib.Core.Path.{_≡_, subst⁻¹}
 use mathlib.Core.Bool.{Bool, true, false, cond}
 use mathlib.Core.List.{List, [], _∷_}
-use Prim.Native.Nat.{ℕ, _+_, _*_, _≤_, _<_}
-use Rattle.nodes.specs.Nodes.{Node, Ty, nodesAt}
+use Prim.Native.Nat.{ℕ}
+use Rattle.nodes.specs.Nodes.{Ty, nodesAt}
 use Rattle.nodes.specs.Lists.{All}
 use Rattle.nodes.proofs.ListLaws.{all-map, cond-ind}
-use Rattle.sheet.specs.Plan.{lineNode, Binding, _∶_, planOf}
-use Rattle.judgment.specs.Terms.{Term}
+use Rattle.sheet.specs.Plan.{planOf}
 use Rattle.sheet.specs.Rows.{rows}
 use Rattle.judgment.specs.Solutions.{Solutions, value}
 use Rattle.judgment.specs.Board.{Entry, tvar, var, sub, inf, chk, infApp, Limits, state, Outcome, finished, refused, perform}
@@ -15,11 +14,11 @@ use Rattle.judgment.specs.Board.{Board as Entries}
 use Rattle.judgment.specs.Rules.{Env, rule}
 use Rattle.judgment.specs.Chain.{stepO}
 use Rattle.judgment.specs.Result.{limitsWith}
-use Rattle.judgment.specs.Good.{IsTy, EntryWhole, Lines, OK, EntryOK, SolutionOK, Inv, StateOK}
+use Rattle.judgment.specs.Good.{IsTy, EntryWhole, OK, EntryOK, SolutionOK, Inv, StateOK}
 use Rattle.judgment.proofs.Invariant.{Kept, perform-kept}
-use Rattle.judgment.proofs.RuleLaws.{BindingOK, EnvOK, Explains, rule-good}
+use Rattle.judgment.proofs.RuleLaws.{EnvOK, Explains, rule-good}
 use Rattle.judgment.proofs.WholeRun.{EnvWhole, OutcomeWhole, perform-whole, rule-whole}
-use Rattle.judgment.proofs.Promised.{plan-env}
+use Rattle.judgment.proofs.Plans.{plan-env}
 use Rattle.board.specs.Board.{entriesOf}
 use Rattle.book.specs.Book.{sols}
 use Rattle.operations.specs.declared.Halt.{Halt}
@@ -78,43 +77,11 @@ module _ (Plain : Type 0) where
   solutions-sound n [] h w = tt
   solutions-sound n (x ∷ σ) h w = (sound-of n (value x) (h .0 .1) (w .0), solutions-sound n σ (h .1) (w .1))
 
--- ---- what is known of a plain or any other plan, of any plan
-module _ (P : Type 0) where
-  bare : (n : ℕ) (x : Node) → OK P n x → OK ⊥ n x
-  bare n x h = (h .0, λ e. absurd e)
-
-  bare-type : (n : ℕ) (t : Ty) → All (OK P n) t → All (OK ⊥ n) t
-  bare-type n t h = all-map (bare n) t h
-
-  bare-lines : (n : ℕ) (e : Term) → Lines (OK P n) e → Lines (OK ⊥ n) e
-  bare-lines n e h = all-map (λ l. bare n (lineNode l)) (e .lines) h
-
-  bare-entry : (n : ℕ) (e : Entry) → EntryOK P n e → EntryOK ⊥ n e
-  bare-entry n (tvar x) h = tt
-  bare-entry n (var x t) h = bare-type n t h
-  bare-entry n (sub s t) h = (bare-type n s (h .0), bare-type n t (h .1))
-  bare-entry n (inf e t) h = (bare-lines n e (h .0), bare-type n t (h .1))
-  bare-entry n (chk e t) h = (bare-lines n e (h .0), bare-type n t (h .1))
-  bare-entry n (infApp f e t) h = (bare-type n f (h .0), bare-lines n e (h .1), bare-type n t (h .2))
-
-  pub bare-inv : {Γ : Entries} {σ : Solutions} {n : ℕ} → Inv P Γ σ n → Inv ⊥ Γ σ n
-  bare-inv {Γ} {σ} {n} i = record {
-    entries = all-map (bare-entry n) Γ (i .entries);
-    fine = i .fine;
-    solutions = all-map (λ x h. (h .0, bare-type n (value x) (h .1), h .2)) σ (i .solutions);
-  }
-
-  bare-binding : (b : Binding) → BindingOK P 0 b → BindingOK ⊥ 0 b
-  bare-binding (_∶_ x t) h = bare-type 0 t h
-
-  pub bare-env : {E : Env} → EnvOK P E → EnvOK ⊥ E
-  bare-env {E} h = record { constructors = all-map bare-binding (E .constructors) (h .constructors); context = all-map bare-binding (E .context) (h .context) }
-
 -- what a step leaves is standing
 pub stands : (m : ℕ) {s b k : List ℕ} (rep : List ℕ) {c : Run} {b' k' : List ℕ} (rep' : List ℕ) {q : Run} → Standing s b k c → WellFormed b' k' q → outcomeOf (rows s) b' k' rep' q ≡ stepO (limitsWith m) (envOn s) (outcomeOf (rows s) b k rep c) → Standing s b' k' q
 stands m {s} {b} {k} rep {c} {b'} {k'} rep' {q} h f e =
     let p = planOf (rows s) in
     let w = read-whole (h .plan) in
     let o = of-outcome ⊥ (q .halt) rep' (entriesOf (rows s) b' (q .board .entries)) (sols k') (q .fresh)
-    (subst⁻¹ (OutcomeOK ⊥) e (step-ok ⊥ (limitsWith m) (envOn s) (bare-env (p .plain ≡ true) (plan-env p (read-good (h .plan)))) (w .0) (outcomeOf (rows s) b k rep c) (to-outcome ⊥ (c .halt) rep _ _ _ (h .good)))) in
+    (subst⁻¹ (OutcomeOK ⊥) e (step-ok ⊥ (limitsWith m) (envOn s) (plan-env p (read-good (h .plan))) (w .0) (outcomeOf (rows s) b k rep c) (to-outcome ⊥ (c .halt) rep _ _ _ (h .good)))) in
     record { plan = h .plan; formed = f; good = o }

@@ -3,6 +3,7 @@ use Prim.Native.Nat.{_+_, _*_, _-_, _≤_, _<_}
 use native.Mathlib.Omega.{arith}
 use denote.Ref.{now}
 use Rattle.judgment.specs.Result.{limitsWith}
+use Rattle.stepping.proofs.Reading.{read-names}
 use Rattle.checker.proofs.Starting.{start-stands, start-told}
 use Rattle.checker.proofs.Finishing.{end-within, end-clears, whole-board, ran}
 use borrow.Author.Needs.{needs}
@@ -39,6 +40,9 @@ sub-clear-words c = end-within _ (c .before .report-end .ensures)
 clear-words-requires : tie.Need-clear-words-requires
 clear-words-requires c κs = end-clears _ (c .before .report-end .ensures) refl
 
+is-plain-requires : tie.Need-is-plain-requires
+is-plain-requires c κs = read-names (c .before .before .before .before .before .before .before .before .before .before .before .before .before .before .before .before .before .before .before .before .before .before .before .before .before .before .before .before .before .before .before .before .before .before .before .before .before .before .before .before .before .before .before .before .before .before .before .before .before .before .before .before .before .before .pre .plan)
+
 same-length : tie.Need-same-length
 same-length c = c .before .before .before .before .before .before .before .before .before .before .clear-board .kept .0 ∙ c .before .before .before .before .before .before .before .before .before .before .before .before .before .before .before .before .before .before .before .before .before .before .before .before .before .before .before .before .solve .kept .0 ∙ c .before .before .before .before .before .before .before .before .before .before .before .before .before .before .before .before .before .before .before .before .before .before .before .before .before .before .before .before .before .before .before .before .before .before .before .before .before .before .before .before .before .before .before .start .kept .0
 
@@ -63,4 +67,4 @@ returns c =
 
 pub check-plan-spec : {M : Type 1} → statement M
 check-plan-spec =
-    tie.close (tie.spec start-requires solve-requires clear-board-requires (λ c κs. search needs) sub-clear-words clear-words-requires (λ c κs. search needs) (λ c κs. search needs) same-length same-length-2 same-length-3 same-length-4 (λ c. search needs) (λ c. search needs) (λ c. search needs) (λ c. search needs) returns)
+    tie.close (tie.spec start-requires solve-requires clear-board-requires (λ c κs. search needs) sub-clear-words clear-words-requires is-plain-requires (λ c κs. search needs) same-length same-length-2 same-length-3 same-length-4 (λ c. search needs) (λ c. search needs) (λ c. search needs) (λ c. search needs) returns)
