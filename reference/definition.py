@@ -11,7 +11,7 @@ import argparse, os, shutil, subprocess, sys, tempfile
 DEPS = "sizes nodes spelling kinds grammar sheet judgment"
 OPENED = {
     "kinds.specs.Kinds": "partsOf rowOf find=findRow table",
-    "sheet.specs.Plan": "planOf declarations bindingsIn endFrom entriesEnd placesOf partLine isPlain lookup",
+    "sheet.specs.Plan": "planOf declarations bindingsIn endFrom entriesEnd placesOf partLine isPlain names plainEntries plainPlan lookup",
     "judgment.specs.Types": "view occurs isMonotype substitute rename frontNames afterFront canUnify",
     "judgment.specs.Terms": "termView lambdaOf",
     "judgment.specs.Solutions": "find links anySolved writeOutBy writeOut solutionNodes",

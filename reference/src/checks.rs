@@ -3,7 +3,7 @@
 
 use crate::damage::damaged;
 use crate::generate::limits::{self, Found};
-use crate::generate::{compared, random, small, Made};
+use crate::generate::{catalogue, compared, random, small, Made};
 use crate::oracle::{
     answer_call, run_limited, sizes, under_limit, Answer, LIMIT, MOST_LIMIT, MOST_STEPS,
 };
@@ -158,7 +158,7 @@ fn shorter(limit: u32, at: usize) -> [usize; 3] {
 /// True if both give the same on random plans, on damaged sheets, on the plans
 /// of the wall and the limits, on every small plan, with short buffers and under
 /// limits that a caller picks, these too on plans whose comparisons follow
-/// solutions.
+/// solutions, and on plans over a catalogue.
 pub fn compare(seed: u64, count: usize, damages: usize) -> bool {
     let Some(Proved { check, .. }) = proved() else {
         return false;
@@ -171,6 +171,7 @@ pub fn compare(seed: u64, count: usize, damages: usize) -> bool {
     refused(&mut tally, seed, damages);
     picked(&mut tally, seed, count.div_ceil(10));
     followed(&mut tally, seed, count.div_ceil(5));
+    marked(&mut tally, seed, count.div_ceil(5));
     tally.show();
     tally.differences == 0
 }
@@ -187,6 +188,15 @@ fn known(tally: &mut Tally) {
         tally.put(&write(&made.lines), made.ceiling, limit, sizes(limit));
     }
     for (at, Made { ceiling, lines }) in small::plans().into_iter().enumerate() {
+        tally.put(&write(&lines), ceiling, LIMIT, longer(LIMIT, at));
+    }
+}
+
+/// Plans over a catalogue, whose plain mark hangs on the names in the term.
+fn marked(tally: &mut Tally, seed: u64, count: usize) {
+    let made = catalogue::plans().into_iter().map(|(_, made)| made);
+    for (at, Made { ceiling, lines }) in made.chain(catalogue::random(seed + 6, count)).enumerate()
+    {
         tally.put(&write(&lines), ceiling, LIMIT, longer(LIMIT, at));
     }
 }

@@ -4,6 +4,7 @@
 pub mod checks;
 pub mod damage;
 pub mod generate;
+pub mod mark;
 pub mod oracle;
 pub mod plan;
 pub mod proved;

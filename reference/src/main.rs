@@ -2,13 +2,14 @@
 
 use reference::checks::expected;
 use reference::generate::limits::{self, Found};
-use reference::generate::{self, compared, small, Made};
+use reference::generate::{self, catalogue, compared, small, Made};
 use reference::oracle::{
     answer_call, answer_lines, answer_sheet, sizes, under_limit, Answer, LIMIT, MOST_STEPS,
 };
 use reference::plan::Node;
 use reference::{checks, readers, record, wall, with_stack};
 use std::collections::BTreeMap;
+use std::fmt::Display;
 use std::io::{Read, Write};
 use std::process::ExitCode;
 
@@ -19,7 +20,7 @@ const USAGE: &str = "usage: reference COMMAND
                                        words after it, each of which was 7
   answer [--ceiling N] --limits E,N,W,F,S
                                        the answer to the sheet under other limits
-  generate --seed S --count N [--kind random|small|limits|picked|compared] [--answers] [--limits E,N,W,F,S]
+  generate --seed S --count N [--kind random|small|limits|picked|compared|catalogue] [--answers] [--limits E,N,W,F,S]
                                        plans, one a line, in the format of src/record.rs; other
                                        limits: entries, nodes, written out, fresh, solutions
   record --out FILE                    the recorded list of plans and answers
@@ -28,7 +29,7 @@ const USAGE: &str = "usage: reference COMMAND
   checks --seed S --count N --damaged M
                                        the Rust beside the proved checker: random plans, damaged
                                        sheets, the wall, the limits, small plans, short buffers,
-                                       limits that a caller picks
+                                       limits that a caller picks, comparisons, catalogues
   stats --seed S --count N             the share of each number among random plans";
 
 fn main() -> ExitCode {
@@ -169,15 +170,21 @@ fn generate_plans(options: &Options) -> Result<bool, String> {
         }
         "limits" => show_found(&limits::plans(), answers),
         "picked" => show_found(&limits::picked(), answers),
-        "compared" => show_compared(options, answers)?,
+        "compared" => show_made(options, compared::plans(), compared::random, answers)?,
+        "catalogue" => show_made(options, catalogue::plans(), catalogue::random, answers)?,
         other => return Err(format!("unknown kind {other}")),
     }
     Ok(true)
 }
 
 /// Those made for it and, where a seed is given, random ones.
-fn show_compared(options: &Options, answers: bool) -> Result<(), String> {
-    for (title, made) in compared::plans() {
+fn show_made<T: Display, I: Iterator<Item = Made>>(
+    options: &Options,
+    plans: Vec<(T, Made)>,
+    random: impl Fn(u64, usize) -> I,
+    answers: bool,
+) -> Result<(), String> {
+    for (title, made) in plans {
         println!("# {title}");
         show(&made, answers);
     }
@@ -186,7 +193,7 @@ fn show_compared(options: &Options, answers: bool) -> Result<(), String> {
             options.number("--seed", None)?,
             options.number("--count", None)?,
         );
-        compared::random(seed, count).for_each(|made| show(&made, answers));
+        random(seed, count).for_each(|made| show(&made, answers));
     }
     Ok(())
 }

@@ -2,6 +2,7 @@
 //! is met, the Rust as it is must give the same, step by step and as
 //! `check_type`.
 
+use crate::mark::is_plain;
 use crate::plan::{name_number, nodes, unknown_number, Node, Plan};
 use crate::sheet::{self, Line, Refusal};
 use limited::{Limited, Passed, Peaks, Step};
@@ -211,7 +212,7 @@ fn answer_of(
         taken,
         fresh: fresh as u32,
         details,
-        plain: plan.plain as u32,
+        plain: is_plain(plan) as u32,
         report,
         solutions,
     }

@@ -10,8 +10,6 @@ pub struct Plan {
     pub term: CoreTerm,
     /// How many lines the term has, types and patterns in it included.
     pub term_lines: usize,
-    /// No line has kind 14 or 25.
-    pub plain: bool,
 }
 
 /// Names 1 to 4, which the Rust knows by themselves.

@@ -99,7 +99,6 @@ pub fn read_plan(lines: &[Line]) -> Result<Plan, Refusal> {
         expected,
         term,
         term_lines,
-        plain: !lines.iter().any(|line| line.kind == 14 || line.kind == 25),
     })
 }
 

@@ -1,7 +1,8 @@
-//! The reader's refusals, round trips, the wall, and both inclusions of the
-//! Rust on generated plans (`answer_plan` panics where they differ).
+//! The reader's refusals, round trips, the wall, the plain mark, and both
+//! inclusions of the Rust on generated plans (`answer_plan` panics where they differ).
 
 use crate::generate::{limits, random, small};
+use crate::mark::is_plain;
 use crate::oracle::{
     answer_call, answer_lines, answer_plan, answer_sheet, sizes, under_limit, Answer, LIMIT,
     MOST_LIMIT, MOST_STEPS,
@@ -251,4 +252,35 @@ fn record_line_is_spelt_as_described() {
     };
     let expected = "10000 4 3 0 0 12 1 0 4 0 0 22 7 0 0 0 5 1 0 0 1 0 1 0 1 12 1";
     assert_eq!(record::answered_line(&made, &answer), expected);
+}
+
+/// Whether a term as Int is plain beside the entry n20 : ∀n11. n11 of that kind.
+fn plain_beside(kind: i64, term: &[i64]) -> bool {
+    let entry = [
+        kind, 20, 0, 14, 11, 0, 11, 11, 0, 3, 0, 0, 12, 1, 0, 4, 0, 0,
+    ];
+    let plan = read_plan(&lines(&[&entry, term].concat()));
+    is_plain(&plan.expect("a plan"))
+}
+
+#[test]
+fn seven_beside_an_unused_entry_is_plain() {
+    assert!(plain_beside(1, &[22, 7, 0]) && plain_beside(2, &[22, 7, 0]));
+}
+
+/// On a line of kind 21, 26 or 43, and on none of kind 42 or 30.
+#[test]
+fn a_name_counts_for_entries_of_both_kinds() {
+    for kind in [1, 2] {
+        assert!(!plain_beside(kind, &[21, 20, 0]) && !plain_beside(kind, &[26, 20, 0]));
+        assert!(!plain_beside(
+            kind,
+            &[27, 0, 1, 22, 7, 0, 43, 20, 0, 22, 7, 0]
+        ));
+        assert!(plain_beside(
+            kind,
+            &[27, 0, 1, 22, 7, 0, 42, 20, 0, 22, 7, 0]
+        ));
+        assert!(plain_beside(kind, &[30, 20, 0]) && plain_beside(kind, &[21, 21, 0]));
+    }
 }

@@ -1,5 +1,6 @@
 //! Plans made by the seed. Every generator gives lines and a ceiling.
 
+pub mod catalogue;
 pub mod compared;
 mod directed;
 pub mod limits;
