@@ -18,7 +18,7 @@ extern "C" {
 
 /* The number of this interface. It rises with every change that a caller has to
  * follow; kirvoghus_version says the library's. */
-#define KIRVOGHUS_VERSION 3
+#define KIRVOGHUS_VERSION 4
 
 /* The limit: so many nodes may one type have that is written out. A caller picks
  * 1 to the highest; the programs that come with the library pick 1,024. */
@@ -47,8 +47,10 @@ extern "C" {
  * FRESH    fresh numbers given; unknowns and fresh universals share them, from 0.
  * DETAIL1  as told with each result below; else 0.
  * DETAIL2  the same.
- * PLAIN    1 if no line of the sheet has kind 14 (Forall) or 25 (TypeLambda),
- *          else 0; 0 for results 1 to 5 and 32.
+ * PLAIN    1 if none of these lines has kind 14 (Forall) or 25 (TypeLambda): the
+ *          expected type's, the term's, and those of every entry whose name
+ *          stands in the term on a line of kind 21, 26 or 43; else 0. Entries of
+ *          both kinds count, hidden ones too. 0 for results 1 to 5 and 32.
  */
 #define KIRVOGHUS_NUMBER 0
 #define KIRVOGHUS_LINE 1

@@ -97,6 +97,28 @@ pub fn large_by_solutions() -> Lines {
     plan(&[(20, pattern)], &context, &INT, term)
 }
 
+/// 7 as Int beside 600 quantified entries, none of which it names.
+pub fn catalogue_unnamed() -> Lines {
+    plan(&quantified(600), &[], &INT, vec![seven()])
+}
+
+/// A sum of 330 quantified entries, each of which it names.
+pub fn catalogue_named() -> Lines {
+    let entries = quantified(330);
+    let named = |(name, _): &(u32, Ty)| vec![line(26, *name as i64, 0)];
+    let terms: Vec<Lines> = entries.iter().map(named).collect();
+    plan(&entries, &[], &INT, flat(&terms))
+}
+
+/// So many constructors of ∀n10. n10.
+fn quantified(count: usize) -> Vec<(u32, Ty)> {
+    let any = forall(10, Ty::Var(10));
+    names(count)
+        .into_iter()
+        .map(|name| (name, any.clone()))
+        .collect()
+}
+
 fn plan(constructors: &[(u32, Ty)], context: &[(u32, Ty)], expected: &Ty, term: Lines) -> Lines {
     let entries = |list: &[(u32, Ty)]| list.iter().cloned().collect::<Entries>();
     sheet(&entries(constructors), &entries(context), expected, &term)

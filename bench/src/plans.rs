@@ -61,6 +61,11 @@ pub fn plans() -> Vec<Plan> {
         Target::Nothing,
         families::ceiling(),
     ));
+    let catalogues = [
+        ("catalogue, none named", families::catalogue_unnamed()),
+        ("catalogue, all named", families::catalogue_named()),
+    ];
+    plans.extend(catalogues.map(|(title, lines)| single(title, Target::Nothing, lines)));
     let under_most = [
         ("4,096 nodes written out", families::written()),
         ("large by solutions", families::large_by_solutions()),

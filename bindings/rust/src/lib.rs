@@ -32,7 +32,7 @@ pub use types::{Name, Type};
 
 /// The number of the interface that this crate is made for; it rises with every
 /// change that a caller has to follow.
-pub const VERSION: u32 = 3;
+pub const VERSION: u32 = 4;
 
 /// The highest ceiling: so many entries may be taken at most.
 pub const MOST_STEPS: u32 = 10_000;

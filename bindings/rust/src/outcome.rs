@@ -166,8 +166,10 @@ pub struct Outcome {
     pub taken: u32,
     /// The fresh numbers given, to unknowns and fresh universals.
     pub fresh: u32,
-    /// True if no line of the sheet has kind 14 (Forall) or 25 (TypeLambda);
-    /// false if there was no run.
+    /// True if none of these lines has kind 14 (Forall) or 25 (TypeLambda): the
+    /// expected type's, the term's, and those of every entry whose name stands
+    /// in the term on a line of kind 21, 26 or 43. Entries of both kinds count,
+    /// hidden ones too. False if there was no run.
     pub plain: bool,
     numbers: [u32; 7],
 }

@@ -42,6 +42,18 @@ fn seven_as_int() {
     assert_eq!(buffers.solutions().collect::<Vec<_>>(), [(0, con(1))]);
 }
 
+/// Plain looks at those entries alone that the term names.
+#[test]
+fn seven_as_int_beside_a_catalogue() {
+    let quantified = [1, 20, 0, 14, 11, 0, 11, 11, 0];
+    let (outcome, _) = checked(&[&quantified[..], &SEVEN_AS_INT].concat(), MOST_STEPS);
+    assert_eq!(outcome.numbers(), [0, 0, 5, 1, 0, 0, 1]);
+    assert!(outcome.plain);
+    let named = [3, 0, 0, 12, 1, 0, 4, 0, 0, 26, 20, 0];
+    let (outcome, _) = checked(&[&quantified[..], &named].concat(), MOST_STEPS);
+    assert!(outcome.is_accepted() && !outcome.plain);
+}
+
 #[test]
 fn ceilings() {
     let (_, whole) = checked(&SEVEN_AS_INT, MOST_STEPS);
