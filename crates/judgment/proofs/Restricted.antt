@@ -1,7 +1,7 @@
 -- RESTRICT: entries that the term does not name change nothing, under any limits and every ceiling. Assumes nothing.
 use Prim.Native.Nat.{ℕ, zero, suc, _+_}
 use mathlib.Core.Path.{_≡_, refl, sym, _∙_, ap, ap₂, fun-ext, subst}
-use mathlib.Core.Bool.{Bool, true, false, cond, _&&_, _||_, false≢true}
+use mathlib.Core.Bool.{Bool, true, false, cond, _&&_, _||_, or-true, false≢true}
 use mathlib.Core.Option.{Option, none, some}
 use mathlib.Core.List.{List, [], _∷_, _++_}
 use lib.Dec.{eqb}
@@ -10,7 +10,7 @@ use Rattle.nodes.specs.Lists.{All}
 use Rattle.nodes.specs.Nodes.{Node, node, Ty, kind, number}
 use Rattle.nodes.proofs.ListLaws.{cond-ind}
 use Rattle.spelling.specs.declared.Triple.{Triple}
-use Rattle.sheet.specs.Plan.{lineNode, _∶_, Bindings, lookup, names, Plan}
+use Rattle.sheet.specs.Plan.{lineNode, _∶_, Bindings, lookup, isUse, names, Plan}
 use Rattle.judgment.specs.declared.TypeError.the-variants.{ArityMismatch}
 use Rattle.judgment.specs.Types.{unknown, View, isArrow, isApp, isForall, isUnknown, isOther, view}
 use Rattle.judgment.specs.Terms.{Term, part, afterParts, Lambda, lambdaOf, TermView, isVar, isLitInt, isLambda, isApply, isTypeLambda, isConstructor, isCase, isBinOp, isIf, isIntrinsic, isNone, viewBy, termView, PatternView, isWildcard, isPatternVar, isPatternConstructor, patternView}
@@ -188,28 +188,20 @@ module _ (E F : Env) where
         ∙ ap (λ p. onward L F s e (operations L p Γ σ n) (perform L p Γ σ n) (λ s′. runFrom L F c s′)) (rule-same e (h .0))
 
   -- ---- the names of the term
-  names-here : (l : Triple) (ls : List Triple) → (eqb (l .kind) 21 || (eqb (l .kind) 26 || eqb (l .kind) 43)) ≡ true → names (l .value) (l ∷ ls) ≡ true
+  names-here : (l : Triple) (ls : List Triple) → isUse (l .kind) ≡ true → names (l .value) (l ∷ ls) ≡ true
   unfolding names
-  names-here l ls h =
-      ap (λ b. (b && (eqb (l .kind) 21 || (eqb (l .kind) 26 || eqb (l .kind) 43))) || names (l .value) ls) (eqb-same (l .value))
-      ∙ ap (λ b. b || names (l .value) ls) h
-
-  or-true : (a : Bool) → (a || true) ≡ true
-  or-true true = refl
-  or-true false = refl
+  names-here l ls h = ap (λ b. (b && isUse (l .kind)) || names (l .value) ls) (eqb-same (l .value)) ∙ ap (λ b. b || names (l .value) ls) h
 
   names-later : (x : ℕ) (l : Triple) (ls : List Triple) → names x ls ≡ true → names x (l ∷ ls) ≡ true
   unfolding names
-  names-later x l ls h =
-      let a : Bool = eqb (l .value) x && (eqb (l .kind) 21 || (eqb (l .kind) 26 || eqb (l .kind) 43)) in
-      ap (λ b. a || b) h ∙ or-true a
+  names-later x l ls h = let here = eqb (l .value) x && isUse (l .kind) in ap (λ b. here || b) h ∙ or-true here
 
   pub all-known : (ls : List Triple) → ((x : ℕ) → names x ls ≡ true → Agree x) → All (λ l. Known (lineNode l)) ls
   all-known [] h = tt
   all-known (l ∷ ls) h = ((of 21 refl refl, of 26 refl refl, of 43 refl refl), all-known ls (λ x e. h x (names-later x l ls e)))
     where
-      of : (k : ℕ) → (eqb k 21 || (eqb k 26 || eqb k 43)) ≡ true → eqb k 16 ≡ false → l .kind ≡ k → Agree (number (lineNode l))
-      of k n s e = subst Agree (sym (value-of l k e s)) (h (l .value) (names-here l ls (ap (λ j. eqb j 21 || (eqb j 26 || eqb j 43)) e ∙ n)))
+      of : (k : ℕ) → isUse k ≡ true → eqb k 16 ≡ false → l .kind ≡ k → Agree (number (lineNode l))
+      of k n s e = subst Agree (sym (value-of l k e s)) (h (l .value) (names-here l ls (ap isUse e ∙ n)))
 
 -- ENTRIES THAT AGREE on the names in the term run alike
 pub agree-run : (L : Limits) (E F : Env) (c : ℕ) (e : Term) (t : Ty) → ((x : ℕ) → names x (e .lines) ≡ true → Agree E F x) → checkType L E c e t ≡ checkType L F c e t

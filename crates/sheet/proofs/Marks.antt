@@ -1,6 +1,6 @@
 -- Laws of the plain mark. Assumes nothing.
 use mathlib.Core.Path.{_≡_, refl, sym, ap, ap₂, _∙_}
-use mathlib.Core.Bool.{Bool, true, false, not, cond, _&&_, _||_, and-eq-true-iff}
+use mathlib.Core.Bool.{Bool, true, false, not, cond, _&&_, _||_, and-eq-true-iff, and-true, and-false, or-true, or-false, or-assoc, or-comm}
 use mathlib.Core.List.{List, [], _∷_}
 use Prim.Native.Nat.{ℕ, zero, suc, _+_, _-_, _≤_, _<_}
 use native.Mathlib.Numerals.{add-one}
@@ -17,7 +17,7 @@ use Rattle.sheet.specs.Plan.{noTriple, isEntry, Declaration, declaration
 use Rattle.sheet.specs.declared.Places.{Places}
 use Rattle.sheet.specs.Used.{tableLength, markName, marked, isMarked, Tells, SmallNames}
 use Rattle.sheet.proofs.Lines.{lines-between}
-use Rattle.sheet.proofs.Declarations.{from, from-none, from-one, from-past}
+use Rattle.sheet.proofs.Declarations.{seen, from, from-none, from-one, from-past}
 
 -- ---- the lines from i up to end
 plain-next : (ls : List Triple) (i n : ℕ)
@@ -64,17 +64,17 @@ module _ (ls : List Triple) (i : ℕ) (u : List ℕ) where
   mark-end h = rw (drop-of-length-le ls h)
 
 module _ (t : Triple) (u : List ℕ) where
-  pub mark-used : isUse t ≡ true → set u (t .value) 1 ≡ markName t u
+  pub mark-used : isUse (t .kind) ≡ true → set u (t .value) 1 ≡ markName t u
   mark-used e = sym (rw e)
 
-  pub mark-out : isUse t ≡ true → length u ≤ t .value → u ≡ markName t u
+  pub mark-out : isUse (t .kind) ≡ true → length u ≤ t .value → u ≡ markName t u
   mark-out e h = sym (set-out u (t .value) 1 h) ∙ mark-used e
 
-  pub mark-unused : isUse t ≡ false → u ≡ markName t u
+  pub mark-unused : isUse (t .kind) ≡ false → u ≡ markName t u
   mark-unused e = sym (rw e)
 
 pub mark-length : (t : Triple) (u : List ℕ) → length (markName t u) ≡ length u
-mark-length t u = go (isUse t)
+mark-length t u = go (isUse (t .kind))
   where
     go : (b : Bool) → length (cond b (set u (t .value) 1) u) ≡ length u
     go true = length-set u (t .value) 1
@@ -88,44 +88,28 @@ mark-set u v x h = go (eqb v x) refl
     go true e = ap (λ (n : ℕ). eqb n 1) (ap (λ (w : ℕ). getD (set u w 1) x 0) (eqb-true v x e) ∙ getD-set-same u x 1 0 h)
     go false e = ap (λ (n : ℕ). eqb n 1) (getD-set-other u v x 1 0 (λ q. eqb-false v x e (sym q)))
 
-exchange : (a b m : Bool) → (b || (a || m)) ≡ ((a || b) || m)
-exchange true true m = refl
-exchange true false m = refl
-exchange false true m = refl
-exchange false false m = refl
-
-mark-is : (u : List ℕ) (t : Triple) (x : ℕ) → x < length u → isMarked (markName t u) x ≡ ((eqb (t .value) x && isUse t) || isMarked u x)
-mark-is u t x h = go (isUse t)
+mark-is : (u : List ℕ) (t : Triple) (x : ℕ) → x < length u → isMarked (markName t u) x ≡ ((eqb (t .value) x && isUse (t .kind)) || isMarked u x)
+mark-is u t x h = go (isUse (t .kind))
   where
-    and-true : (a : Bool) → a ≡ (a && true)
-    and-true true = refl
-    and-true false = refl
-
-    and-false : (a : Bool) → false ≡ (a && false)
-    and-false true = refl
-    and-false false = refl
-
     go : (b : Bool) → isMarked (cond b (set u (t .value) 1) u) x ≡ ((eqb (t .value) x && b) || isMarked u x)
-    go true = mark-set u (t .value) x h ∙ ap (λ (a : Bool). a || isMarked u x) (and-true (eqb (t .value) x))
-    go false = ap (λ (a : Bool). a || isMarked u x) (and-false (eqb (t .value) x))
+    go true = mark-set u (t .value) x h ∙ ap (λ (a : Bool). a || isMarked u x) (sym (and-true (eqb (t .value) x)))
+    go false = ap (λ (a : Bool). a || isMarked u x) (sym (and-false (eqb (t .value) x)))
 
 marked-is : (ts : List Triple) (u : List ℕ) (x : ℕ) → x < length u → isMarked (marked ts u) x ≡ (names x ts || isMarked u x)
 unfolding marked names
 marked-is [] u x h = refl
 marked-is (t ∷ ts) u x h =
     let l = mark-length t u in
+    let here = eqb (t .value) x && isUse (t .kind) in
     marked-is ts (markName t u) x (omega arith)
     ∙ ap (λ (m : Bool). names x ts || m) (mark-is u t x h)
-    ∙ exchange (eqb (t .value) x && isUse t) (names x ts) (isMarked u x)
+    ∙ sym (or-assoc (names x ts) here (isMarked u x))
+    ∙ ap (λ (m : Bool). m || isMarked u x) (or-comm (names x ts) here)
 
 marked-length : (ts : List Triple) (u : List ℕ) → length (marked ts u) ≡ length u
 unfolding marked
 marked-length [] u = refl
 marked-length (t ∷ ts) u = marked-length ts (markName t u) ∙ mark-length t u
-
-or-false : (a b : Bool) → b ≡ false → (a || b) ≡ a
-or-false true b e = refl
-or-false false b e = e
 
 not-true : (b : Bool) → (b ≡ true → ⊥) → false ≡ b
 not-true true h = absurd (h refl)
@@ -142,7 +126,7 @@ table-tells ts z l e s x = go (leb tableLength x) refl
         ap (λ (n : ℕ). eqb n 1) (List·getD-eq-default (marked ts z) 0 {n = x} (omega arith)) ∙ not-true (names x ts) (λ r. (let k = s x r in omega arith))
     go false q =
         let h = leb-false tableLength x q in
-        marked-is ts z x (omega arith) ∙ or-false (names x ts) (isMarked z x) (ap (λ (n : ℕ). eqb n 1) (e x))
+        marked-is ts z x (omega arith) ∙ ap (λ (n : ℕ). names x ts || eqb n 1) (e x) ∙ or-false (names x ts)
 
 zeros-read : (n x : ℕ) → _≡_ {A = ℕ} (getD (replicate n 0) x 0) 0
 zeros-read zero x = refl
@@ -171,20 +155,18 @@ module _ (term ls : List Triple) where
     unfolding plainEntries
     entries-none e = rw (from-none ls at h e)
 
-    -- by a table of the term's names
-    module _ (u : List ℕ) (tells : Tells u term) (e : isEntry head ≡ true) where
-      abbrev this : Bool
-      this = not (isMarked u (head .value)) || isPlain (take (next - (at + 1)) (drop (at + 1) ls))
-
-      entries-one : plainEntries term ls (from ls at) ≡ (this && plainEntries term ls (from ls next))
+    -- by a table of the term's names, from what the code has read of the entry
+    module _ (u : List ℕ) (tells : Tells u term) {t : Triple} (read : t ≡ head) {entry : Bool} (tested : entry ≡ isEntry t) (holds : entry ≡ true) {end : ℕ} (ends : end ≡ next)
+        {plain : Bool} (looked : plain ≡ (not (isMarked u (t .value)) || isPlain (take (end - (at + 1)) (drop (at + 1) ls)))) where
+      entries-one : plainEntries term ls (from ls at) ≡ (plain && plainEntries term ls (from ls end))
       unfolding plainEntries
-      entries-one = ap (plainEntries term ls) (from-one ls at h e) ∙ rw (tells (head .value))
+      entries-one = ap (plainEntries term ls) (from-one ls at h (seen isEntry read tested holds)) ∙ rw (looked, ends, read, tells (head .value))
 
-      pub entries-not : this ≡ false → false ≡ plainEntries term ls (from ls at)
-      entries-not f = sym (entries-one ∙ ap (λ (b : Bool). b && plainEntries term ls (from ls next)) f)
+      pub entries-not : plain ≡ false → false ≡ plainEntries term ls (from ls at)
+      entries-not f = sym (entries-one ∙ ap (λ (b : Bool). b && plainEntries term ls (from ls end)) f)
 
-      pub entries-turn : this ≡ true → plainEntries term ls (from ls next) ≡ plainEntries term ls (from ls at)
-      entries-turn f = sym (entries-one ∙ ap (λ (b : Bool). b && plainEntries term ls (from ls next)) f)
+      pub entries-turn : plain ≡ true → plainEntries term ls (from ls end) ≡ plainEntries term ls (from ls at)
+      entries-turn f = sym (entries-one ∙ ap (λ (b : Bool). b && plainEntries term ls (from ls end)) f)
 
 -- ---- the whole mark
 module _ (ls : List Triple) where
@@ -245,10 +227,6 @@ entries-plain term ls [] e = refl
 entries-plain term ls (d ∷ es) e =
     ap₂ (λ (a b : Bool). (not (names (d .head .value) term) || a) && b) (take-plain (d .count) (drop (d .line) ls) (drop-plain (d .line) ls e)) (entries-plain term ls es e)
     ∙ ap (λ (b : Bool). b && true) (or-true (not (names (d .head .value) term)))
-  where
-    or-true : (b : Bool) → (b || true) ≡ true
-    or-true true = refl
-    or-true false = refl
 
 pub mark-all : (ls : List Triple) → isPlain ls ≡ true → true ≡ plainPlan ls
 mark-all ls e =

@@ -78,19 +78,19 @@ pub part-in-range : (x : ℕ) (ts : List Triple) → IsPart x ts → All InRange
 part-in-range x ts f = forms-in-range ts (part x ∷ []) tt f
 
 -- so is every name that the term uses
-use-small : (t : Triple) (x : ℕ) → InRange t → (eqb (t .value) x && isUse t) ≡ true → x < tableLength
+use-small : (t : Triple) (x : ℕ) → InRange t → (eqb (t .value) x && isUse (t .kind)) ≡ true → x < tableLength
 use-small t x h e =
-    let b = and-eq-true-iff (eqb (t .value) x) (isUse t) .0 e in
+    let b = and-eq-true-iff (eqb (t .value) x) (isUse (t .kind)) .0 e in
     let v = eqb-true (t .value) x (b .0) in
-    let l = h .value (λ k. false≢true (sym (ap (λ (j : ℕ). eqb j 21 || (eqb j 26 || eqb j 43)) k) ∙ b .1)) in
+    let l = h .value (λ k. false≢true (sym (ap isUse k) ∙ b .1)) in
     omega arith
 
 names-small : (ts : List Triple) → All InRange ts → SmallNames ts
 unfolding names
 names-small [] h x e = absurd (false≢true e)
-names-small (t ∷ ts) h x e = go (eqb (t .value) x && isUse t) refl (λ q. names-small ts (h .1) x q) e
+names-small (t ∷ ts) h x e = go (eqb (t .value) x && isUse (t .kind)) refl (λ q. names-small ts (h .1) x q) e
   where
-    go : (a : Bool) → (eqb (t .value) x && isUse t) ≡ a → (names x ts ≡ true → x < tableLength) → (a || names x ts) ≡ true → x < tableLength
+    go : (a : Bool) → (eqb (t .value) x && isUse (t .kind)) ≡ a → (names x ts ≡ true → x < tableLength) → (a || names x ts) ≡ true → x < tableLength
     go true q f e = use-small t x (h .0) q
     go false q f e = f e
 

@@ -119,14 +119,14 @@ unfoldable pub isPlain : List Triple → Bool
 isPlain [] = true
 isPlain (t ∷ ts) = not (eqb (t .kind) 14 || eqb (t .kind) 25) && isPlain ts
 
--- a variable, a constructor or a pattern's constructor
-abbrev pub isUse : Triple → Bool
-isUse t = eqb (t .kind) 21 || (eqb (t .kind) 26 || eqb (t .kind) 43)
+-- a line of this kind uses the name on it: a variable, a constructor or a pattern's constructor
+abbrev pub isUse : ℕ → Bool
+isUse k = eqb k 21 || (eqb k 26 || eqb k 43)
 
--- x stands on one of the lines as the name of such
+-- x stands on one of the lines as such a name
 unfoldable pub names : ℕ → List Triple → Bool
 names x [] = false
-names x (t ∷ ts) = (eqb (t .value) x && isUse t) || names x ts
+names x (t ∷ ts) = (eqb (t .value) x && isUse (t .kind)) || names x ts
 
 -- of the entries, those whose name stands in the term are plain
 unfoldable pub plainEntries : List Triple → List Triple → List Declaration → Bool

@@ -15,7 +15,7 @@ tableLength = highestName + 1
 
 -- the name that a line uses marked in a table, and those of lines
 abbrev pub markName : Triple → List ℕ → List ℕ
-markName t u = cond (isUse t) (set u (t .value) 1) u
+markName t u = cond (isUse (t .kind)) (set u (t .value) 1) u
 
 unfoldable pub marked : List Triple → List ℕ → List ℕ
 marked [] u = u

@@ -308,17 +308,17 @@ fn plain_lines(s: &[u64], first: usize, end: usize) -> bool
     true
 }
 
-// A variable, a constructor or a pattern's constructor: a line that uses the name on it.
-fn is_use(t: Triple) -> bool
-    ensures { λ r. ⌜ r ≡ isUse t ⌝ }
+// A line of this kind uses the name on it: a variable, a constructor or a pattern's constructor.
+fn is_use(kind: u64) -> bool
+    ensures { λ r. ⌜ r ≡ isUse kind ⌝ }
 {
-    if t.kind == 21 {
+    if kind == 21 {
         return true;
     }
-    if t.kind == 26 {
+    if kind == 26 {
         return true;
     }
-    t.kind == 43
+    kind == 43
 }
 
 // A byte for each name.
@@ -329,7 +329,7 @@ fn mark_name(used: &mut [u8], t: Triple)
     requires { ⌜ length (now used) ≡ tableLength ⌝ }
     ensures { λ _. ⌜ now (used .exit) ≡ markName t (now (used .entry)) ⌝ }
 {
-    if is_use(t) {
+    if is_use(t.kind) {
         if t.value <= HIGHEST_NAME {
             used[t.value as usize] = 1;
         }

@@ -7,14 +7,14 @@ returns c = let h0 = c .if1 .taken in simp tests
 
 returns-2 : tie.Need-returns-2
 returns-2 c =
-    let h0 = c .before .before .if1 .left in
+    let h0 = c .before .if1 .left in
     let h1 = c .if2 .taken in
     simp tests
 
 returns-3 : tie.Need-returns-3
 returns-3 c =
-    let h0 = c .before .before .before .if1 .left in
-    let h1 = c .before .if2 .left in
+    let h0 = c .before .if1 .left in
+    let h1 = c .if2 .left in
     simp tests
 
 pub is-use-spec : {M : Type 1} → statement M

@@ -1,13 +1,11 @@
-use mathlib.Core.Path.{_≡_, refl, sym, ap, _∙_}
-use mathlib.Core.Bool.{not, _||_}
+use mathlib.Core.Path.{_≡_, refl, _∙_}
 use mathlib.Core.List.{List}
-use Prim.Native.Nat.{ℕ, _+_, _-_}
+use Prim.Native.Nat.{_+_, _-_}
 use native.Mathlib.Omega.{arith}
-use lib.ListN.{take, drop}
 use Rattle.spelling.specs.declared.Triple.{Triple}
-use Rattle.sheet.specs.Plan.{isEntry, declarations, isPlain, plainEntries}
+use Rattle.sheet.specs.Plan.{isEntry, declarations, plainEntries}
 use Rattle.sheet.specs.Rows.{rows}
-use Rattle.sheet.specs.Used.{Tells, isMarked}
+use Rattle.sheet.specs.Used.{Tells}
 use Rattle.sheet.proofs.Lines.{line-from}
 use Rattle.sheet.proofs.RowLaws.{length-rows}
 use Rattle.sheet.proofs.Declarations.{seen, from}
@@ -51,13 +49,9 @@ add-plain-entry c =
 returns-2 : tie.Need-returns-2 Inv-loop μ-loop
 returns-2 c = λ term tells.
     (let n = c .before .before .before .before .before .before .before .before .line-count .ensures in
-    let ls = rows (c .before .before .before .before .before .before .before .before .before .before .before .args .s .now) in
-    let u = c .before .before .before .before .before .before .before .before .before .before .before .args .used .now in
-    let at = c .before .before .before .before .before .before .before .loop .at in
+    let a = c .before .before .before .before .before .before .before .before .before .before .before .args in
     let e = not-false (c .before .before .before .before .is-entry .result) (c .before .before .before .if1 .left) in
-    let p = ap (λ (k : ℕ). not (isMarked u (c .before .before .before .before .before .triple-at .result .value)) || isPlain (take (k - (at + 1)) (drop (at + 1) ls))) (c .before .before .part-line .ensures) in
-    let q = sym p ∙ sym (c .before .plain-entry .ensures) ∙ not-true (c .before .plain-entry .result) (c .if2 .taken) in
-    entries-not term ls at (omega arith) u tells (seen isEntry (c .before .before .before .before .before .triple-at .ensures) (c .before .before .before .before .is-entry .ensures) e) (rw (c .before .before .before .before .before .triple-at .ensures) at q) ∙ c .before .before .before .before .before .before .before .loop .inv term tells)
+    entries-not term (rows (a .s .now)) (c .before .before .before .before .before .before .before .loop .at) (omega arith) (a .used .now) tells (c .before .before .before .before .before .triple-at .ensures) (c .before .before .before .before .is-entry .ensures) e (c .before .before .part-line .ensures) (c .before .plain-entry .ensures) (not-true (c .before .plain-entry .result) (c .if2 .taken)) ∙ c .before .before .before .before .before .before .before .loop .inv term tells)
 
 loop-less : tie.Need-loop-less Inv-loop μ-loop
 loop-less c =
@@ -68,13 +62,9 @@ loop-less c =
 loop-again : tie.Need-loop-again Inv-loop μ-loop
 loop-again c = λ term tells.
     (let n = c .before .before .before .before .before .before .before .before .line-count .ensures in
-    let ls = rows (c .before .before .before .before .before .before .before .before .before .before .before .args .s .now) in
-    let u = c .before .before .before .before .before .before .before .before .before .before .before .args .used .now in
-    let at = c .before .before .before .before .before .before .before .loop .at in
+    let a = c .before .before .before .before .before .before .before .before .before .before .before .args in
     let e = not-false (c .before .before .before .before .is-entry .result) (c .before .before .before .if1 .left) in
-    let p = ap (λ (k : ℕ). not (isMarked u (c .before .before .before .before .before .triple-at .result .value)) || isPlain (take (k - (at + 1)) (drop (at + 1) ls))) (c .before .before .part-line .ensures) in
-    let q = sym p ∙ sym (c .before .plain-entry .ensures) ∙ not-false (c .before .plain-entry .result) (c .if2 .left) in
-    rw (c .before .before .part-line .ensures) (entries-turn term ls at (omega arith) u tells (seen isEntry (c .before .before .before .before .before .triple-at .ensures) (c .before .before .before .before .is-entry .ensures) e) (rw (c .before .before .before .before .before .triple-at .ensures) at q)) ∙ c .before .before .before .before .before .before .before .loop .inv term tells)
+    entries-turn term (rows (a .s .now)) (c .before .before .before .before .before .before .before .loop .at) (omega arith) (a .used .now) tells (c .before .before .before .before .before .triple-at .ensures) (c .before .before .before .before .is-entry .ensures) e (c .before .before .part-line .ensures) (c .before .plain-entry .ensures) (not-false (c .before .plain-entry .result) (c .if2 .left)) ∙ c .before .before .before .before .before .before .before .loop .inv term tells)
 
 returns-3 : tie.Need-returns-3 Inv-loop μ-loop
 returns-3 c = λ term tells.
