@@ -2,4 +2,5 @@ pub mod Laws
 pub mod Lines
 pub mod Alone
 pub mod Lengths
+pub mod Names
 mod Steps
