@@ -18,7 +18,7 @@ extern "C" {
 
 /* The number of this interface. It rises with every change that a caller has to
  * follow; kirvoghus_version says the library's. */
-#define KIRVOGHUS_VERSION 4
+#define KIRVOGHUS_VERSION 5
 
 /* The limit: so many nodes may one type have that is written out. A caller picks
  * 1 to the highest; the programs that come with the library pick 1,024. */
@@ -28,7 +28,7 @@ extern "C" {
 /* The least lengths of the buffers, in words of 32 bits; the report's goes with
  * the limit. */
 #define KIRVOGHUS_BOARD_WORDS 12288
-#define KIRVOGHUS_BOOK_WORDS 10192
+#define KIRVOGHUS_BOOK_WORDS 11192
 #define KIRVOGHUS_REPORT_WORDS(limit) (4 * (size_t)(limit))
 
 /* A sheet is 1 to 2,000 lines of 29 bytes, each with its LF. */
@@ -107,7 +107,7 @@ extern "C" {
 /* DETAIL1: the intrinsic's name. */
 #define KIRVOGHUS_UNKNOWN_INTRINSIC 19
 
-/* Ended by the ceiling or a limit. Details 0, no type reported. */
+/* Ended by the ceiling, a limit or a level. Details 0, no type reported. */
 /* An entry remains and the ceiling's number were taken. */
 #define KIRVOGHUS_CEILING_REACHED 21
 /* A push would pass 512 entries or 4,096 type nodes on the board. */
@@ -118,6 +118,9 @@ extern "C" {
 #define KIRVOGHUS_NUMBERS_USED_UP 24
 /* The solutions would pass 4,096 nodes. */
 #define KIRVOGHUS_BOOK_FULL 25
+/* Strict call only: a solution has a fresh universal numbered above the level of
+ * the unknown to be solved. Tested after 17 and before 25. */
+#define KIRVOGHUS_OUT_OF_SCOPE 39
 
 /*
  * A node of a type is two words: its kind, then its name, number or count, 0
@@ -135,13 +138,18 @@ extern "C" {
 #define KIRVOGHUS_TYPE_UNIVERSAL 18 /* number of a fresh universal */
 
 /*
- * The book. For unknown k, words 2k and 2k + 1 hold the index of its solution's
- * first word in the book and its count of nodes; 0 and 0 if it is unsolved.
- * The nodes stand from word 2,000, in order of solving, as they were solved: a
+ * The book, under both calls. For unknown k, words 3k and 3k + 1 hold the index
+ * of its solution's first word in the book and its count of nodes, 0 and 0 if it
+ * is unsolved; word 3k + 2 holds its level. All three are 0 for a fresh universal
+ * and for the numbers from FRESH on.
+ * A level is the unknown's own number when it is made, or the level of the
+ * unknown that it splits. Solving an unknown lowers the level of each unknown in
+ * the solution to its own, if higher.
+ * The nodes stand from word 3,000, in order of solving, as they were solved: a
  * solution may hold unknowns that have solutions themselves.
  */
 #define KIRVOGHUS_BOOK_UNKNOWNS 1000
-#define KIRVOGHUS_BOOK_NODES 2000
+#define KIRVOGHUS_BOOK_NODES 3000
 
 /*
  * Checks the plan on a sheet, and returns the first of the seven numbers.
@@ -153,14 +161,28 @@ extern "C" {
  *
  * After results 1 to 5 and 32 board, book and report are as they were. After
  * any other the board's words are 0, the book holds the solutions given in the
- * run and is else 0, and the report holds the types told and is else 0. Of
- * longer buffers the words past the lengths above keep what they held: of the
- * report those from KIRVOGHUS_REPORT_WORDS(limit) on, of a board of 16,384
+ * run and the levels and is else 0, and the report holds the types told and is
+ * else 0. Of longer buffers the words past the lengths above keep what they held:
+ * of the report those from KIRVOGHUS_REPORT_WORDS(limit) on, of a board of 16,384
  * words, which is what interface 2 asks for and clears, the last 4,096.
  *
  * A higher limit changes no result but WRITTEN_OUT_TOO_LONG.
  */
 uint32_t kirvoghus_check_type(
+    const uint8_t *sheet, size_t sheet_len,
+    uint32_t ceiling,
+    uint32_t limit,
+    uint32_t *board, size_t board_len,
+    uint32_t *book, size_t book_len,
+    uint32_t *report, size_t report_len,
+    uint32_t result[7]);
+
+/*
+ * The strict call: the same, but that a run may end with OUT_OF_SCOPE, which the
+ * call above never gives. Any other result is that of the call above, with the
+ * same words in the buffers.
+ */
+uint32_t kirvoghus_check_type_strict(
     const uint8_t *sheet, size_t sheet_len,
     uint32_t ceiling,
     uint32_t limit,

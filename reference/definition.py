@@ -3,10 +3,12 @@
 
 RECORDS is a file in the format of src/record.rs, as `reference generate --answers` and `reference record` write it. The
 repository is copied to a temporary folder, and there a crate is added whose one theorem says, by computation in the prover,
-that `judge` gives for every plan of a chunk the recorded seven numbers, report types and solutions in order. Plans refused
-before a run (1 to 5) are left out. Run it anywhere inside the repository; it needs `rt`. Exit status 1 at a difference.
+that `judge` gives for every plan of a chunk, by the rule of its call, the recorded seven numbers, report types, solutions in
+order and levels. Plans refused before a run (1 to 5) are left out. Run it anywhere inside the repository; it needs `rt`. Exit
+status 1 at a difference.
 """
-import argparse, os, shutil, subprocess, sys, tempfile
+import argparse, itertools, os, shutil, subprocess, sys, tempfile
+from collections import namedtuple
 
 DEPS = "sizes nodes spelling kinds grammar sheet judgment"
 OPENED = {
@@ -20,26 +22,35 @@ OPENED = {
     "judgment.specs.Run": "runFrom checkType",
     "judgment.specs.Result": "resultOf runOf judge",
 }
+LEVELS = {"judgment.specs.Levels": "put lower levelMade levelAfter levelsAfter noneAbove"}
+CALLS = {1: "firstCall", 2: "strictCall"}
 HEAD = """use mathlib.Core.Path.{_≡_, refl}
 use mathlib.Core.Bool.{Bool, true, false}
 use mathlib.Core.List.{List, [], _∷_, map}
-use Prim.Native.Nat.{ℕ}
+use Prim.Native.Nat.{ℕ, zero, suc, _+_}
 use Rattle.nodes.specs.Nodes.{Node, node, Ty}
 use Rattle.spelling.specs.declared.Triple.{Triple}
 use Rattle.judgment.specs.Solutions.{Solution, _≔_, Solutions}
-use Rattle.judgment.specs.Board.{upTo}
-use Rattle.judgment.specs.Result.{Result, numbers, limits, noLimits}
+use Rattle.judgment.specs.Board.{upTo, unlimited}
+use Rattle.judgment.specs.Levels.{Levels, Mode, firstCall, strictCall, scopeOf}
+use Rattle.judgment.specs.Result.{Result, numbers, limitsFor}
 """
 ROW = """
 abbrev t : ℕ → Bool → ℕ → ℕ → Triple
 t k n v c = record { kind = k; negative = n; value = v; count = c }
 
-abbrev Row : Type 0
-Row = List ℕ × Ty × Solutions
+abbrev levelsFrom : Levels → ℕ → ℕ → List ℕ
+levelsFrom v k zero = []
+levelsFrom v k (suc n) = v k ∷ levelsFrom v (k + 1) n
 
-unfoldable pub row : ℕ → List Triple → Row
-row c ls = let r = judge (LIMITS) c ls in (numbers (r .answer), r .report, r .solutions)
+abbrev Row : Type 0
+Row = (List ℕ × Ty × Solutions) × List ℕ
+
+unfoldable pub row : Mode → ℕ → List Triple → Row
+row m c ls = let r = judge (LIMITS) c ls in ((numbers (r .answer), r .report, r .solutions), levelsFrom (r .levels) 0 (r .answer .fresh))
 """
+
+Plan = namedtuple("Plan", "call ceiling lines seven report solutions levels")
 
 
 def pairs(numbers, at, count):
@@ -48,7 +59,7 @@ def pairs(numbers, at, count):
 
 def parse(text):
     n = [int(x) for x in text.split()]
-    ceiling, count, at = n[0], n[1], 2
+    call, ceiling, count, at = n[0], n[1], n[2], 3
     lines = [n[at + 3 * j: at + 3 * j + 3] for j in range(count)]
     at += 3 * count
     seven, at = n[at: at + 7], at + 7
@@ -58,8 +69,9 @@ def parse(text):
     for _ in range(solved):
         solutions.append((n[at], pairs(n, at + 2, n[at + 1])))
         at += 2 + 2 * n[at + 1]
-    assert at == len(n), "a record ends with its last solution"
-    return ceiling, lines, seven, report, solutions
+    levels = n[at:]
+    assert len(levels) == seven[3], "a record ends with the levels of the numbers made"
+    return Plan(call, ceiling, lines, seven, report, solutions, levels)
 
 
 def nodes(ns):
@@ -72,42 +84,55 @@ def triple(line):
 
 
 def groups(plans):
-    """Plans in runs of at most 50, a long run alone: the prover bounds what one theorem may compute."""
-    group = []
-    for plan in plans:
-        if group and (len(group) == 50 or plan[2][2] > 1000):
+    """Plans of one call in runs of at most 50, a long run alone: the prover bounds what one theorem may compute."""
+    by_call = lambda plan: plan.call
+    for _, same in itertools.groupby(sorted(plans, key=by_call), key=by_call):
+        group = []
+        for plan in same:
+            long = plan.seven[2] > 1000
+            if group and (len(group) == 50 or long):
+                yield group
+                group = []
+            group.append(plan)
+            if long:
+                yield group
+                group = []
+        if group:
             yield group
-            group = []
-        group.append(plan)
-        if plan[2][2] > 1000:
-            yield group
-            group = []
-    if group:
-        yield group
 
 
-def record(limits):
-    if limits == "none":
-        return "noLimits"
-    fields = zip("entries nodes written numbers solved".split(), limits.split(","))
-    return "record { " + "; ".join(f"{name} = upTo {int(n)}" for name, n in fields) + " }"
+def limits_of(limits):
+    """Under levels v, by the rule of the call m."""
+    names = "entries nodes written numbers solved".split()
+    given = ["unlimited"] * 5 if limits == "none" else [f"upTo {int(n)}" for n in limits.split(",")]
+    fields = [f"{name} = {limit}" for name, limit in zip(names, given)] + ["scope = scopeOf m v"]
+    return "λ v. record { " + "; ".join(fields) + " }"
 
 
 def module(plans, limits):
-    uses = [f"use Rattle.{m}.{{{', '.join(w.replace('=', ' as ') for w in names.split())}}}" for m, names in OPENED.items()]
-    opened = " ".join(w.split("=")[-1] for names in OPENED.values() for w in names.split())
-    row = ROW.replace("LIMITS", record(limits) if limits else "limits")
+    all_opened = OPENED | LEVELS
+    uses = [f"use Rattle.{m}.{{{', '.join(w.replace('=', ' as ') for w in names.split())}}}" for m, names in all_opened.items()]
+    opened = " ".join(w.split("=")[-1] for names in all_opened.values() for w in names.split())
+    row = ROW.replace("LIMITS", limits_of(limits) if limits else "limitsFor m 1024")
     return HEAD + "\n".join(uses) + "\n" + row + "".join(theorem(i, g, opened) for i, g in enumerate(groups(plans)))
 
 
+def listed(items):
+    return "".join(f"{item} ∷ " for item in items) + "[]"
+
+
+def answered_row(plan):
+    solutions = listed(f"_≔_ {k} {nodes(s)}" for k, s in plan.solutions)
+    return f"    (({listed(plan.seven)}, {nodes(plan.report)}, {solutions}), {listed(plan.levels)}) ∷\n"
+
+
 def theorem(name, plans, opened):
-    asked = "".join(f"    ({c}, {''.join(map(triple, ls))}[]) ∷\n" for c, ls, _, _, _ in plans)
-    answered = "".join(
-        f"    ({''.join(f'{x} ∷ ' for x in seven)}[], {nodes(rep)}, {''.join(f'_≔_ {k} {nodes(s)} ∷ ' for k, s in sols)}[]) ∷\n"
-        for _, _, seven, rep, sols in plans)
+    call = CALLS[plans[0].call]
+    asked = "".join(f"    ({plan.ceiling}, {''.join(map(triple, plan.lines))}[]) ∷\n" for plan in plans)
+    answered = "".join(map(answered_row, plans))
     return (f"\nabbrev asked{name} : List (ℕ × List Triple)\nasked{name} =\n{asked}    []\n"
             f"\nabbrev answered{name} : List Row\nanswered{name} =\n{answered}    []\n"
-            f"\npub same{name} : map (λ q. row (q .0) (q .1)) asked{name} ≡ answered{name}\nunfolding row {opened}\nsame{name} = refl\n")
+            f"\npub same{name} : map (λ q. row {call} (q .0) (q .1)) asked{name} ≡ answered{name}\nunfolding row {opened}\nsame{name} = refl\n")
 
 
 def workplace(folder):
@@ -140,7 +165,7 @@ def main():
     a.add_argument("--limits", help="the limits that the records were made with, where they are not document 01's; none for no limit")
     o = a.parse_args()
     plans = [parse(l) for l in open(o.records, encoding="utf-8") if not l.startswith("#")]
-    plans = [p for p in plans if p[2][0] not in (1, 2, 3, 4, 5)]
+    plans = [p for p in plans if p.seven[0] not in (1, 2, 3, 4, 5)]
     same = 0
     with tempfile.TemporaryDirectory() as folder:
         workplace(folder)

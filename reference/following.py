@@ -41,9 +41,10 @@ CHAINS = [
     ({0: [(13, 0), (18, 1), (12, 1)], 1: [(12, 1)]}, [0, 1]),  # a universal and a Con of that number are no unknowns
 ]
 
-# Pairs of a book's words, the one after the last that may be solved among them, and nodes that are looked up: whatever number stands in
-# one, only an unknown below 1,000 can be solved, by a start from 2,000 on. In 16 bits 65,536 would be 0 and 66,535 would be 999.
-PAIRS = {0: (2003, 2), 1: (2000, 1), 2: (1999, 1), 999: (2007, 3), 1000: (5000, 7)}
+# Threes of a book's words, the ones after the last that may be solved among them, and nodes that are looked up: whatever number stands in
+# one, only an unknown below 1,000 can be solved, by a start from 3,000 on, whatever its level. In 16 bits 65,536 would be 0 and 66,535
+# would be 999.
+THREES = {0: (3003, 2, 1), 1: (3000, 1, 0), 2: (2999, 1, 3001), 999: (3007, 3, 1000), 1000: (5000, 7, 0)}
 LOOKED_UP = [(17, n) for n in (0, 1, 2, 3, 998, 999, 1000, 1001, 65535, 65536, 65537, 66535, 66536, 131072, 2**31, 2**32 - 1)]
 LOOKED_UP += [(kind, 0) for kind in (0, 1, 11, 12, 13, 14, 15, 16, 18, 65553)]
 
@@ -88,9 +89,9 @@ def is_chain(book, ks):
     return all(k in book for k in ks) and all((17, j) in book[k] for k, j in zip(ks, ks[1:]))
 
 
-def place(pairs, kind, number):
-    start, count = pairs.get(number, (0, 0))
-    return (start, count) if kind == 17 and number < 1000 and 2000 <= start else None
+def place(threes, kind, number):
+    start, count, _ = threes.get(number, (0, 0, 0))
+    return (start, count) if kind == 17 and number < 1000 and 3000 <= start else None
 
 
 def some_type(pick, unknowns, depth):
@@ -171,13 +172,13 @@ def chained(name, found):
             f"unfolding find occurs isChain\nchains{name} = refl\n")
 
 
-def words(pairs):
-    """As a list of the prover's, the pairs between in runs of zeros."""
+def words(threes):
+    """As a list of the prover's, the threes between in runs of zeros."""
     text, at = [], 0
-    for k, (start, count) in pairs.items():
+    for k, (start, count, level) in threes.items():
         if at < k:
-            text.append(f"replicate {2 * (k - at)} 0")
-        text.append(f"({start} ∷ {count} ∷ [])")
+            text.append(f"replicate {3 * (k - at)} 0")
+        text.append(f"({start} ∷ {count} ∷ {level} ∷ [])")
         at = k + 1
     return " ++ (".join(text) + ")" * (len(text) - 1)
 
@@ -186,8 +187,8 @@ def placed():
     def told(place):
         return "Nothing" if place is None else f"At (record {{ start = {place[0]}; count = {place[1]} }})"
 
-    return (f"\nabbrev words : List ℕ\nwords = {words(PAIRS)}\n"
-            f"\nabbrev told : List (Node × Found)\ntold =\n{listed(f'(node {k} {n}, {told(place(PAIRS, k, n))})' for k, n in LOOKED_UP)}"
+    return (f"\nabbrev words : List ℕ\nwords = {words(THREES)}\n"
+            f"\nabbrev told : List (Node × Found)\ntold =\n{listed(f'(node {k} {n}, {told(place(THREES, k, n))})' for k, n in LOOKED_UP)}"
             f"\npub places : map (λ q. placeOf words (kind (q .0)) (number (q .0))) told ≡ map (λ q. q .1) told\n"
             f"unfolding placeOf\nplaces = refl\n")
 

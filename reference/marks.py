@@ -5,7 +5,7 @@ RECORDS is what `reference generate --kind catalogue --answers` writes: plans by
 src/mark.rs.
 """
 import sys
-from definition import OPENED, parse
+from definition import OPENED, listed, parse
 
 HEAD = """-- Plans over a catalogue with the seven numbers of their answers, the plain mark last, by computation. reference/marks.py makes this file
 -- from the answers of the Rust and the mark of reference/src/mark.rs. Assumes nothing.
@@ -25,16 +25,12 @@ def uses():
     yield "use Rattle.judgment.proofs.Wall.{l}\n"
 
 
-def listed(rows):
-    return "".join(f"{row} ∷ " for row in rows) + "[]"
-
-
 def row(title, record):
-    ceiling, lines, seven, _, _ = parse(record)
-    assert ceiling == 10000, "one ceiling for all"
-    assert seven[0] == 0 or seven[0] > 10, f"no run: {title}"
-    plan = listed(f"l {k} {v} {c}" for k, v, c in lines)
-    return f"    ({plan}, {listed(seven)}) ∷  -- {title}\n"
+    plan = parse(record)
+    assert (plan.call, plan.ceiling) == (1, 10000), "the first call and one ceiling for all"
+    assert plan.seven[0] == 0 or plan.seven[0] > 10, f"no run: {title}"
+    asked = listed(f"l {k} {v} {c}" for k, v, c in plan.lines)
+    return f"    ({asked}, {listed(plan.seven)}) ∷  -- {title}\n"
 
 
 def main():

@@ -3,8 +3,9 @@
 
 A fresh number is the counter. An entry takes a slot of eight words (kind, number, node counts of
 its two types) and its nodes go on top of the others, from word 4,096 on. A solution's nodes follow the others from word
-2,000 of the book on; words 2k and 2k+1 are its start and its count. Then the longest chain that a book holds, followed from its first
-unknown. Usage: operations.py > crates/operations_run/stdout
+3,000 of the book on; words 3k and 3k+1 are its start and its count. Word 3k+2 is for the level: 0 for a number's own one as long as the
+run goes on, else one more than the level, to which a solution lowers the unknowns in it. Then the longest chain that a book holds,
+followed from its first unknown. Usage: operations.py > crates/operations_run/stdout
 """
 import sys
 
@@ -22,7 +23,7 @@ def write_out(solutions, nodes):
 
 
 def main():
-    fresh, entries, solutions = 0, [], {}
+    fresh, entries, solutions, levels = 0, [], {}, {}
     written = []
     for _ in range(2):
         a, b = fresh, fresh + 1
@@ -31,6 +32,7 @@ def main():
         entries.append((UNKNOWN, a, [], []))
         entries.append((SUB, 0, [(UNKNOWN, a)], arrow))
         solutions[a] = arrow
+        levels[b] = levels.get(a, a)
         written = write_out(solutions, [(UNKNOWN, a)])
         entries.append((VAR, 10, written, []))
 
@@ -41,12 +43,14 @@ def main():
             board[4096 + 2 * nodes:4098 + 2 * nodes] = node
             nodes += 1
 
-    book, used = [0] * 10192 + [7, 7], 0
+    book, used = [0] * 11192 + [7, 7], 0
     for k, nodes_of in solutions.items():
-        book[2 * k:2 * k + 2] = [2000 + 2 * used, len(nodes_of)]
+        book[3 * k:3 * k + 2] = [3000 + 2 * used, len(nodes_of)]
         for node in nodes_of:
-            book[2000 + 2 * used:2002 + 2 * used] = node
+            book[3000 + 2 * used:3002 + 2 * used] = node
             used += 1
+    for k, level in levels.items():
+        book[3 * k + 2] = level + 1
 
     report = [0] * 4096 + [7]
     for i, node in enumerate(written):

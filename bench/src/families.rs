@@ -5,6 +5,7 @@
 
 use reference::generate::types::{app, arrow, forall, sized, Ty, INT};
 use reference::generate::{limits, sheet};
+use reference::oracle::Door;
 use reference::sheet::{line, Line};
 use reference::wall::long_sheet;
 use std::collections::BTreeMap;
@@ -23,12 +24,27 @@ pub enum Shape {
 
 pub struct Family {
     pub title: &'static str,
+    pub door: Door,
     pub shape: Shape,
     pub make: fn(usize) -> Lines,
 }
 
 const fn family(title: &'static str, shape: Shape, make: fn(usize) -> Lines) -> Family {
-    Family { title, shape, make }
+    let door = Door::First;
+    Family {
+        title,
+        door,
+        shape,
+        make,
+    }
+}
+
+/// Put to the strict call, which accepts it too.
+const fn strict(title: &'static str, make: fn(usize) -> Lines) -> Family {
+    Family {
+        door: Door::Strict,
+        ..family(title, Shape::Other, make)
+    }
 }
 
 pub const PLAIN: [Family; 10] = [
@@ -44,11 +60,17 @@ pub const PLAIN: [Family; 10] = [
     family("Constructor", Shape::Wide, constructor),
 ];
 
-pub const QUANTIFIED: [Family; 4] = [
+pub const QUANTIFIED: [Family; 5] = [
     family("Foralls", Shape::Other, foralls),
     family("TypeLambdas", Shape::Other, type_lambdas),
     family("identity", Shape::Other, identities),
     family("Foralls compared", Shape::Other, compared),
+    family("lowered", Shape::Other, lowered),
+];
+
+pub const STRICT: [Family; 2] = [
+    strict("strict compared", compared),
+    strict("strict lowered", lowered),
 ];
 
 /// 7 as Int.
@@ -95,6 +117,18 @@ pub fn large_by_solutions() -> Lines {
     ]);
     (0..ARMS).for_each(|_| term.extend([line(43, 20, 0), seven()]));
     plan(&[(20, pattern)], &context, &INT, term)
+}
+
+/// A solution of 60 unknowns that is given to 64 ever older unknowns, one after
+/// the other, so that each lowers all levels in it; the book is nearly full.
+pub fn lowered_again() -> Lines {
+    let names = names(60);
+    let product = Ty::Product(names.iter().map(|name| Ty::Var(*name)).collect());
+    let open = names
+        .into_iter()
+        .rev()
+        .fold(product, |ty, name| forall(name, ty));
+    plan(&[(20, open)], &[], &INT, any_of(cases(62, made(0))))
 }
 
 /// 7 as Int beside 600 quantified entries, none of which it names.
@@ -335,6 +369,30 @@ fn identities(lines: usize) -> Lines {
     let call = [vec![APPLY, var(40)], made(10)].concat();
     let terms = vec![call; fitting(lines, 9, 14)];
     plan(&[(20, INT)], &[(40, identity)], &INT, left_nest(&terms))
+}
+
+/// A Case with no arm of a term of any type.
+fn any_of(term: Lines) -> Lines {
+    [vec![line(27, 0, 0)], term].concat()
+}
+
+/// A term in so many Cases with one arm: its type becomes the solution of an
+/// older unknown at each.
+fn cases(levels: usize, term: Lines) -> Lines {
+    let case = [line(27, 0, 1), seven(), line(41, 0, 0)];
+    [case.repeat(levels), term].concat()
+}
+
+/// A sum of constructors of their own, each a product of two unknowns, ten
+/// times, which is given to three ever older unknowns.
+fn lowered(lines: usize) -> Lines {
+    let names = names(fitting(lines, 3, 20));
+    let product = Ty::Product(vec![[Ty::Var(10), Ty::Var(11)]; 5].concat());
+    let open = forall(10, forall(11, product));
+    let entries: Vec<_> = names.iter().map(|name| (*name, open.clone())).collect();
+    let term = |name: &u32| any_of(cases(1, vec![line(26, *name as i64, 0)]));
+    let terms: Vec<_> = names.iter().map(term).collect();
+    plan(&entries, &[], &INT, flat(&terms))
 }
 
 /// Lambdas whose parameters have quantified types, compared with others that

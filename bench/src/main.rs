@@ -91,6 +91,7 @@ fn run(options: &Options) -> Result<(), String> {
 fn row(turns: Turns, check: Check, plan: Plan) -> Result<Row, String> {
     let sheet = write(&plan.lines);
     let call = Call {
+        door: plan.door,
         sheet: &sheet,
         ceiling: MOST_STEPS,
         limit: plan.limit,

@@ -71,7 +71,7 @@ impl Dirty {
 /// The Rust's `check_type`, our whole call, and the floor.
 pub fn measure(turns: Turns, check: Check, plan: &Plan, call: &Call) -> Measured {
     let (mut our_buffers, mut floor_buffers) = (Dirty::new(call.lengths), Dirty::new(call.lengths));
-    let (sheet, limit) = (call.sheet, call.limit);
+    let (door, sheet, limit) = (call.door, call.sheet, call.limit);
     let [rust, ours, floor] = by_turns(
         turns,
         [
@@ -79,7 +79,10 @@ pub fn measure(turns: Turns, check: Check, plan: &Plan, call: &Call) -> Measured
                 let mut rust = inference(plan);
                 time(|| rust.check_type(black_box(&plan.term), &plan.expected))
             },
-            &mut || our_buffers.time(|buffers| check(black_box(sheet), MOST_STEPS, limit, buffers)),
+            &mut || {
+                our_buffers
+                    .time(|buffers| check(door, black_box(sheet), MOST_STEPS, limit, buffers))
+            },
             &mut || floor_buffers.time(|buffers| floor(black_box(sheet), buffers)),
         ],
     );

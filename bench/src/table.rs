@@ -67,7 +67,7 @@ fn quotient(left: Duration, right: Duration) -> f64 {
 pub fn print_heads(total: Duration) {
     println!(
         "Rust: `check_type` alone, without making its inputs and freeing what it leaves; it has no limits.
-Ours: the whole call, reading the sheet included.
+Ours: the whole call, reading the sheet included; the strict call, which the Rust has not, for the plans called strict.
 Floor: clearing the three buffers and reading the sheet once by a plain loop.
 The buffers are made dirty before every timed call, outside of the timed part.
 Minimum and median of {total:?} of calls at least, by turns; the other columns are of the minimums.

@@ -1,12 +1,13 @@
 /*
  * Checks the sheet in a file or on standard input, and prints the seven numbers
  * in columns of 6, the types that the result reports, and on request the
- * solutions in order of solving.
+ * solutions in order of solving (-s) and the levels of the numbers made (-v).
  *
- *     check [-c CEILING] [-l LIMIT] [-b WORDS] [-s] [FILE]
+ *     check [--strict] [-c CEILING] [-l LIMIT] [-b WORDS] [-k WORDS] [-s] [-v] [FILE]
  *
- * WORDS is the length of the board, by default the least that is taken. The
- * report is as long as the limit asks.
+ * --strict makes it the strict call. WORDS are the lengths of the board (-b) and
+ * of the book (-k), by default the least that are taken. The report is as long as
+ * the limit asks.
  * Exit status: 0 accepted, 1 any other result, 2 not checked.
  *
  * Types are spelt as in the papers: n10 → Int, ∀n10. n10, a product (A × B), a
@@ -203,7 +204,7 @@ static uint32_t solved_at(uint32_t start)
 {
     uint32_t unknown = 0;
 
-    while (unknown < KIRVOGHUS_BOOK_UNKNOWNS && book[2 * unknown] != start)
+    while (unknown < KIRVOGHUS_BOOK_UNKNOWNS && book[3 * unknown] != start)
         unknown++;
     return unknown;
 }
@@ -215,7 +216,7 @@ static int print_solutions(void)
     uint32_t unknown;
 
     while ((unknown = solved_at(start)) < KIRVOGHUS_BOOK_UNKNOWNS) {
-        const uint32_t count = book[2 * unknown + 1];
+        const uint32_t count = book[3 * unknown + 1];
 
         if (count > (KIRVOGHUS_BOOK_WORDS - start) / KIRVOGHUS_NODE_WORDS)
             return 0;
@@ -224,6 +225,20 @@ static int print_solutions(void)
             return 0;
         start += KIRVOGHUS_NODE_WORDS * count;
     }
+    return 1;
+}
+
+/* The levels of the numbers made; those of universals are 0. */
+static int print_levels(uint32_t fresh)
+{
+    uint32_t number;
+
+    if (fresh > KIRVOGHUS_BOOK_UNKNOWNS)
+        return 0;
+    fputs("levels:", stdout);
+    for (number = 0; number < fresh; number++)
+        printf(" %lu", (unsigned long)book[3 * number + 2]);
+    putchar('\n');
     return 1;
 }
 
@@ -258,12 +273,23 @@ static void *area(size_t length, size_t size)
     return start;
 }
 
+/* What is asked for: the call with its numbers, and what is printed after it. */
+struct asked {
+    int strict;
+    uint32_t ceiling;
+    uint32_t limit;
+    uint32_t board_words;
+    uint32_t book_words;
+    int solutions;
+    int levels;
+};
+
 /* A limit that the library refuses needs no report. */
-static int make_buffers(uint32_t limit, uint32_t board_words)
+static int make_buffers(const struct asked *asked)
 {
-    report_words = limit <= KIRVOGHUS_LIMIT_MOST ? KIRVOGHUS_REPORT_WORDS(limit) : 0;
-    return (board = area(board_words, sizeof *board)) != NULL
-        && (book = area(KIRVOGHUS_BOOK_WORDS, sizeof *book)) != NULL
+    report_words = asked->limit <= KIRVOGHUS_LIMIT_MOST ? KIRVOGHUS_REPORT_WORDS(asked->limit) : 0;
+    return (board = area(asked->board_words, sizeof *board)) != NULL
+        && (book = area(asked->book_words, sizeof *book)) != NULL
         && (report = area(report_words, sizeof *report)) != NULL;
 }
 
@@ -299,17 +325,17 @@ static int was_run(uint32_t number)
 }
 
 /* Checks and prints; the exit status. */
-static int check(size_t length, uint32_t ceiling, uint32_t limit, uint32_t board_words, int solutions)
+static int check(size_t length, const struct asked *asked)
 {
     uint32_t result[KIRVOGHUS_NUMBERS];
     uint32_t number;
     int printed;
     int at;
 
-    number = kirvoghus_check_type(
-        sheet, length, ceiling, limit,
-        board, board_words,
-        book, KIRVOGHUS_BOOK_WORDS,
+    number = (asked->strict ? kirvoghus_check_type_strict : kirvoghus_check_type)(
+        sheet, length, asked->ceiling, asked->limit,
+        board, asked->board_words,
+        book, asked->book_words,
         report, report_words,
         result);
 
@@ -317,8 +343,10 @@ static int check(size_t length, uint32_t ceiling, uint32_t limit, uint32_t board
         printf("%6lu", (unsigned long)result[at]);
     putchar('\n');
     printed = print_report(result);
-    if (solutions && was_run(number))
+    if (asked->solutions && was_run(number))
         printed = printed && print_solutions();
+    if (asked->levels && was_run(number))
+        printed = printed && print_levels(result[KIRVOGHUS_FRESH]);
     if (fflush(stdout) != 0 || ferror(stdout))
         return NOT_CHECKED;
     if (!printed) {
@@ -330,32 +358,38 @@ static int check(size_t length, uint32_t ceiling, uint32_t limit, uint32_t board
 
 static int usage(void)
 {
-    fputs("usage: check [-c CEILING] [-l LIMIT] [-b WORDS] [-s] [FILE]\n", stderr);
+    fputs("usage: check [--strict] [-c CEILING] [-l LIMIT] [-b WORDS] [-k WORDS] [-s] [-v] [FILE]\n", stderr);
     return NOT_CHECKED;
 }
 
 int main(int count, char **words)
 {
-    uint32_t ceiling = KIRVOGHUS_CEILING;
-    uint32_t limit = KIRVOGHUS_LIMIT;
-    uint32_t board_words = KIRVOGHUS_BOARD_WORDS;
+    struct asked asked = {
+        0, KIRVOGHUS_CEILING, KIRVOGHUS_LIMIT, KIRVOGHUS_BOARD_WORDS, KIRVOGHUS_BOOK_WORDS, 0, 0,
+    };
     const char *name = NULL;
     size_t length = 0;
-    int solutions = 0;
     int status = NOT_CHECKED;
     int at;
 
     for (at = 1; at < count; at++) {
-        if (strcmp(words[at], "-s") == 0) {
-            solutions = 1;
+        if (strcmp(words[at], "--strict") == 0) {
+            asked.strict = 1;
+        } else if (strcmp(words[at], "-s") == 0) {
+            asked.solutions = 1;
+        } else if (strcmp(words[at], "-v") == 0) {
+            asked.levels = 1;
         } else if (strcmp(words[at], "-c") == 0) {
-            if (++at == count || !read_number(words[at], &ceiling))
+            if (++at == count || !read_number(words[at], &asked.ceiling))
                 return usage();
         } else if (strcmp(words[at], "-l") == 0) {
-            if (++at == count || !read_number(words[at], &limit))
+            if (++at == count || !read_number(words[at], &asked.limit))
                 return usage();
         } else if (strcmp(words[at], "-b") == 0) {
-            if (++at == count || !read_number(words[at], &board_words))
+            if (++at == count || !read_number(words[at], &asked.board_words))
+                return usage();
+        } else if (strcmp(words[at], "-k") == 0) {
+            if (++at == count || !read_number(words[at], &asked.book_words))
                 return usage();
         } else if (name != NULL || words[at][0] == '-') {
             return usage();
@@ -363,8 +397,8 @@ int main(int count, char **words)
             name = words[at];
         }
     }
-    if (make_buffers(limit, board_words) && read_sheet(name, &length))
-        status = check(length, ceiling, limit, board_words, solutions);
+    if (make_buffers(&asked) && read_sheet(name, &length))
+        status = check(length, &asked);
     free(sheet);
     free(board);
     free(book);

@@ -1,6 +1,7 @@
 #!/bin/sh
 # Runs the C program under valgrind's memory checker: on plans of the recorded answers, up to 20
-# of each result number, on some of these cut short or misspelt, and on the sheets of `cases`.
+# of each call and result number, on some of these cut short or misspelt, and on the sheets of
+# `cases`.
 # The seven numbers are compared with the recorded ones. KIRVOGHUS_LIB is as in run.sh.
 # Last line: how many sheets, and on how many of them the checker found an error or the numbers
 # are others. Exit status: 0 if there are 200 sheets and no error, 2 if nothing was run, else 1.
@@ -21,7 +22,7 @@ awk -v folder=target/memcheck -v most=20 '
 function sheet(lines, last,    at, file) {
     file = folder "/" ++count ".sheet"
     for (at = 0; at < lines; at++)
-        printf "%3s%20s%5s%s", $(3 + 3 * at), $(4 + 3 * at), $(5 + 3 * at), at < lines - 1 ? "\n" : last > file
+        printf "%3s%20s%5s%s", $(4 + 3 * at), $(5 + 3 * at), $(6 + 3 * at), at < lines - 1 ? "\n" : last > file
     close(file)
 }
 function expected(text, options,    file) {
@@ -34,21 +35,22 @@ function seven(a, b, c, d, e, f, g) {
     return sprintf("%6s%6s%6s%6s%6s%6s%6s", a, b, c, d, e, f, g)
 }
 /^#/ { next }
-{ lines = $2; at = 3 + 3 * lines; number = $at }
-FNR == NR { of[number]++; next }
+{ call = $1; lines = $3; at = 4 + 3 * lines; number = $at; key = call " " number }
+FNR == NR { of[key]++; next }
 {
-    met = seen[number]++
-    if (met > 0 && int(met * most / of[number]) == int((met - 1) * most / of[number]))
-        if (of[number] > most)
+    met = seen[key]++
+    if (met > 0 && int(met * most / of[key]) == int((met - 1) * most / of[key]))
+        if (of[key] > most)
             next
+    options = "-s -v" (call == 2 ? " --strict" : "")
     sheet(lines, "\n")
-    expected(seven(number, $(at + 1), $(at + 2), $(at + 3), $(at + 4), $(at + 5), $(at + 6)), "-s -c " $1)
+    expected(seven(number, $(at + 1), $(at + 2), $(at + 3), $(at + 4), $(at + 5), $(at + 6)), options " -c " $2)
     # Without the last LF, and with a space for it: document 01 says 3, and 4 with the line.
     if (++chosen % 20 == 1) {
         sheet(lines, "")
-        expected(seven(3, 0, 0, 0, 0, 0, 0), "-s")
+        expected(seven(3, 0, 0, 0, 0, 0, 0), options)
         sheet(lines, " ")
-        expected(seven(4, lines, 0, 0, 0, 0, 0), "-s")
+        expected(seven(4, lines, 0, 0, 0, 0, 0), options)
     }
 }' "$recorded" "$recorded" || exit 2
 

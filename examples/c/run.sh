@@ -46,12 +46,19 @@ while read -r case sheet options; do
     compare "$case" $?
 done < cases
 
-# Two plans side by side: each gets the numbers that it gets alone.
+# Two plans side by side, each by its call: each gets the numbers that it gets alone.
 before=
 while read -r case sheet options; do
-    [ -z "$options" ] || [ "$options" = -s ] || continue
+    call=
+    for option in $options; do
+        case $option in
+            -s | -v) ;;
+            --strict) call=--strict ;;
+            *) continue 2 ;;
+        esac
+    done
     if [ -n "$before" ]; then
-        target/two "sheets/$before_sheet.sheet" "sheets/$sheet.sheet" > target/output
+        target/two $before_call "sheets/$before_sheet.sheet" $call "sheets/$sheet.sheet" > target/output
         if { head -n 1 "sheets/$before.expected"; head -n 1 "sheets/$case.expected"; } | diff -u - target/output; then
             echo "ok        $before beside $case"
         else
@@ -59,7 +66,7 @@ while read -r case sheet options; do
             failed=1
         fi
     fi
-    before=$case before_sheet=$sheet
+    before=$case before_sheet=$sheet before_call=$call
 done < cases
 
 # 2,001 lines, on standard input.

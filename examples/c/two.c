@@ -2,14 +2,16 @@
  * Checks two plans side by side, each in a thread of its own, and prints the
  * seven numbers of the first and of the second.
  *
- *     two FILE FILE
+ *     two [--strict] FILE [--strict] FILE
  *
+ * --strict makes the call for the next file the strict one.
  * Their boards stand in the memory of one board of before, 16,384 words, and of
  * the words that each of the two boards is shorter now.
  * Exit status: 0 checked, 2 not checked.
  */
 #include <pthread.h>
 #include <stdio.h>
+#include <string.h>
 
 #include "kirvoghus.h"
 
@@ -22,6 +24,7 @@ enum { NOT_CHECKED = 2 };
 static uint32_t boards[BOARD_BEFORE + 2 * FREED];
 
 struct desk {
+    int strict;
     uint8_t sheet[KIRVOGHUS_SHEET_BYTES + 1];
     size_t sheet_bytes;
     uint32_t *board;
@@ -38,7 +41,7 @@ static void *check(void *given)
 {
     struct desk *desk = given;
 
-    kirvoghus_check_type(
+    (desk->strict ? kirvoghus_check_type_strict : kirvoghus_check_type)(
         desk->sheet, desk->sheet_bytes, KIRVOGHUS_CEILING, KIRVOGHUS_LIMIT,
         desk->board, desk->board_words,
         desk->book, KIRVOGHUS_BOOK_WORDS,
@@ -73,14 +76,21 @@ static void print_result(const struct desk *desk)
 
 int main(int count, char **words)
 {
+    struct desk *const desks[] = {&first, &second};
     pthread_t thread;
+    int read = 0;
+    int at;
 
-    if (count != 3) {
-        fputs("usage: two FILE FILE\n", stderr);
+    for (at = 1; at < count && read < 2; at++) {
+        if (strcmp(words[at], "--strict") == 0)
+            desks[read]->strict = 1;
+        else if (!read_sheet(desks[read++], words[at]))
+            return NOT_CHECKED;
+    }
+    if (read < 2 || at < count) {
+        fputs("usage: two [--strict] FILE [--strict] FILE\n", stderr);
         return NOT_CHECKED;
     }
-    if (!read_sheet(&first, words[1]) || !read_sheet(&second, words[2]))
-        return NOT_CHECKED;
     first.board = boards;
     first.board_words = KIRVOGHUS_BOARD_WORDS;
     second.board = boards + first.board_words;

@@ -2,6 +2,7 @@
 //! the Rust's answers to them, and the proved checker beside it.
 
 pub mod checks;
+pub mod compare;
 pub mod damage;
 pub mod generate;
 pub mod mark;
@@ -12,6 +13,7 @@ pub mod random;
 pub mod readers;
 pub mod record;
 pub mod sheet;
+mod stepwise;
 #[cfg(test)]
 mod tests;
 pub mod wall;

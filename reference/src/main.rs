@@ -2,35 +2,38 @@
 
 use reference::checks::expected;
 use reference::generate::limits::{self, Found};
-use reference::generate::{self, catalogue, compared, small, Made};
+use reference::generate::{self, catalogue, compared, scoped, small, Made};
 use reference::oracle::{
-    answer_call, answer_lines, answer_sheet, sizes, under_limit, Answer, LIMIT, MOST_STEPS,
+    answer_call, answer_lines, answer_sheet, sizes, under_limit, Answer, Door, LIMIT, MOST_STEPS,
 };
 use reference::plan::Node;
-use reference::{checks, readers, record, wall, with_stack};
+use reference::{compare, readers, record, wall, with_stack};
 use std::collections::BTreeMap;
 use std::fmt::Display;
 use std::io::{Read, Write};
 use std::process::ExitCode;
 
 const USAGE: &str = "usage: reference COMMAND
-  answer [--ceiling N] [--limit W] [--lengths B,K,R] [--words]
-                                       the answer to a call with the sheet on standard input and
-                                       buffers of so many words; with --words also the report's
-                                       words after it, each of which was 7
-  answer [--ceiling N] --limits E,N,W,F,S
+  answer [--strict] [--ceiling N] [--limit W] [--lengths B,K,R] [--words]
+                                       the answer to a call, the first or the strict one, with the
+                                       sheet on standard input and buffers of so many words; with
+                                       --words also the report's words after it, each of which was 7
+  answer [--strict] [--ceiling N] --limits E,N,W,F,S
                                        the answer to the sheet under other limits
-  generate --seed S --count N [--kind random|small|limits|picked|compared|catalogue] [--answers] [--limits E,N,W,F,S]
-                                       plans, one a line, in the format of src/record.rs; other
-                                       limits: entries, nodes, written out, fresh, solutions
+  generate --seed S --count N [--kind random|small|limits|picked|compared|catalogue|scoped] [--answers] [--strict] [--limits E,N,W,F,S]
+                                       plans, one a line, in the format of src/record.rs, for the
+                                       first or the strict call; other limits: entries, nodes,
+                                       written out, fresh, solutions
   record --out FILE                    the recorded list of plans and answers
   wall                                 document 01's plans on the wall
   readers --seed S --count N           this reader beside the proved one
   checks --seed S --count N --damaged M
                                        the Rust beside the proved checker: random plans, damaged
                                        sheets, the wall, the limits, small plans, short buffers,
-                                       limits that a caller picks, comparisons, catalogues
-  stats --seed S --count N             the share of each number among random plans";
+                                       limits that a caller picks, comparisons, catalogues, and
+                                       quantified plans under both calls
+  stats --seed S --count N [--kind random|scoped] [--strict]
+                                       the share of each number among random plans";
 
 fn main() -> ExitCode {
     let arguments: Vec<String> = std::env::args().skip(1).collect();
@@ -57,6 +60,13 @@ impl Options<'_> {
         self.0.iter().any(|word| word == name)
     }
 
+    fn door(&self) -> Door {
+        match self.has("--strict") {
+            true => Door::Strict,
+            false => Door::First,
+        }
+    }
+
     fn number<T: std::str::FromStr>(&self, name: &str, default: Option<T>) -> Result<T, String> {
         match (self.text(name), default) {
             (Some(text), _) => text.parse().map_err(|_| format!("{name}: not a number")),
@@ -79,15 +89,12 @@ fn command(arguments: &[String]) -> Result<bool, String> {
             options.number("--seed", None)?,
             options.number("--count", None)?,
         )),
-        "checks" => Ok(checks::compare(
+        "checks" => Ok(compare::compare(
             options.number("--seed", None)?,
             options.number("--count", None)?,
             options.number("--damaged", None)?,
         )),
-        "stats" => stats(
-            options.number("--seed", None)?,
-            options.number("--count", None)?,
-        ),
+        "stats" => stats(&options),
         _ => Err(format!("unknown command {name}")),
     }
 }
@@ -99,12 +106,12 @@ fn answer(options: &Options) -> Result<bool, String> {
     let ceiling = options.number("--ceiling", Some(MOST_STEPS))?;
     if options.has("--limits") {
         set_limits(options)?;
-        show_answer(&answer_sheet(&sheet, ceiling));
+        show_answer(&answer_sheet(options.door(), &sheet, ceiling));
         return Ok(true);
     }
     let limit = options.number("--limit", Some(LIMIT))?;
     let lengths = numbers(options, "--lengths")?.unwrap_or(sizes(limit));
-    let answer = answer_call(&sheet, ceiling, limit, lengths);
+    let answer = answer_call(options.door(), &sheet, ceiling, limit, lengths);
     show_answer(&answer);
     if options.has("--words") {
         let [_, _, report] = expected(&answer, limit, &lengths.map(|length| vec![7; length]));
@@ -120,6 +127,8 @@ fn show_answer(answer: &Answer) {
     for (unknown, nodes) in &answer.solutions {
         println!("^{unknown} :={}", spelt(nodes));
     }
+    let levels = answer.levels.iter().map(|level| format!(" {level}"));
+    println!("levels{}", levels.collect::<String>());
 }
 
 fn seven_columns(answer: &Answer) -> String {
@@ -150,31 +159,41 @@ fn set_limits(options: &Options) -> Result<(), String> {
     Ok(())
 }
 
+/// The plans themselves are made under document 01's limits.
 fn generate_plans(options: &Options) -> Result<bool, String> {
-    let answers = options.has("--answers");
-    set_limits(options)?;
     match options.text("--kind").unwrap_or("random") {
-        "random" => {
-            let (seed, count) = (
-                options.number("--seed", None)?,
-                options.number("--count", None)?,
-            );
-            generate::random(seed, count).for_each(|made| show(&made, answers));
-        }
-        "small" => {
-            let plans = small::plans();
-            let count = options
-                .number("--count", Some(plans.len()))?
-                .min(plans.len());
-            (0..count).for_each(|at| show(&plans[at * plans.len() / count], answers));
-        }
-        "limits" => show_found(&limits::plans(), answers),
-        "picked" => show_found(&limits::picked(), answers),
-        "compared" => show_made(options, compared::plans(), compared::random, answers)?,
-        "catalogue" => show_made(options, catalogue::plans(), catalogue::random, answers)?,
+        "random" => show_random(options, generate::random)?,
+        "small" => show_spread(options, &small::plans())?,
+        "limits" => show_found(options, &limits::plans())?,
+        "picked" => show_found(options, &limits::picked())?,
+        "compared" => show_made(options, compared::plans(), compared::random)?,
+        "catalogue" => show_made(options, catalogue::plans(), catalogue::random)?,
+        "scoped" => show_made(options, scoped::plans(), scoped::random)?,
         other => return Err(format!("unknown kind {other}")),
     }
     Ok(true)
+}
+
+fn show_random<I: Iterator<Item = Made>>(
+    options: &Options,
+    random: impl Fn(u64, usize) -> I,
+) -> Result<(), String> {
+    set_limits(options)?;
+    let (seed, count) = (
+        options.number("--seed", None)?,
+        options.number("--count", None)?,
+    );
+    random(seed, count).for_each(|made| show(options, &made));
+    Ok(())
+}
+
+/// All of them, or so many from first to last.
+fn show_spread(options: &Options, plans: &[Made]) -> Result<(), String> {
+    set_limits(options)?;
+    let count = options.number("--count", Some(plans.len()))?;
+    let count = count.min(plans.len());
+    (0..count).for_each(|at| show(options, &plans[at * plans.len() / count]));
+    Ok(())
 }
 
 /// Those made for it and, where a seed is given, random ones.
@@ -182,33 +201,31 @@ fn show_made<T: Display, I: Iterator<Item = Made>>(
     options: &Options,
     plans: Vec<(T, Made)>,
     random: impl Fn(u64, usize) -> I,
-    answers: bool,
 ) -> Result<(), String> {
+    set_limits(options)?;
     for (title, made) in plans {
         println!("# {title}");
-        show(&made, answers);
+        show(options, &made);
     }
-    if options.has("--seed") {
-        let (seed, count) = (
-            options.number("--seed", None)?,
-            options.number("--count", None)?,
-        );
-        random(seed, count).for_each(|made| show(&made, answers));
+    match options.has("--seed") {
+        true => show_random(options, random),
+        false => Ok(()),
+    }
+}
+
+fn show_found(options: &Options, plans: &[Found]) -> Result<(), String> {
+    set_limits(options)?;
+    for Found { title, made, limit } in plans {
+        println!("# {title}");
+        under_limit(*limit, || show(options, made));
     }
     Ok(())
 }
 
-fn show_found(plans: &[Found], answers: bool) {
-    for Found { title, made, limit } in plans {
-        println!("# {title}");
-        under_limit(*limit, || show(made, answers));
-    }
-}
-
-fn show(made: &Made, answers: bool) {
-    let line = match answers {
-        true => record::answered_line(made, &answer_lines(&made.lines, made.ceiling)),
-        false => record::plan_line(made),
+fn show(options: &Options, made: &Made) {
+    let line = match options.has("--answers") {
+        true => record::answered_line(options.door(), made),
+        false => record::plan_line(options.door(), made),
     };
     // A reader that has seen enough closes the pipe.
     if writeln!(std::io::stdout(), "{line}").is_err() {
@@ -224,15 +241,28 @@ fn record_list(path: &str) -> Result<bool, String> {
     Ok(true)
 }
 
-fn stats(seed: u64, count: usize) -> Result<bool, String> {
-    let mut numbers = BTreeMap::new();
-    for made in generate::random(seed, count) {
-        let number = answer_lines(&made.lines, made.ceiling).number;
+fn stats(options: &Options) -> Result<bool, String> {
+    let (seed, count) = (
+        options.number("--seed", None)?,
+        options.number("--count", None)?,
+    );
+    match options.text("--kind").unwrap_or("random") {
+        "random" => show_shares(options.door(), generate::random(seed, count)),
+        "scoped" => show_shares(options.door(), scoped::random(seed, count)),
+        other => return Err(format!("no random plans of kind {other}")),
+    }
+    Ok(true)
+}
+
+fn show_shares(door: Door, plans: impl Iterator<Item = Made>) {
+    let (mut numbers, mut count) = (BTreeMap::new(), 0);
+    for made in plans {
+        let number = answer_lines(door, &made.lines, made.ceiling).number;
         *numbers.entry(number).or_insert(0) += 1;
+        count += 1;
     }
     for (number, plans) in numbers {
         let share = 100.0 * plans as f64 / count as f64;
         println!("{number:3} {plans:8} {share:6.2} %");
     }
-    Ok(true)
 }

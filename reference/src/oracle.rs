@@ -1,13 +1,15 @@
 //! The answer to a plan, from the Rust run under the limits; wherever no limit
 //! is met, the Rust as it is must give the same, step by step and as
-//! `check_type`.
+//! `check_type`. The strict call must go as the first does, but for 39.
 
 use crate::mark::is_plain;
 use crate::plan::{name_number, nodes, unknown_number, Node, Plan};
 use crate::sheet::{self, Line, Refusal};
+use crate::stepwise::Stepwise;
+pub use limited::Door;
 use limited::{Limited, Passed, Peaks, Step};
 use plain::core::CoreType;
-use plain::errors::{TypeError, TypeResult};
+use plain::errors::TypeError;
 use plain::worklist::DKInference;
 use std::collections::HashMap;
 
@@ -19,7 +21,7 @@ pub const MOST_LIMIT: u32 = 4096;
 
 /// The least lengths of board, book and report for a limit.
 pub fn sizes(limit: u32) -> [usize; 3] {
-    [12_288, 10_192, 4 * limit as usize]
+    [12_288, 11_192, 4 * limit as usize]
 }
 
 /// `check_type` keeps a string of the whole term for each step; it is asked
@@ -27,7 +29,8 @@ pub fn sizes(limit: u32) -> [usize; 3] {
 const CHECK_TYPE_LINES: usize = 300;
 const CHECK_TYPE_STEPS: u32 = 3000;
 
-/// The seven numbers, the report and the solutions in order of solving.
+/// The seven numbers, the report, the solutions in order of solving and the
+/// levels of the numbers made.
 #[derive(Debug, Clone, PartialEq, Eq, Default)]
 pub struct Answer {
     pub number: u32,
@@ -37,8 +40,12 @@ pub struct Answer {
     pub details: (u32, u32),
     pub plain: u32,
     pub report: Vec<Node>,
-    pub solutions: Vec<(u32, Vec<Node>)>,
+    pub solutions: Vec<Solution>,
+    pub levels: Vec<u32>,
 }
+
+/// An unknown and the nodes that it was given.
+pub type Solution = (u32, Vec<Node>);
 
 impl Answer {
     pub fn refused(number: u32, line: u32) -> Self {
@@ -69,10 +76,18 @@ pub struct Run {
     pub answer: Answer,
     pub peaks: Peaks,
     pub passed: Option<Passed>,
+    /// The unknown whose split the last judgment has begun.
+    pub split: Option<u32>,
 }
 
 /// A whole call: 1, 32 and 2 before the sheet is looked at, then the Rust under the limit.
-pub fn answer_call(bytes: &[u8], ceiling: u32, limit: u32, lengths: [usize; 3]) -> Answer {
+pub fn answer_call(
+    door: Door,
+    bytes: &[u8],
+    ceiling: u32,
+    limit: u32,
+    lengths: [usize; 3],
+) -> Answer {
     let refused = [
         (1, ceiling > MOST_STEPS),
         (32, !(1..=MOST_LIMIT).contains(&limit)),
@@ -87,7 +102,7 @@ pub fn answer_call(bytes: &[u8], ceiling: u32, limit: u32, lengths: [usize; 3]) 
     if let Some((number, _)) = refused.into_iter().find(|(_, refused)| *refused) {
         return Answer::refused(number, 0);
     }
-    under_limit(limit, || answer_sheet(bytes, ceiling))
+    under_limit(limit, || answer_sheet(door, bytes, ceiling))
 }
 
 /// With another limit on written-out types.
@@ -98,24 +113,28 @@ pub fn under_limit<T>(limit: u32, run: impl FnOnce() -> T) -> T {
     result
 }
 
-pub fn answer_sheet(bytes: &[u8], ceiling: u32) -> Answer {
+pub fn answer_sheet(door: Door, bytes: &[u8], ceiling: u32) -> Answer {
     if ceiling > MOST_STEPS {
         return Answer::refused(1, 0);
     }
     match sheet::read(bytes) {
-        Ok(plan) => answer_plan(&plan, ceiling).answer,
+        Ok(plan) => answer_plan(door, &plan, ceiling).answer,
         Err(Refusal { number, line }) => Answer::refused(number, line),
     }
 }
 
 /// The same for a sheet given by its lines.
-pub fn answer_lines(lines: &[Line], ceiling: u32) -> Answer {
-    answer_sheet(&sheet::write(lines), ceiling)
+pub fn answer_lines(door: Door, lines: &[Line], ceiling: u32) -> Answer {
+    answer_sheet(door, &sheet::write(lines), ceiling)
 }
 
-/// Panics where the two inclusions of the Rust differ.
-pub fn answer_plan(plan: &Plan, ceiling: u32) -> Run {
-    let run = run_limited(plan, ceiling);
+/// Panics where the two inclusions of the Rust differ, or the two calls in
+/// anything but 39.
+pub fn answer_plan(door: Door, plan: &Plan, ceiling: u32) -> Run {
+    let run = run_limited(door, plan, ceiling);
+    if door == Door::Strict {
+        assert_strict(plan, ceiling, &run.answer);
+    }
     match run.passed {
         Some(_) => assert_before(plan, &run.answer),
         None => assert_eq!(run_plain(plan, ceiling), run.answer, "{plan:?}"),
@@ -162,8 +181,9 @@ fn end_of_error(error: &TypeError) -> End {
 }
 
 /// The limited run alone.
-pub fn run_limited(plan: &Plan, ceiling: u32) -> Run {
+pub fn run_limited(door: Door, plan: &Plan, ceiling: u32) -> Run {
     let mut rust = Limited::start(
+        door,
         plan.constructors.iter().cloned(),
         plan.context.iter().cloned(),
         plan.term.clone(),
@@ -190,11 +210,13 @@ pub fn run_limited(plan: &Plan, ceiling: u32) -> Run {
     };
     let solutions = rust.solutions();
     let solutions = solutions.map(|(name, ty)| (unknown_number(name), nodes(ty)));
-    let answer = answer_of(plan, end, taken, rust.fresh(), solutions.collect());
+    let levels = rust.levels().iter().map(|level| *level as u32);
+    let answer = answer_of(plan, end, taken, solutions.collect(), levels.collect());
     Run {
         answer,
         peaks: rust.peaks(),
         passed,
+        split: rust.split().map(|unknown| unknown as u32),
     }
 }
 
@@ -202,62 +224,20 @@ fn answer_of(
     plan: &Plan,
     end: End,
     taken: u32,
-    fresh: usize,
-    solutions: Vec<(u32, Vec<Node>)>,
+    solutions: Vec<Solution>,
+    levels: Vec<u32>,
 ) -> Answer {
     let (number, details, report) = end;
     Answer {
         number,
         line: 0,
         taken,
-        fresh: fresh as u32,
+        fresh: levels.len() as u32,
         details,
         plain: is_plain(plan) as u32,
         report,
         solutions,
-    }
-}
-
-/// The Rust as it is, one entry at a time.
-struct Stepwise {
-    rust: DKInference,
-    taken: u32,
-    solutions: Vec<(u32, Vec<Node>)>,
-}
-
-impl Stepwise {
-    fn start(plan: &Plan) -> Self {
-        let mut rust = inference(plan);
-        rust.start(plan.term.clone(), plan.expected.clone());
-        Stepwise {
-            rust,
-            taken: 0,
-            solutions: Vec::new(),
-        }
-    }
-
-    fn step(&mut self) -> Option<TypeResult<()>> {
-        let result = self.rust.step()?;
-        self.taken += 1;
-        self.note_solution();
-        Some(result)
-    }
-
-    /// The map has no order, so what is new in it is looked for after a step.
-    fn note_solution(&mut self) {
-        let solved = self.rust.solved();
-        let known = self.solutions.len();
-        assert!(solved.len() <= known + 1, "two solutions in one step");
-        if solved.len() == known {
-            return;
-        }
-        let is_new = |name: &&String| {
-            let unknown = unknown_number(name);
-            self.solutions.iter().all(|(old, _)| *old != unknown)
-        };
-        let name = solved.keys().find(is_new).expect("one is new");
-        let solution = (unknown_number(name), nodes(&solved[name]));
-        self.solutions.push(solution);
+        levels,
     }
 }
 
@@ -280,10 +260,11 @@ fn run_plain(plan: &Plan, ceiling: u32) -> Answer {
             Some(Err(error)) => break end_of_error(&error),
         }
     };
-    answer_of(plan, end, run.taken, run.rust.fresh(), run.solutions)
+    answer_of(plan, end, run.taken, run.solutions, run.levels)
 }
 
-/// Up to the step that met a limit, the Rust as it is must have gone alike.
+/// Up to the step that met a limit, the Rust as it is must have gone alike; no
+/// step that is refused after its solution lowers a level.
 fn assert_before(plan: &Plan, answer: &Answer) {
     let mut run = Stepwise::start(plan);
     for _ in 1..answer.taken {
@@ -291,7 +272,33 @@ fn assert_before(plan: &Plan, answer: &Answer) {
     }
     assert!(!run.rust.is_done(), "{plan:?}");
     assert!(answer.solutions.starts_with(&run.solutions), "{plan:?}");
-    assert!(run.rust.fresh() as u32 <= answer.fresh, "{plan:?}");
+    assert!(answer.levels.starts_with(&run.levels), "{plan:?}");
+}
+
+/// Where the strict call gives another answer, it is 39 at the step with the
+/// first solution that is out of scope; until then it went alike.
+fn assert_strict(plan: &Plan, ceiling: u32, strict: &Answer) {
+    let first = |ceiling| run_limited(Door::First, plan, ceiling).answer;
+    let in_scope = |solution| is_in_scope(solution, &strict.levels);
+    assert!(strict.solutions.iter().all(in_scope), "{plan:?}");
+    if strict.number != 39 {
+        return assert_eq!(first(ceiling), *strict, "{plan:?}");
+    }
+    let (before, after) = (first(strict.taken - 1), first(strict.taken));
+    assert_eq!(before.number, 21, "{plan:?}");
+    assert_eq!(before.solutions, strict.solutions, "{plan:?}");
+    assert!(strict.levels.starts_with(&before.levels), "{plan:?}");
+    let refused = after.solutions.get(strict.solutions.len());
+    let out_of_scope = refused.is_some_and(|it| !is_in_scope(it, &strict.levels));
+    assert!(out_of_scope || after.number == 25, "{plan:?}");
+}
+
+/// By the levels at any later time: a solved unknown keeps its level.
+fn is_in_scope((unknown, nodes): &Solution, levels: &[u32]) -> bool {
+    let level = levels[*unknown as usize];
+    !nodes
+        .iter()
+        .any(|(kind, number)| *kind == 18 && *number > level)
 }
 
 fn assert_check_type(plan: &Plan, answer: &Answer) {

@@ -1,13 +1,14 @@
 //! The proved checker and its reader, from the static library that build.rs
 //! links with the feature `proved`.
 
+use crate::oracle::Door;
 use crate::sheet::Refusal;
 
 /// Board, book and report.
 pub type Buffers = [Vec<u32>; 3];
 
-/// Sheet, ceiling, limit and buffers to the number returned and the seven.
-pub type Check = fn(&[u8], u32, u32, &mut Buffers) -> (u32, [u32; 7]);
+/// Call, sheet, ceiling, limit and buffers to the number returned and the seven.
+pub type Check = fn(Door, &[u8], u32, u32, &mut Buffers) -> (u32, [u32; 7]);
 
 /// Number and line, both 0 for a plan.
 pub type Read = fn(&[u8]) -> Refusal;
@@ -37,11 +38,24 @@ const PROVED: Option<Proved> = Some(Proved {
 
 #[cfg(feature = "proved")]
 mod linked {
-    use super::{Buffers, Refusal};
+    use super::{Buffers, Door, Refusal};
 
     extern "C" {
         fn kirvoghus_read_sheet(sheet: *const u8, len: usize, line: *mut u32) -> u32;
         fn kirvoghus_check_type(
+            sheet: *const u8,
+            sheet_len: usize,
+            ceiling: u32,
+            limit: u32,
+            board: *mut u32,
+            board_len: usize,
+            book: *mut u32,
+            book_len: usize,
+            report: *mut u32,
+            report_len: usize,
+            result: *mut [u32; 7],
+        ) -> u32;
+        fn kirvoghus_check_type_strict(
             sheet: *const u8,
             sheet_len: usize,
             ceiling: u32,
@@ -63,12 +77,22 @@ mod linked {
         Refusal { number, line }
     }
 
-    pub fn check(sheet: &[u8], ceiling: u32, limit: u32, buffers: &mut Buffers) -> (u32, [u32; 7]) {
+    pub fn check(
+        door: Door,
+        sheet: &[u8],
+        ceiling: u32,
+        limit: u32,
+        buffers: &mut Buffers,
+    ) -> (u32, [u32; 7]) {
+        let entry = match door {
+            Door::First => kirvoghus_check_type,
+            Door::Strict => kirvoghus_check_type_strict,
+        };
         let [board, book, report] = buffers;
         let mut result = [u32::MAX; 7];
         // The library stays within the lengths that it is told.
         let number = unsafe {
-            kirvoghus_check_type(
+            entry(
                 sheet.as_ptr(),
                 sheet.len(),
                 ceiling,

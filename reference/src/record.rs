@@ -1,10 +1,12 @@
-//! Plans with their answers as lines of decimal numbers: ceiling, line count,
-//! the lines by threes; the seven numbers; the count of report nodes and the
-//! nodes; the count of solutions and, for each, unknown, node count and nodes.
+//! Plans with their answers as lines of decimal numbers: call (1 the first, 2 the
+//! strict one), ceiling, line count, the lines by threes; the seven numbers; the
+//! count of report nodes and the nodes; the count of solutions and, for each,
+//! unknown, node count and nodes; the levels, as many as the fourth of the seven
+//! says.
 
 use crate::damage::damaged_lines;
-use crate::generate::{limits, random, small, Made};
-use crate::oracle::{answer_lines, Answer, MOST_STEPS};
+use crate::generate::{limits, random, scoped, small, Made};
+use crate::oracle::{answer_lines, Answer, Door, MOST_STEPS};
 use crate::plan::Node;
 use crate::random::Random;
 use crate::wall;
@@ -14,15 +16,27 @@ const RANDOM: usize = 2050;
 const SMALL: usize = 1000;
 const CEILINGS: usize = 120;
 const REFUSED: usize = 120;
+const SCOPED: usize = 200;
+/// The most lines of a plan that was made to be out of scope or amid a split.
+const SCOPED_LINES: usize = 300;
 
-pub fn plan_line(made: &Made) -> String {
-    let mut numbers = vec![made.ceiling as i64, made.lines.len() as i64];
+pub fn plan_line(door: Door, made: &Made) -> String {
+    let call = match door {
+        Door::First => 1,
+        Door::Strict => 2,
+    };
+    let mut numbers = vec![call, made.ceiling as i64, made.lines.len() as i64];
     let lines = made.lines.iter();
     numbers.extend(lines.flat_map(|line| [line.kind, line.value, line.count]));
     join(numbers)
 }
 
-pub fn answered_line(made: &Made, answer: &Answer) -> String {
+pub fn answered_line(door: Door, made: &Made) -> String {
+    let answer = answer_lines(door, &made.lines, made.ceiling);
+    format!("{} {}", plan_line(door, made), answer_numbers(&answer))
+}
+
+fn answer_numbers(answer: &Answer) -> String {
     let mut numbers = answer.seven().to_vec();
     numbers.push(answer.report.len() as u32);
     add_nodes(&answer.report, &mut numbers);
@@ -31,7 +45,8 @@ pub fn answered_line(made: &Made, answer: &Answer) -> String {
         numbers.extend([*unknown, nodes.len() as u32]);
         add_nodes(nodes, &mut numbers);
     }
-    format!("{} {}", plan_line(made), join(numbers))
+    numbers.extend(&answer.levels);
+    join(numbers)
 }
 
 fn add_nodes(nodes: &[Node], numbers: &mut Vec<u32>) {
@@ -49,7 +64,7 @@ pub fn list() -> String {
         "# Plans and the answers of the Rust module, one a line; the format is in src/record.rs.\n\
          # Made by: reference record --out answers\n",
     );
-    let parts = [
+    let first = [
         from_wall(),
         by_seed(),
         spread(),
@@ -57,9 +72,12 @@ pub fn list() -> String {
         ceilings(),
         refused(),
     ];
-    for made in parts.concat() {
-        let answer = answer_lines(&made.lines, made.ceiling);
-        text += &answered_line(&made, &answer);
+    let first = first.concat().into_iter().map(|made| (Door::First, made));
+    let both = in_scope()
+        .into_iter()
+        .flat_map(|made| [(Door::First, made.clone()), (Door::Strict, made)]);
+    for (door, made) in first.chain(both) {
+        text += &answered_line(door, &made);
         text.push('\n');
     }
     text
@@ -99,7 +117,7 @@ fn ceilings() -> Vec<Made> {
     let plans = random(SEED + 1, CEILINGS).enumerate();
     plans
         .map(|(at, made)| {
-            let taken = answer_lines(&made.lines, MOST_STEPS).taken;
+            let taken = answer_lines(Door::First, &made.lines, MOST_STEPS).taken;
             let ceiling = [taken, taken - 1, taken / 2][at % 3];
             Made { ceiling, ..made }
         })
@@ -114,4 +132,19 @@ fn refused() -> Vec<Made> {
         lines: damaged_lines(&mut numbers, &made.lines),
     });
     plans.collect()
+}
+
+/// Those made for it and random ones, of which one in three is out of scope.
+fn in_scope() -> Vec<Made> {
+    let made = scoped::plans().into_iter().map(|(_, made)| made);
+    let made = made.filter(|made| made.lines.len() <= SCOPED_LINES);
+    let is_out = |made: &Made| answer_lines(Door::Strict, &made.lines, made.ceiling).number == 39;
+    let (mut out, mut others) = (SCOPED / 3, SCOPED - SCOPED / 3);
+    let random = scoped::random(SEED + 3, usize::MAX).filter(|made| {
+        let left = if is_out(made) { &mut out } else { &mut others };
+        let taken = *left > 0;
+        *left -= usize::from(taken);
+        taken
+    });
+    made.chain(random.take(SCOPED)).collect()
 }

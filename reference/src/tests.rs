@@ -1,10 +1,12 @@
 //! The reader's refusals, round trips, the wall, the plain mark, and both
 //! inclusions of the Rust on generated plans (`answer_plan` panics where they differ).
 
+mod scope;
+
 use crate::generate::{limits, random, small};
 use crate::mark::is_plain;
 use crate::oracle::{
-    answer_call, answer_lines, answer_plan, answer_sheet, sizes, under_limit, Answer, LIMIT,
+    answer_call, answer_lines, answer_plan, answer_sheet, sizes, under_limit, Answer, Door, LIMIT,
     MOST_LIMIT, MOST_STEPS,
 };
 use crate::sheet::{line, read, read_lines, read_plan, write, Line, Refusal, LINE};
@@ -142,7 +144,7 @@ fn what_is_written_is_read() {
 #[test]
 fn wall_is_as_document_01_says() {
     for wall in plans() {
-        let answer = answer_lines(&wall.lines, wall.ceiling);
+        let answer = answer_lines(Door::First, &wall.lines, wall.ceiling);
         assert_eq!(difference(&wall, &answer), "", "{}", wall.title);
     }
 }
@@ -159,7 +161,7 @@ fn instantiate_right_is_as_in_the_rust() {
         taken,
         fresh,
         ..
-    } = answer_lines(&plan, MOST_STEPS);
+    } = answer_lines(Door::First, &plan, MOST_STEPS);
     assert_eq!((number, taken, fresh), (15, 14, 6));
 }
 
@@ -167,7 +169,7 @@ fn instantiate_right_is_as_in_the_rust() {
 fn both_inclusions_agree_on_random_plans() {
     with_stack(|| {
         for made in random(6, 4000) {
-            answer_lines(&made.lines, made.ceiling);
+            answer_lines(Door::First, &made.lines, made.ceiling);
         }
     });
 }
@@ -175,7 +177,7 @@ fn both_inclusions_agree_on_random_plans() {
 #[test]
 fn both_inclusions_agree_on_small_plans() {
     for made in small::plans().iter().step_by(10) {
-        answer_lines(&made.lines, made.ceiling);
+        answer_lines(Door::First, &made.lines, made.ceiling);
     }
 }
 
@@ -184,7 +186,7 @@ fn limits_are_met_and_passed() {
     let numbers = with_stack(|| {
         let numbers = limits::plans().into_iter().map(|found| {
             let plan = read_plan(&found.made.lines).expect("a plan");
-            let run = answer_plan(&plan, found.made.ceiling);
+            let run = answer_plan(Door::First, &plan, found.made.ceiling);
             (found.title, run.answer.number)
         });
         numbers.collect::<Vec<_>>()
@@ -199,11 +201,11 @@ fn limits_are_met_and_passed() {
 
 #[test]
 fn ceiling_is_refused_first() {
-    assert_eq!(
-        answer_sheet(b"", MOST_STEPS + 1).seven(),
-        [1, 0, 0, 0, 0, 0, 0]
-    );
-    assert_eq!(answer_sheet(b"", MOST_STEPS).seven(), [3, 0, 0, 0, 0, 0, 0]);
+    for door in [Door::First, Door::Strict] {
+        let seven = |ceiling| answer_sheet(door, b"", ceiling).seven();
+        assert_eq!(seven(MOST_STEPS + 1), [1, 0, 0, 0, 0, 0, 0]);
+        assert_eq!(seven(MOST_STEPS), [3, 0, 0, 0, 0, 0, 0]);
+    }
 }
 
 /// 7 as Int → Int writes out three nodes.
@@ -212,7 +214,7 @@ fn limits_that_a_caller_picks() {
     let arrow = write(&lines(&[
         3, 0, 0, 13, 0, 0, 12, 1, 0, 12, 1, 0, 4, 0, 0, 22, 7, 0,
     ]));
-    let number = |limit| answer_call(&arrow, MOST_STEPS, limit, sizes(limit)).number;
+    let number = |limit| answer_call(Door::First, &arrow, MOST_STEPS, limit, sizes(limit)).number;
     assert_eq!(
         [1, 2, 3, LIMIT, MOST_LIMIT].map(number),
         [23, 23, 15, 15, 15]
@@ -222,12 +224,16 @@ fn limits_that_a_caller_picks() {
 
 #[test]
 fn refusals_before_the_sheet_are_in_order() {
-    let number = |ceiling, limit, lengths| answer_call(b"", ceiling, limit, lengths).number;
-    let short = [12_288, 10_192, 3];
-    assert_eq!(number(MOST_STEPS + 1, 0, short), 1);
-    assert_eq!(number(MOST_STEPS, 0, short), 32);
-    assert_eq!(number(MOST_STEPS, 1, short), 2);
-    assert_eq!(number(MOST_STEPS, 1, sizes(1)), 3);
+    for door in [Door::First, Door::Strict] {
+        let number =
+            |ceiling, limit, lengths| answer_call(door, b"", ceiling, limit, lengths).number;
+        for short in [[12_288, 11_192, 3], [12_288, 11_191, 4]] {
+            assert_eq!(number(MOST_STEPS + 1, 0, short), 1);
+            assert_eq!(number(MOST_STEPS, 0, short), 32);
+            assert_eq!(number(MOST_STEPS, 1, short), 2);
+        }
+        assert_eq!(number(MOST_STEPS, 1, [12_288, 11_192, 4]), 3);
+    }
 }
 
 #[test]
@@ -235,7 +241,8 @@ fn picked_limits_are_met_and_passed() {
     with_stack(|| {
         for found in limits::picked() {
             let plan = read_plan(&found.made.lines).expect("a plan");
-            let run = under_limit(found.limit, || answer_plan(&plan, found.made.ceiling));
+            let answer = || answer_plan(Door::First, &plan, found.made.ceiling);
+            let run = under_limit(found.limit, answer);
             let passes = found.title.contains("passes");
             assert_eq!(run.answer.number == 23, passes, "{}", found.title);
         }
@@ -245,13 +252,15 @@ fn picked_limits_are_met_and_passed() {
 #[test]
 fn record_line_is_spelt_as_described() {
     let made = plans().into_iter().next().expect("a plan on the wall");
-    let answer = answer_lines(&made.lines, made.ceiling);
     let made = crate::generate::Made {
         ceiling: made.ceiling,
         lines: made.lines,
     };
-    let expected = "10000 4 3 0 0 12 1 0 4 0 0 22 7 0 0 0 5 1 0 0 1 0 1 0 1 12 1";
-    assert_eq!(record::answered_line(&made, &answer), expected);
+    let expected = "10000 4 3 0 0 12 1 0 4 0 0 22 7 0 0 0 5 1 0 0 1 0 1 0 1 12 1 0";
+    for (door, call) in [(Door::First, 1), (Door::Strict, 2)] {
+        let line = record::answered_line(door, &made);
+        assert_eq!(line, format!("{call} {expected}"));
+    }
 }
 
 /// Whether a term as Int is plain beside the entry n20 : ∀n11. n11 of that kind.

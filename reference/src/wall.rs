@@ -2,7 +2,7 @@
 //! `instantiate_right` turns an Arrow's argument.
 
 use crate::generate::sized;
-use crate::oracle::{answer_lines, answer_sheet, Answer, MOST_STEPS};
+use crate::oracle::{answer_lines, answer_sheet, Answer, Door, MOST_STEPS};
 use crate::plan::Node;
 use crate::sheet::{line, write, Line};
 
@@ -173,7 +173,7 @@ pub fn difference(wall: &WallPlan, answer: &Answer) -> String {
 pub fn check() -> bool {
     let mut good = true;
     for wall in plans() {
-        let answer = answer_lines(&wall.lines, wall.ceiling);
+        let answer = answer_lines(Door::First, &wall.lines, wall.ceiling);
         let different = difference(&wall, &answer);
         let mark = if different.is_empty() {
             "ok"
@@ -184,7 +184,7 @@ pub fn check() -> bool {
         good &= different.is_empty();
     }
     for (count, expected) in [(2000, false), (2001, true)] {
-        let answer = answer_sheet(&write(&long_sheet(count)), MOST_STEPS);
+        let answer = answer_sheet(Door::First, &write(&long_sheet(count)), MOST_STEPS);
         let mark = if (answer.number == 3) == expected {
             "ok"
         } else {

@@ -7,20 +7,21 @@ use crate::{LIMIT, MOST_LIMIT};
 pub const BOARD_WORDS: usize = 12_288;
 
 /// The least length of the book, in words.
-pub const BOOK_WORDS: usize = 10_192;
+pub const BOOK_WORDS: usize = 11_192;
 
 /// The least length of the report for a limit, in words.
 pub const fn report_words(limit: u32) -> usize {
     4 * limit as usize
 }
 
-/// The unknowns that the book has a pair of words for.
-const UNKNOWNS: usize = 1_000;
+/// The numbers that the book has words for: start, count and level of each.
+const NUMBERS: usize = 1_000;
+const NUMBER_WORDS: usize = 3;
 
 /// Board, book and report. One value serves any number of calls.
 ///
-/// The book tells the solutions of the last run; a call that is refused before
-/// a run leaves it as it was.
+/// The book tells the solutions and levels of the last run; a call that is
+/// refused before a run leaves it as it was.
 #[derive(Debug, Clone, PartialEq, Eq)]
 pub struct Buffers {
     pub(crate) board: Vec<u32>,
@@ -93,7 +94,7 @@ impl Buffers {
 
     /// The solved unknowns with their solutions, in order of solving.
     pub fn solutions(&self) -> Solutions<'_> {
-        let unknowns = 0..UNKNOWNS as u32;
+        let unknowns = 0..NUMBERS as u32;
         let mut order: Vec<(usize, u32)> = unknowns
             .filter_map(|unknown| Some((self.pair(unknown)?.0, unknown)))
             .collect();
@@ -105,15 +106,29 @@ impl Buffers {
         }
     }
 
+    /// The level of a number. An unknown's is its own number when it is made, or
+    /// the level of the unknown that it splits; it is lowered to the level of each
+    /// unknown that is solved with it in the solution. 0 for a fresh universal and
+    /// for the numbers from [`Outcome::fresh`](crate::Outcome::fresh) on; `None` if
+    /// the book has no words for the number.
+    pub fn level(&self, number: u32) -> Option<u32> {
+        self.words(number).map(|[_, _, level]| level)
+    }
+
     /// The start and the node count of a solution, if there is one.
     fn pair(&self, unknown: u32) -> Option<(usize, usize)> {
-        let unknown = usize::try_from(unknown).ok()?;
-        if unknown >= UNKNOWNS {
+        let [start, nodes, _] = self.words(unknown)?;
+        (nodes > 0).then_some((start as usize, nodes as usize))
+    }
+
+    /// The words of a number: start, count and level.
+    fn words(&self, number: u32) -> Option<[u32; NUMBER_WORDS]> {
+        let number = usize::try_from(number).ok()?;
+        if number >= NUMBERS {
             return None;
         }
-        let start = *self.book.get(2 * unknown)? as usize;
-        let nodes = *self.book.get(2 * unknown + 1)? as usize;
-        (nodes > 0).then_some((start, nodes))
+        let words = self.book.get(NUMBER_WORDS * number..)?;
+        words.first_chunk().copied()
     }
 }
 

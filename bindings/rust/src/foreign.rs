@@ -23,6 +23,20 @@ extern "C" {
         result: *mut [u32; 7],
     ) -> u32;
 
+    fn kirvoghus_check_type_strict(
+        sheet: *const u8,
+        sheet_len: usize,
+        ceiling: u32,
+        limit: u32,
+        board: *mut u32,
+        board_len: usize,
+        book: *mut u32,
+        book_len: usize,
+        report: *mut u32,
+        report_len: usize,
+        result: *mut [u32; 7],
+    ) -> u32;
+
     fn kirvoghus_read_sheet(sheet: *const u8, sheet_len: usize, line: *mut u32) -> u32;
 
     fn kirvoghus_term_bytes(sheet: *const u8, sheet_len: usize, line: u32) -> usize;
@@ -30,8 +44,16 @@ extern "C" {
     fn kirvoghus_version() -> u32;
 }
 
+/// The two entry calls.
+#[derive(Clone, Copy)]
+pub enum Call {
+    First,
+    Strict,
+}
+
 /// The seven numbers.
 pub fn check_type(
+    call: Call,
     sheet: &[u8],
     ceiling: u32,
     limit: u32,
@@ -39,10 +61,14 @@ pub fn check_type(
     book: &mut [u32],
     report: &mut [u32],
 ) -> [u32; 7] {
+    let entry = match call {
+        Call::First => kirvoghus_check_type,
+        Call::Strict => kirvoghus_check_type_strict,
+    };
     let mut result = [0; 7];
     // SAFETY: pointers and lengths of the same slices, which can't overlap.
     unsafe {
-        kirvoghus_check_type(
+        entry(
             sheet.as_ptr(),
             sheet.len(),
             ceiling,

@@ -26,13 +26,15 @@ mod foreign;
 mod outcome;
 mod types;
 
+use foreign::Call;
+
 pub use buffers::{report_words, Buffers, Solutions, BOARD_WORDS, BOOK_WORDS};
 pub use outcome::{Outcome, Verdict};
 pub use types::{Name, Type};
 
 /// The number of the interface that this crate is made for; it rises with every
 /// change that a caller has to follow.
-pub const VERSION: u32 = 4;
+pub const VERSION: u32 = 5;
 
 /// The highest ceiling: so many entries may be taken at most.
 pub const MOST_STEPS: u32 = 10_000;
@@ -55,8 +57,9 @@ pub const SHEET_BYTES: usize = 58_000;
 /// Any bytes, any ceiling, any lengths and contents of the buffers are taken.
 /// A call that is refused before a run (verdicts 1 to 5 and 32) leaves the
 /// buffers as they were. After any other the board is 0, the book holds the
-/// solutions given in the run, the report the types told, both else 0; words
-/// past [`BOARD_WORDS`], [`BOOK_WORDS`] and [`report_words`] keep what they held.
+/// solutions given in the run and the levels, the report the types told, both
+/// else 0; words past [`BOARD_WORDS`], [`BOOK_WORDS`] and [`report_words`] keep
+/// what they held.
 pub fn check(sheet: &[u8], ceiling: u32, buffers: &mut Buffers) -> Outcome {
     check_with(sheet, ceiling, LIMIT, buffers)
 }
@@ -64,7 +67,24 @@ pub fn check(sheet: &[u8], ceiling: u32, buffers: &mut Buffers) -> Outcome {
 /// The same with at most `limit` nodes in a type that is written out. A higher
 /// limit changes no verdict but [`Verdict::WrittenOutTooLong`].
 pub fn check_with(sheet: &[u8], ceiling: u32, limit: u32, buffers: &mut Buffers) -> Outcome {
+    put(Call::First, sheet, ceiling, limit, buffers)
+}
+
+/// The strict call: as [`check`], but that a run may end with
+/// [`Verdict::OutOfScope`], which [`check`] never gives. Any other outcome is that
+/// of [`check`], with the same words in the buffers.
+pub fn check_strict(sheet: &[u8], ceiling: u32, buffers: &mut Buffers) -> Outcome {
+    check_strict_with(sheet, ceiling, LIMIT, buffers)
+}
+
+/// The same beside [`check_with`].
+pub fn check_strict_with(sheet: &[u8], ceiling: u32, limit: u32, buffers: &mut Buffers) -> Outcome {
+    put(Call::Strict, sheet, ceiling, limit, buffers)
+}
+
+fn put(call: Call, sheet: &[u8], ceiling: u32, limit: u32, buffers: &mut Buffers) -> Outcome {
     let numbers = foreign::check_type(
+        call,
         sheet,
         ceiling,
         limit,

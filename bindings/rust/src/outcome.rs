@@ -90,6 +90,9 @@ pub enum Verdict {
     BookFull,
     /// 32: the limit is 0 or above [`MOST_LIMIT`](crate::MOST_LIMIT).
     LimitOutOfRange,
+    /// 39, by [`check_strict`](crate::check_strict) only: a solution has a fresh
+    /// universal numbered above the level of the unknown to be solved.
+    OutOfScope,
     /// A number, or a report, of another library than this crate is made for.
     Other {
         /// The first of the seven numbers.
@@ -143,6 +146,7 @@ impl Verdict {
             23 => Verdict::WrittenOutTooLong,
             24 => Verdict::NumbersUsedUp,
             25 => Verdict::BookFull,
+            39 => Verdict::OutOfScope,
             _ => return None,
         })
     }

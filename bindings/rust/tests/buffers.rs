@@ -4,15 +4,16 @@ mod common;
 
 use common::{dirty, sheet, SEVEN_AS_INT};
 use kirvoghus::{
-    check, check_with, report_words, Buffers, Verdict, BOARD_WORDS, BOOK_WORDS, LIMIT, LINE_BYTES,
-    MOST_LIMIT, MOST_STEPS,
+    check, check_strict_with, check_with, report_words, Buffers, Verdict, BOARD_WORDS, BOOK_WORDS,
+    LIMIT, LINE_BYTES, MOST_LIMIT, MOST_STEPS,
 };
 
 const REPORT_WORDS: usize = report_words(LIMIT);
 
 const BOOL: [i64; 12] = [3, 0, 0, 12, 2, 0, 4, 0, 0, 22, 7, 0];
 
-/// A refused call: all numbers but the first are 0 and no word is written.
+/// A refused call, of either kind: all numbers but the first are 0 and no word is
+/// written.
 fn refused(sheet: &[u8], ceiling: u32, buffers: Buffers) -> Verdict {
     refused_with(sheet, ceiling, LIMIT, buffers)
 }
@@ -20,6 +21,8 @@ fn refused(sheet: &[u8], ceiling: u32, buffers: Buffers) -> Verdict {
 fn refused_with(sheet: &[u8], ceiling: u32, limit: u32, mut buffers: Buffers) -> Verdict {
     let before = buffers.clone();
     let outcome = check_with(sheet, ceiling, limit, &mut buffers);
+    let strict = check_strict_with(sheet, ceiling, limit, &mut buffers);
+    assert_eq!(strict, outcome);
     assert_eq!(buffers, before);
     let [_, _, rest @ ..] = outcome.numbers();
     assert_eq!(rest, [0; 5]);
@@ -55,6 +58,17 @@ fn short_buffers() {
             Verdict::CeilingTooHigh
         );
     }
+}
+
+/// The book that interface 4 asked for, and one word less than is asked for now.
+#[test]
+fn books_without_levels() {
+    for book in [10_192, 11_191] {
+        let buffers = dirty(BOARD_WORDS, book, REPORT_WORDS);
+        let verdict = refused(&sheet(&SEVEN_AS_INT), MOST_STEPS, buffers);
+        assert_eq!(verdict, Verdict::BufferTooShort);
+    }
+    assert_eq!(BOOK_WORDS, 11_192);
 }
 
 #[test]
@@ -103,8 +117,8 @@ fn words_after_a_run() {
     check(&sheet(&BOOL), MOST_STEPS, &mut buffers);
     assert!(buffers.board().iter().all(|word| *word == 0));
     let mut book = vec![0; BOOK_WORDS];
-    book[..2].copy_from_slice(&[2000, 1]);
-    book[2000..2002].copy_from_slice(&[12, 1]);
+    book[..3].copy_from_slice(&[3000, 1, 0]);
+    book[3000..3002].copy_from_slice(&[12, 1]);
     assert_eq!(buffers.book(), book);
     let mut report = vec![0; REPORT_WORDS];
     report[..4].copy_from_slice(&[12, 1, 12, 2]);
@@ -201,5 +215,9 @@ fn words_that_are_no_book() {
     for unknown in [0, 999, 1000, u32::MAX] {
         assert_eq!(used.solution(unknown), None);
     }
-    assert_eq!(Buffers::with_lengths(0, 1, 0).solution(0), None);
+    for number in [1000, u32::MAX] {
+        assert_eq!(used.level(number), None);
+    }
+    let short = Buffers::with_lengths(0, 2, 0);
+    assert_eq!((short.solution(0), short.level(0)), (None, None));
 }

@@ -1,11 +1,12 @@
-//! The recorded answers of the ported Rust module: seven numbers, reported
-//! types and solutions in order, on plans with nearly every result.
+//! The recorded answers of the ported Rust module to both calls: seven numbers,
+//! reported types, solutions in order and levels, on plans with nearly every
+//! result.
 
 mod common;
 
 use common::sheet;
-use kirvoghus::{check, Buffers, Name, Outcome, Type, Verdict};
-use std::collections::BTreeMap;
+use kirvoghus::{check, check_strict, Buffers, Name, Outcome, Type, Verdict};
+use std::collections::{BTreeMap, BTreeSet};
 use std::path::Path;
 
 /// The numbers of a line, whose format `reference/src/record.rs` tells.
@@ -93,8 +94,15 @@ fn recorded_answers() {
     let text = std::fs::read_to_string(file).expect("the recorded answers");
     let mut buffers = Buffers::new();
     let mut verdicts = BTreeMap::new();
+    let mut calls = BTreeSet::new();
     for line in text.lines().filter(|line| !line.starts_with('#')) {
         let mut record = Record::new(line);
+        let call = record.one();
+        let check = match call {
+            1 => check,
+            2 => check_strict,
+            _ => panic!("no call {call}"),
+        };
         let ceiling = record.one();
         let lines = record.one() as usize;
         let numbers: Vec<i64> = record.0.by_ref().take(3 * lines).collect();
@@ -105,6 +113,7 @@ fn recorded_answers() {
         let report = record.some(2 * nodes);
         assert_same(&outcome, &seven, &report);
         verdicts.insert(seven[0], std::mem::discriminant(&outcome.verdict));
+        calls.insert((seven[0], call));
 
         let solved = record.one();
         // A refused call leaves the book of the call before.
@@ -117,20 +126,29 @@ fn recorded_answers() {
                 assert_eq!((found, words(&ty)), (unknown, record.some(2 * nodes)));
             }
             assert_eq!(solutions.next(), None);
+            for number in 0..outcome.fresh {
+                assert_eq!(buffers.level(number), Some(record.one()));
+            }
+            for number in outcome.fresh..1000 {
+                assert_eq!(buffers.level(number), Some(0));
+            }
         }
         assert_eq!(record.0.next(), None);
     }
     let numbers: Vec<u32> = verdicts.keys().copied().collect();
     assert_eq!(
         numbers,
-        [0, 1, 5, 11, 12, 13, 14, 15, 17, 18, 19, 21, 22, 23, 24, 25]
+        [0, 1, 5, 11, 12, 13, 14, 15, 17, 18, 19, 21, 22, 23, 24, 25, 39]
     );
+    assert!(calls.contains(&(0, 2)) && calls.contains(&(39, 2)));
+    assert!(!calls.contains(&(39, 1)));
     for (number, verdict) in [
         (21, Verdict::CeilingReached),
         (22, Verdict::BoardFull),
         (23, Verdict::WrittenOutTooLong),
         (24, Verdict::NumbersUsedUp),
         (25, Verdict::BookFull),
+        (39, Verdict::OutOfScope),
     ] {
         assert_eq!(verdicts[&number], std::mem::discriminant(&verdict));
     }

@@ -49,7 +49,7 @@ module _ {b k rep : List ℕ} {c : Run} {f n : ℕ} (a : SubAsk b k rep c f n) w
   pub unknown-open : shapeOf (view F) ≡ 4 → Open k c (getD rep 1 0)
   unknown-open e =
       let u : Written k c (unknown (getD rep 1 0)) = subst (Written k c) (unknown-is rep 0 f (bounds .0) e) (a .left) in
-      λ _. (u .made .0 refl, u .free .0)
+      (u .made .0 refl, u .free .0)
 
   -- anything else is refused, with the type at the front of the report
   pub refuses : (E : Env) (e : Term) (t : Ty) → shapeOf (view F) ≢ 1 → shapeOf (view F) ≢ 3 → shapeOf (view F) ≢ 4 → refuse (NotAFunction f) F ≡ applyBy E F e t (view F)

@@ -24,6 +24,7 @@ use Rattle.judgment.specs.Terms.{isVar}
 use Rattle.judgment.specs.Board.{findVar}
 use Rattle.judgment.specs.Board.{Board as Entries}
 use Rattle.judgment.specs.Rules.{variable, inferBy}
+use Rattle.judgment.specs.Result.{Way}
 use Rattle.board.specs.declared.Board.{Board}
 use Rattle.board.specs.declared.Place.{Place}
 use Rattle.board.specs.declared.Found.{Found as OnBoard}
@@ -121,7 +122,7 @@ module _ (x : ℕ) (w : List ℕ) where
     var-is ls q = ap (typeIn w) (sym q ∙ e) ∙ sym (var-place ls x w (b .entries))
 
 -- ---- the rule by the three types that a name may have
-pub looked : {w : ℕ} {b k rep : List ℕ} {c : Run} {b' k' rep' : List ℕ} {r : Run} (s : List ℕ) (x : ℕ) (t : Ty)
+pub looked : {w : Way} {b k rep : List ℕ} {c : Run} {b' k' rep' : List ℕ} {r : Run} (s : List ℕ) (x : ℕ) (t : Ty)
     → Does w (rows s) b k rep c (variable (envOn s) x t (entryIn 2 x s) (findVar x (entriesOf (rows s) b (c .board .entries))) (entryIn 1 x s)) b' k' rep' r
     → Does w (rows s) b k rep c (inferBy (envOn s) t (isVar x)) b' k' rep' r
 unfolding planOf

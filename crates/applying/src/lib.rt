@@ -4,7 +4,7 @@ ghost use mathlib.Core.Option.{none, some};
 ghost use mathlib.Core.List.{List};
 ghost use Prim.Native.Nat.{ℕ, _+_, _*_, _≤_};
 ghost use lib.ListN.{length};
-ghost use Rattle.nodes.specs.Nodes.{nodesAt};
+ghost use Rattle.nodes.specs.Nodes.{nodesAt, Ty};
 ghost use Rattle.spelling.specs.declared.Triple.{Triple};
 ghost use Rattle.sheet.specs.Rows.{rows};
 ghost use Rattle.judgment.specs.Types.{view};
@@ -12,9 +12,11 @@ ghost use Rattle.judgment.specs.Terms.{isVar};
 ghost use Rattle.judgment.specs.Solutions.{writeOut};
 ghost use Rattle.judgment.specs.Board.{sub, push as pushRule, done, orElse, findVar};
 ghost use Rattle.judgment.specs.Rules.{Env, variable, inferBy, applyBy, inferApp};
+ghost use Rattle.judgment.specs.Result.{Way};
+ghost use mathlib.Core.Bool.{Bool};
 ghost use Rattle.board.specs.Board.{termAt, entriesOf, Stacked};
 ghost use Rattle.book.specs.Book.{sols};
-ghost use Rattle.operations.specs.State.{WellFormed, Does};
+ghost use Rattle.operations.specs.State.{WellFormed, Does, Scoped};
 ghost use Rattle.subtyping.specs.Subtyping.{SubAsk, SubtypeAsk};
 ghost use Rattle.inference.specs.Inference.{typeOn, LinesAsk};
 ghost use Rattle.applying.specs.Applying.{envOn, entryIn, applyReport, appReport, foundOut, VarAsk};
@@ -48,7 +50,7 @@ fn apply_shapes(
     n: usize,
 ) -> Run
     requires { ⌜ SubAsk (now board) (now book) (now report) c f n ⌝ }
-    ensures { λ r. ⌜ ((w : ℕ) (ls : List Triple) (E : Env) → Does w ls (now (board .entry)) (now (book .entry)) (now (report .entry)) c (applyBy E (nodesAt (now (report .entry)) 0 f) (termAt ls line) (nodesAt (now (report .entry)) (2 * f) n) (view (nodesAt (now (report .entry)) 0 f))) (now (board .exit)) (now (book .exit)) (now (report .exit)) r) × (now (report .exit) ≡ applyReport (now (report .entry)) (c .fresh) (view (nodesAt (now (report .entry)) 0 f))) ⌝ }
+    ensures { λ r. ⌜ ((w : Way) (ls : List Triple) (E : Env) → Scoped w → Does w ls (now (board .entry)) (now (book .entry)) (now (report .entry)) c (applyBy E (nodesAt (now (report .entry)) 0 f) (termAt ls line) (nodesAt (now (report .entry)) (2 * f) n) (view (nodesAt (now (report .entry)) 0 f))) (now (board .exit)) (now (book .exit)) (now (report .exit)) r) × (now (report .exit) ≡ applyReport (now (report .entry)) (c .fresh) (view (nodesAt (now (report .entry)) 0 f))) ⌝ }
 {
     let ct = 2 * f;
     let s = shape(report, 0, f);
@@ -81,7 +83,7 @@ pub fn solve_inf_app(
     w: usize,
 ) -> Run
     requires { ⌜ SubtypeAsk (now board) (now book) (now report) c at fcount tn w ⌝ }
-    ensures { λ r. ⌜ ((ls : List Triple) (E : Env) → Does w ls (now (board .entry)) (now (book .entry)) (now (report .entry)) c (inferApp E (nodesAt (now (board .entry)) at fcount) (termAt ls line) (nodesAt (now (board .entry)) (at + 2 * fcount) tn)) (now (board .exit)) (now (book .exit)) (now (report .exit)) r) × (now (report .exit) ≡ appReport (now (report .entry)) c (writeOut (sols (now (book .entry))) (nodesAt (now (board .entry)) at fcount)) (writeOut (sols (now (book .entry))) (nodesAt (now (board .entry)) (at + 2 * fcount) tn)) w) ⌝ }
+    ensures { λ r. ⌜ ((f : ℕ → Ty → Bool) (ls : List Triple) (E : Env) → Scoped (record { written = w; scope = f }) → Does (record { written = w; scope = f }) ls (now (board .entry)) (now (book .entry)) (now (report .entry)) c (inferApp E (nodesAt (now (board .entry)) at fcount) (termAt ls line) (nodesAt (now (board .entry)) (at + 2 * fcount) tn)) (now (board .exit)) (now (book .exit)) (now (report .exit)) r) × (now (report .exit) ≡ appReport (now (report .entry)) c (writeOut (sols (now (book .entry))) (nodesAt (now (board .entry)) at fcount)) (writeOut (sols (now (book .entry))) (nodesAt (now (board .entry)) (at + 2 * fcount) tn)) w) ⌝ }
 {
     let z = zonk(book, c, board, at, fcount, report, 0, w);
     let c1 = z.run;
@@ -109,7 +111,7 @@ fn push_entry(
     tn: usize,
 ) -> Run
     requires { ⌜ Stacked (now board) (c .board) × (2 * tn ≤ length (now t)) × (2 * n ≤ length (now out)) × LinesAsk (now s) first n ⌝ }
-    ensures { λ r. ⌜ ((w : ℕ) (k rep : List ℕ) → WellFormed (now (board .entry)) k c → Does w (rows (now (s .entry))) (now (board .entry)) k rep c (pushRule (sub (typeOn (now (s .entry)) first n) (nodesAt (now (t .entry)) 0 tn)) done) (now (board .exit)) k rep r) × (now (out .exit) ≡ foundOut (now (out .entry)) (some (typeOn (now (s .entry)) first n))) ⌝ }
+    ensures { λ r. ⌜ ((w : Way) (k rep : List ℕ) → WellFormed (now (board .entry)) k c → Does w (rows (now (s .entry))) (now (board .entry)) k rep c (pushRule (sub (typeOn (now (s .entry)) first n) (nodesAt (now (t .entry)) 0 tn)) done) (now (board .exit)) k rep r) × (now (out .exit) ≡ foundOut (now (out .entry)) (some (typeOn (now (s .entry)) first n))) ⌝ }
 {
     copy_type(out, 0, s, first, n);
     push_sub(board, c, out, 0, n, t, 0, tn)
@@ -126,7 +128,7 @@ fn infer_constructor(
     tn: usize,
 ) -> Run
     requires { ⌜ VarAsk (now board) c (now s) (now out) (now t) tn ⌝ }
-    ensures { λ r. ⌜ ((w : ℕ) (k rep : List ℕ) → WellFormed (now (board .entry)) k c → Does w (rows (now (s .entry))) (now (board .entry)) k rep c (variable (envOn (now (s .entry))) name (nodesAt (now (t .entry)) 0 tn) none none (entryIn 1 name (now (s .entry)))) (now (board .exit)) k rep r) × (now (out .exit) ≡ foundOut (now (out .entry)) (entryIn 1 name (now (s .entry)))) ⌝ }
+    ensures { λ r. ⌜ ((w : Way) (k rep : List ℕ) → WellFormed (now (board .entry)) k c → Does w (rows (now (s .entry))) (now (board .entry)) k rep c (variable (envOn (now (s .entry))) name (nodesAt (now (t .entry)) 0 tn) none none (entryIn 1 name (now (s .entry)))) (now (board .exit)) k rep r) × (now (out .exit) ≡ foundOut (now (out .entry)) (entryIn 1 name (now (s .entry)))) ⌝ }
 {
     match find_entry(s, 1, name as u64) {
         sheet::Found::At { line, count } => push_entry(board, c, s, line, count, out, t, tn),
@@ -145,7 +147,7 @@ fn infer_on_board(
     tn: usize,
 ) -> Run
     requires { ⌜ VarAsk (now board) c (now s) (now out) (now t) tn ⌝ }
-    ensures { λ r. ⌜ ((w : ℕ) (k rep : List ℕ) → WellFormed (now (board .entry)) k c → Does w (rows (now (s .entry))) (now (board .entry)) k rep c (variable (envOn (now (s .entry))) name (nodesAt (now (t .entry)) 0 tn) none (findVar name (entriesOf (rows (now (s .entry))) (now (board .entry)) (c .board .entries))) (entryIn 1 name (now (s .entry)))) (now (board .exit)) k rep r) × (now (out .exit) ≡ foundOut (now (out .entry)) (orElse (findVar name (entriesOf (rows (now (s .entry))) (now (board .entry)) (c .board .entries))) (entryIn 1 name (now (s .entry))))) ⌝ }
+    ensures { λ r. ⌜ ((w : Way) (k rep : List ℕ) → WellFormed (now (board .entry)) k c → Does w (rows (now (s .entry))) (now (board .entry)) k rep c (variable (envOn (now (s .entry))) name (nodesAt (now (t .entry)) 0 tn) none (findVar name (entriesOf (rows (now (s .entry))) (now (board .entry)) (c .board .entries))) (entryIn 1 name (now (s .entry)))) (now (board .exit)) k rep r) × (now (out .exit) ≡ foundOut (now (out .entry)) (orElse (findVar name (entriesOf (rows (now (s .entry))) (now (board .entry)) (c .board .entries))) (entryIn 1 name (now (s .entry))))) ⌝ }
 {
     let b = c.board;
     match find_var(board, b, name) {
@@ -169,7 +171,7 @@ pub fn infer_variable(
     tn: usize,
 ) -> Run
     requires { ⌜ VarAsk (now board) c (now s) (now out) (now t) tn ⌝ }
-    ensures { λ r. ⌜ ((w : ℕ) (k rep : List ℕ) → WellFormed (now (board .entry)) k c → Does w (rows (now (s .entry))) (now (board .entry)) k rep c (inferBy (envOn (now (s .entry))) (nodesAt (now (t .entry)) 0 tn) (isVar name)) (now (board .exit)) k rep r) × (now (out .exit) ≡ foundOut (now (out .entry)) (orElse (entryIn 2 name (now (s .entry))) (orElse (findVar name (entriesOf (rows (now (s .entry))) (now (board .entry)) (c .board .entries))) (entryIn 1 name (now (s .entry)))))) ⌝ }
+    ensures { λ r. ⌜ ((w : Way) (k rep : List ℕ) → WellFormed (now (board .entry)) k c → Does w (rows (now (s .entry))) (now (board .entry)) k rep c (inferBy (envOn (now (s .entry))) (nodesAt (now (t .entry)) 0 tn) (isVar name)) (now (board .exit)) k rep r) × (now (out .exit) ≡ foundOut (now (out .entry)) (orElse (entryIn 2 name (now (s .entry))) (orElse (findVar name (entriesOf (rows (now (s .entry))) (now (board .entry)) (c .board .entries))) (entryIn 1 name (now (s .entry)))))) ⌝ }
 {
     match find_entry(s, 2, name as u64) {
         sheet::Found::At { line, count } => push_entry(board, c, s, line, count, out, t, tn),

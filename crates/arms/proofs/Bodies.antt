@@ -17,6 +17,7 @@ use Rattle.judgment.specs.Types.{unknown}
 use Rattle.judgment.specs.Terms.{Term, part, afterParts}
 use Rattle.judgment.specs.Board.{chk, Rule, done, push}
 use Rattle.judgment.specs.Rules.{pushVars, checkPatterns, checkArms}
+use Rattle.judgment.specs.Result.{Way}
 use Rattle.board.specs.Board.{fromLine, termAt}
 use Rattle.board.proofs.Terms.{after-from}
 use Rattle.operations.specs.declared.Run.{Run}
@@ -111,7 +112,7 @@ module _ (ls : List Triple) (u : ℕ) (t : Ty) where
       ∙ sym (arms-cons left (fromLine ls at) (f 0) l))
       (λ f. refl) y)
 
-  pub arms-does : {b b' : List ℕ} {c r : Run} (n : ℕ) (xs : Term) (left at : ℕ) → Arms b c n xs b' r left at → left ≡ 0 → (w : ℕ) (k rep : List ℕ) → WellFormed b k c
+  pub arms-does : {b b' : List ℕ} {c r : Run} (n : ℕ) (xs : Term) (left at : ℕ) → Arms b c n xs b' r left at → left ≡ 0 → (w : Way) (k rep : List ℕ) → WellFormed b k c
       → Does w ls b k rep c (checkArms (envAt ls) n xs (unknown u) t) b' k rep r
   unfolding armsThen
   arms-does {b} {b'} {c} {r} n xs left at h e w k rep z =

@@ -17,7 +17,7 @@ use Rattle.sheet.specs.Form.{IsPart}
 use Rattle.sheet.proofs.Lines.{line-none}
 use Rattle.judgment.specs.Types.{unknown}
 use Rattle.judgment.specs.Terms.{Term, part, afterParts, isCase, viewBy, termView}
-use Rattle.judgment.specs.Board.{tvar, chk, Rule, fresh, push}
+use Rattle.judgment.specs.Board.{tvar, chk, Rule, fresh, push, own}
 use Rattle.judgment.specs.Rules.{Env, inferBy}
 use Rattle.judgment.proofs.WholeTerms.{TermViewWhole, term-view-whole}
 use Rattle.board.specs.Board.{fromLine, termAt, entryOf}
@@ -81,7 +81,7 @@ module _ (ls : List Triple) (p : ℕ) (h : p < length ls) (e : lineOf ls p .kind
 pub case-view : (E : Env) (t : Ty) (ls : List Triple) (p : ℕ) → p < length ls → lineOf ls p .kind ≡ 27
     → inferBy E t (isCase (lineOf ls p .count) (termAt ls (p + 1)) (fromLine ls (partLine ls (p + 1) 1))) ≡ inferBy E t (termView (termAt ls p))
 case-view E t ls p h e =
-    ap fresh (fun-ext (λ a. ap (λ (r : Rule). push (tvar (node 17 a)) (push (chk (termAt ls (p + 1)) (unknown a)) r))
+    ap (fresh own) (fun-ext (λ a. ap (λ (r : Rule). push (tvar (node 17 a)) (push (chk (termAt ls (p + 1)) (unknown a)) r))
     (sym (arms-cut E (lineOf ls p .count) (fromLine ls (partLine ls (p + 1) 1)) (unknown a) t))))
     ∙ ap (inferBy E t) (sym (a-case ls p h e))
 

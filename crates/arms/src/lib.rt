@@ -8,6 +8,7 @@ ghost use Rattle.sheet.specs.Rows.{rows, Ended};
 ghost use Rattle.judgment.specs.Types.{unknown};
 ghost use Rattle.judgment.specs.Terms.{isCase};
 ghost use Rattle.judgment.specs.Rules.{pushVars, checkArms, inferBy};
+ghost use Rattle.judgment.specs.Result.{Way};
 ghost use Rattle.board.specs.Board.{fromLine, termAt};
 ghost use Rattle.operations.specs.State.{WellFormed, Does};
 ghost use Rattle.tables.specs.Rows.{bindingsAt};
@@ -95,7 +96,7 @@ pub fn check_arms(
     tn: usize,
 ) -> Run
     requires { ⌜ ArmsAsk (now board) c (rows (now s)) line n u (now w) (now v) (now l) (now r) (now t) ta tn × Ended (now s) ⌝ }
-    ensures { λ o. ⌜ ((m : ℕ) (k rep : List ℕ) → WellFormed (now (board .entry)) k c → Does m (rows (now (s .entry))) (now (board .entry)) k rep c (checkArms (envAt (rows (now (s .entry)))) n (fromLine (rows (now (s .entry))) line) (unknown u) (nodesAt (now (t .entry)) ta tn)) (now (board .exit)) k rep o) × (room o (now (w .exit)) (now (v .exit)) (now (l .exit)) (now (r .exit)) ≡ armsRoom (rows (now (s .entry))) u (nodesAt (now (t .entry)) ta tn) n line (room c (now (w .entry)) (now (v .entry)) (now (l .entry)) (now (r .entry)))) ⌝ }
+    ensures { λ o. ⌜ ((m : Way) (k rep : List ℕ) → WellFormed (now (board .entry)) k c → Does m (rows (now (s .entry))) (now (board .entry)) k rep c (checkArms (envAt (rows (now (s .entry)))) n (fromLine (rows (now (s .entry))) line) (unknown u) (nodesAt (now (t .entry)) ta tn)) (now (board .exit)) k rep o) × (room o (now (w .exit)) (now (v .exit)) (now (l .exit)) (now (r .exit)) ≡ armsRoom (rows (now (s .entry))) u (nodesAt (now (t .entry)) ta tn) n line (room c (now (w .entry)) (now (v .entry)) (now (l .entry)) (now (r .entry)))) ⌝ }
 {
     let mut run = c;
     let mut at = line;
@@ -125,7 +126,7 @@ pub fn infer_case(
     tn: usize,
 ) -> Run
     requires { ⌜ CaseAsk (now board) c (rows (now s)) line n (now w) (now v) (now l) (now r) (now t) tn × Ended (now s) ⌝ }
-    ensures { λ o. ⌜ ((m : ℕ) (k rep : List ℕ) → WellFormed (now (board .entry)) k c → Does m (rows (now (s .entry))) (now (board .entry)) k rep c (inferBy (envAt (rows (now (s .entry)))) (nodesAt (now (t .entry)) 0 tn) (isCase n (termAt (rows (now (s .entry))) e) (fromLine (rows (now (s .entry))) line))) (now (board .exit)) k rep o) × (room o (now (w .exit)) (now (v .exit)) (now (l .exit)) (now (r .exit)) ≡ caseRoom (rows (now (s .entry))) (nodesAt (now (t .entry)) 0 tn) n line (room c (now (w .entry)) (now (v .entry)) (now (l .entry)) (now (r .entry)))) ⌝ }
+    ensures { λ o. ⌜ ((m : Way) (k rep : List ℕ) → WellFormed (now (board .entry)) k c → Does m (rows (now (s .entry))) (now (board .entry)) k rep c (inferBy (envAt (rows (now (s .entry)))) (nodesAt (now (t .entry)) 0 tn) (isCase n (termAt (rows (now (s .entry))) e) (fromLine (rows (now (s .entry))) line))) (now (board .exit)) k rep o) × (room o (now (w .exit)) (now (v .exit)) (now (l .exit)) (now (r .exit)) ≡ caseRoom (rows (now (s .entry))) (nodesAt (now (t .entry)) 0 tn) n line (room c (now (w .entry)) (now (v .entry)) (now (l .entry)) (now (r .entry)))) ⌝ }
 {
     let a = c.fresh;
     let c1 = fresh_evar(c);

@@ -21,7 +21,7 @@ use Rattle.judgment.specs.Solutions.{_≔_, Solutions, solutionNodes, solvedUnk
 use Rattle.judgment.specs.Good.{Free}
 use Rattle.judgment.proofs.SolutionLaws.{in-avoids, fine-snoc}
 use Rattle.book.specs.declared.Book.{Book}
-use Rattle.book.specs.Book.{startOf, countOf, who, solsFrom, sols, Holds, Booked, given, grown}
+use Rattle.book.specs.Book.{startOf, countOf, who, solsFrom, sols, Holds, levelWordOf, Booked, given, grown}
 
 -- two cases
 pub by-eq : (a b : ℕ) {P : Type 0} → (a ≡ b → P) → (a ≢ b → P) → P
@@ -142,12 +142,12 @@ module _ (w : List ℕ) (b : Book) (k : ℕ) (t : Ty) (small : k < mostNumbers) 
       high (bookStride * k + 1) (omega arith)
       ∙ rw q (getD-set-same (set w (bookStride * k) e) (suc (bookStride * k)) (length t) 0 (omega (arith, length-set w (bookStride * k) e)))
 
-  pair-kept : (j : ℕ) → (j < bookStride * k) ⊎ (bookStride * k + bookStride ≤ j) → getD paired j 0 ≡ getD w j 0
+  pair-kept : (j : ℕ) → (j < bookStride * k) ⊎ (bookStride * k + 2 ≤ j) → getD paired j 0 ≡ getD w j 0
   pair-kept j (inl m) = getD-sets-below w (bookStride * k) (e ∷ length t ∷ []) j m
   pair-kept j (inr m) = getD-sets-above w (bookStride * k) (e ∷ length t ∷ []) j m
 
   -- a word that is neither in the pair nor among the new nodes
-  kept : (j : ℕ) → (j < bookStride * k) ⊎ (bookStride * k + bookStride ≤ j) → (j < e) ⊎ (e + 2 * length t ≤ j) → getD (given w b k t) j 0 ≡ getD w j 0
+  kept : (j : ℕ) → (j < bookStride * k) ⊎ (bookStride * k + 2 ≤ j) → (j < e) ⊎ (e + 2 * length t ≤ j) → getD (given w b k t) j 0 ≡ getD w j 0
   unfolding given
   kept j a (inl l) = high j l ∙ pair-kept j a
   kept j a (inr l) = getD-sets-above paired e (words t) j (omega (arith, length-words t)) ∙ pair-kept j a
@@ -157,6 +157,10 @@ module _ (w : List ℕ) (b : Book) (k : ℕ) (t : Ty) (small : k < mostNumbers) 
 
   count-old : (j : ℕ) → j < mostNumbers → j ≢ k → countOf (given w b k t) j ≡ countOf w j
   count-old j l f = kept (bookStride * j + 1) (apart j k (λ m. inl (omega arith)) (λ m. inr (omega arith)) f) (inl (omega arith))
+
+  -- no level is written, not k's either
+  pub given-level : (j : ℕ) → j < mostNumbers → levelWordOf (given w b k t) j ≡ levelWordOf w j
+  given-level j l = kept (bookStride * j + 2) (by-eq j k (λ i. inr (omega arith)) (apart j k (λ m. inl (omega arith)) (λ m. inr (omega arith)))) (inl (omega arith))
 
   nodes-old : (p n : ℕ) → bookBase ≤ p → p + 2 * n ≤ e → nodesAt (given w b k t) p n ≡ nodesAt w p n
   nodes-old p n l q = nodesAt-agree w (given w b k t) p n (λ j a z. kept j (inr (omega arith)) (inl (omega arith)))
@@ -235,6 +239,7 @@ module _ (w : List ℕ) (b : Book) (k : ℕ) (t : Ty) (h : Booked w b) (small : 
         let c = count-old w b k t small within j l f in
         let z = h .unsolved j l (omega arith) in
         (a ∙ z .0, c ∙ z .1));
+    levels = λ j l. (let c = given-level w b k t small within j l in let z = h .levels j l in omega arith);
     rest = λ j l u. kept w b k t small within j (inr (omega arith)) (inr (omega arith)) ∙ h .rest j (omega arith) u;
     fine = rw given-sols (fine-snoc (sols w) k t (h .fine) new free);
   }

@@ -14,6 +14,7 @@ use Rattle.judgment.specs.Types.{unknown, con, occurs}
 use Rattle.judgment.specs.Solutions.{_≔_, Solutions, key, find, solvedUnknowns}
 use Rattle.judgment.specs.Good.{Free}
 use Rattle.judgment.specs.Links.{isChain, LinksUpTo, Longest, risen, chained}
+use Rattle.judgment.specs.Levels.{ownLevels}
 use Rattle.judgment.specs.Result.{bookWords}
 use Rattle.judgment.proofs.Words.{length-book}
 use Rattle.judgment.proofs.Links.{few-links, rising, chained-links, risen-free, next-free, last-free}
@@ -48,8 +49,8 @@ one-more w n x l free h =
 risen-held : (n : ℕ) → n < mostNumbers → (w : List ℕ) × Holding w n (risen n)
 unfolding risen
 risen-held zero l =
-    let w = bookWords [] in
-    let room : bookSize ≤ length w = omega (arith, length-book []) in
+    let w = bookWords [] ownLevels 0 in
+    let room : bookSize ≤ length w = omega (arith, length-book [] ownLevels 0) in
     (sets w 0 w, (new-booked w room, new-sols w room))
 risen-held (suc n) l =
     let h = risen-held n (omega arith) in

@@ -10,16 +10,16 @@ use Rattle.book.specs.declared.Found.the-variants.{At, Nothing}
 use Rattle.book.specs.Book.{placeOf}
 
 abbrev words : List ℕ
-words = (2003 ∷ 2 ∷ []) ++ ((2000 ∷ 1 ∷ []) ++ ((1999 ∷ 1 ∷ []) ++ (replicate 1992 0 ++ ((2007 ∷ 3 ∷ []) ++ ((5000 ∷ 7 ∷ []))))))
+words = (3003 ∷ 2 ∷ 1 ∷ []) ++ ((3000 ∷ 1 ∷ 0 ∷ []) ++ ((2999 ∷ 1 ∷ 3001 ∷ []) ++ (replicate 2988 0 ++ ((3007 ∷ 3 ∷ 1000 ∷ []) ++ ((5000 ∷ 7 ∷ 0 ∷ []))))))
 
 abbrev told : List (Node × Found)
 told =
-    (node 17 0, At (record { start = 2003; count = 2 })) ∷
-    (node 17 1, At (record { start = 2000; count = 1 })) ∷
+    (node 17 0, At (record { start = 3003; count = 2 })) ∷
+    (node 17 1, At (record { start = 3000; count = 1 })) ∷
     (node 17 2, Nothing) ∷
     (node 17 3, Nothing) ∷
     (node 17 998, Nothing) ∷
-    (node 17 999, At (record { start = 2007; count = 3 })) ∷
+    (node 17 999, At (record { start = 3007; count = 3 })) ∷
     (node 17 1000, Nothing) ∷
     (node 17 1001, Nothing) ∷
     (node 17 65535, Nothing) ∷

@@ -1,17 +1,19 @@
 -- The book's words, and the solutions that they hold. Assumes nothing: these are definitions.
--- Words 2 k and 2 k + 1 are the start and the node count of unknown k's solution; the nodes stand from word 2,000 on, in order of solving.
+-- Words 3 k and 3 k + 1 are the start and the node count of unknown k's solution, word 3 k + 2 is for k's level; the nodes stand from word 3,000 on, in order of solving.
 use mathlib.Core.Path.{_≡_}
 use mathlib.Core.Logic.{_≢_}
 use mathlib.Core.Bool.{Bool, cond, _&&_}
 use mathlib.Core.Option.{Option, none, some}
 use mathlib.Core.List.{List, [], _∷_, _++_}
 use Prim.Native.Nat.{ℕ, zero, suc, _+_, _*_, _-_, _≤_, _<_}
-use lib.ListN.{length, getD, take}
+use lib.ListN.{length, getD, set, take}
 use lib.Seq.{sets}
 use lib.Dec.{eqb, leb, ltb}
 use Rattle.sizes.specs.Sizes.{mostNodes, mostNumbers, bookBase, bookSize, bookStride}
-use Rattle.nodes.specs.Nodes.{Ty, words, nodesAt}
+use Rattle.nodes.specs.Nodes.{Node, Ty, kind, number, words, nodesAt}
+use Rattle.nodes.specs.Lists.{All}
 use Rattle.judgment.specs.Solutions.{_≔_, Solutions}
+use Rattle.judgment.specs.Levels.{Levels}
 use Rattle.judgment.specs.Good.{Fine}
 use Rattle.book.specs.declared.Book.{Book}
 use Rattle.book.specs.declared.Found.{Found}
@@ -57,12 +59,50 @@ unfoldable pub Holds : List ℕ → ℕ → ℕ → Solutions → Type 0
 Holds w e p [] = (p ≡ e) × ((j : ℕ) → j < mostNumbers → startOf w j < p)
 Holds w e p (_≔_ k t ∷ r) = Head w p k t × Holds w e (p + 2 * length t) r
 
+-- ---- levels
+-- While a run goes on the word 0 stands for a number's own level and m + 1 for the level m, so a number of its own level needs no word.
+abbrev pub levelWordOf : List ℕ → ℕ → ℕ
+levelWordOf w k = getD w (bookStride * k + 2) 0
+
+abbrev pub levelBy : ℕ → ℕ → ℕ
+levelBy zero k = k
+levelBy (suc m) k = m
+
+-- a number that the book has no words for has its own level
+abbrev pub levelOf : List ℕ → ℕ → ℕ
+levelOf w k = cond (ltb k mostNumbers) (levelBy (levelWordOf w k) k) k
+
+abbrev pub levelsOf : List ℕ → Levels
+levelsOf w = λ k. levelOf w k
+
+-- the level m for the number k
+unfoldable pub levelled : List ℕ → ℕ → ℕ → List ℕ
+levelled w k m = set w (bookStride * k + 2) (m + 1)
+
+-- the level m at most for every unknown of a type
+abbrev pub loweredNode : ℕ → ℕ → ℕ → List ℕ → List ℕ
+loweredNode m kind k w = cond (eqb kind 17) (cond (ltb m (levelOf w k)) (levelled w k m) w) w
+
+unfoldable pub lowered : ℕ → Ty → List ℕ → List ℕ
+lowered m [] w = w
+lowered m (x ∷ t) w = lowered m t (loweredNode m (kind x) (number x) w)
+
+-- an unknown that the book has words for
+abbrev pub Listed : Node → Type 0
+Listed x = kind x ≡ 17 → number x < mostNumbers
+
+-- the levels of the numbers below n as a caller reads them
+unfoldable pub levelsWritten : List ℕ → ℕ → List ℕ
+levelsWritten w zero = w
+levelsWritten w (suc k) = set (levelsWritten w k) (bookStride * k + 2) (levelOf w k)
+
 -- The words of a book: what is unsolved and what is not used is 0, and its solutions lead nowhere back.
 pub record Booked (w : List ℕ) (b : Book) : Type 0 where
   pub room : bookSize ≤ length w
   pub few : b .nodes ≤ mostNodes
   pub holds : Holds w (bookBase + 2 * b .nodes) bookBase (sols w)
   pub unsolved : (j : ℕ) → j < mostNumbers → startOf w j < bookBase → (startOf w j ≡ 0) × (countOf w j ≡ 0)
+  pub levels : (j : ℕ) → j < mostNumbers → levelWordOf w j ≤ mostNumbers
   pub rest : (j : ℕ) → bookBase + 2 * b .nodes ≤ j → j < bookSize → getD w j 0 ≡ 0
   pub fine : Fine (sols w)
 

@@ -6,10 +6,12 @@ ghost use Prim.Native.Nat.{_+_, _*_, _≤_, _<_};
 ghost use lib.ListN.{length};
 ghost use lib.Seq.{sets};
 ghost use Rattle.sizes.specs.Sizes.{mostNumbers, bookSize};
+ghost use Rattle.nodes.specs.Lists.{All};
 ghost use Rattle.nodes.specs.Nodes.{nodesAt};
 ghost use Rattle.judgment.specs.Solutions.{writeOut};
+ghost use Rattle.judgment.specs.Levels.{ownLevels};
 ghost use Rattle.judgment.specs.Result.{bookWords};
-ghost use Rattle.book.specs.Book.{sols, fitting, given, grown, SolveAsk, placeOf, WriteAsk, wrote, writtenTo};
+ghost use Rattle.book.specs.Book.{levelOf, levelled, loweredNode, lowered, Listed, levelsWritten, sols, fitting, given, grown, SolveAsk, placeOf, WriteAsk, wrote, writtenTo};
 ghost use Rattle.book.specs.Compared.{next, nodeMet, alikeAt, skipped, firstMet, compared, apartAt, Sides, MeetAsk, FirstAsk, NextAsk};
 use core_types::is_node;
 use core_types::node_parts;
@@ -104,6 +106,64 @@ pub fn solve(book: &mut [u32], b: Book, k: u32, src: &[u32], from: usize, n: usi
     book[pair + 1] = n as u32;
     copy_nodes(book, at, src, from, n);
     Book { nodes: b.nodes + n }
+}
+
+// The level of number k.
+pub fn level(book: &[u32], k: u32) -> u32
+    requires { ⌜ (bookSize ≤ length (now book)) × (k < mostNumbers) ⌝ }
+    ensures { λ r. ⌜ r ≡ levelOf (now (book .entry)) k ⌝ }
+{
+    let word = book[BOOK_STRIDE * wide(k) + 2];
+    if word == 0 {
+        return k;
+    }
+    word - 1
+}
+
+// Gives number k the level m.
+pub fn set_level(book: &mut [u32], k: u32, m: u32)
+    requires { ⌜ (bookSize ≤ length (now book)) × (k < mostNumbers) × (m < mostNumbers) ⌝ }
+    ensures { λ _. ⌜ now (book .exit) ≡ levelled (now (book .entry)) k m ⌝ }
+{
+    book[BOOK_STRIDE * wide(k) + 2] = m + 1;
+}
+
+// The level m at most for a node, if it is an unknown.
+fn lower_node(book: &mut [u32], m: u32, kind: u32, number: u32)
+    requires { ⌜ (bookSize ≤ length (now book)) × (m < mostNumbers) × (kind ≡ 17 → number < mostNumbers) ⌝ }
+    ensures { λ _. ⌜ now (book .exit) ≡ loweredNode m kind number (now (book .entry)) ⌝ }
+{
+    if kind == 17 {
+        if m < level(book, number) {
+            set_level(book, number, m);
+        }
+    }
+}
+
+// The level m at most for every unknown among the n nodes at word `from` of src.
+pub fn lower(book: &mut [u32], m: u32, src: &[u32], from: usize, n: usize)
+    requires { ⌜ (bookSize ≤ length (now book)) × (m < mostNumbers) × (from + 2 * n ≤ length (now src)) × All Listed (nodesAt (now src) from n) ⌝ }
+    ensures { λ _. ⌜ now (book .exit) ≡ lowered m (nodesAt (now (src .entry)) from n) (now (book .entry)) ⌝ }
+{
+    let mut i = 0;
+    while i < n {
+        let at = from + 2 * i;
+        lower_node(book, m, src[at], src[at + 1]);
+        i += 1;
+    }
+}
+
+// Writes the levels of the numbers below n as a caller reads them.
+pub fn write_levels(book: &mut [u32], n: u32)
+    requires { ⌜ (bookSize ≤ length (now book)) × (n ≤ mostNumbers) ⌝ }
+    ensures { λ _. ⌜ now (book .exit) ≡ levelsWritten (now (book .entry)) n ⌝ }
+{
+    let mut k = 0;
+    while k < n {
+        let own = level(book, k);
+        book[BOOK_STRIDE * wide(k) + 2] = own;
+        k += 1;
+    }
 }
 
 // Where the solution of unknown k stands, if it has one. Whatever follows a chain goes on by this, its numbers in 16 bits.
@@ -322,7 +382,7 @@ pub fn compare(l: &[u32], r: &[u32], book: &[u32], c: Rest) -> Met
 // Empties the book.
 pub fn clear_book(book: &mut [u32])
     requires { ⌜ bookSize ≤ length (now book) ⌝ }
-    ensures { λ _. ⌜ now (book .exit) ≡ sets (now (book .entry)) 0 (bookWords []) ⌝ }
+    ensures { λ _. ⌜ now (book .exit) ≡ sets (now (book .entry)) 0 (bookWords [] ownLevels 0) ⌝ }
 {
     clear_words(book, 0, BOOK_SIZE);
 }

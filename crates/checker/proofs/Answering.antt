@@ -17,7 +17,8 @@ use Rattle.grammar.specs.Check.{check, checkNumber, checkLine}
 use Rattle.grammar.proofs.Lines.{line-small}
 use Rattle.sheet.specs.Plan.{triples}
 use Rattle.judgment.specs.declared.Answer.{Answer}
-use Rattle.judgment.specs.Result.{Result, Buffers, Called, limitsWith, judge, refusedAt, limitBad, tooShort, refusedSheet, byCheck, call, boardWords, bookWords, reportWords}
+use Rattle.judgment.specs.Levels.{Mode}
+use Rattle.judgment.specs.Result.{Result, Buffers, Called, limitsFor, judge, refusedAt, limitBad, tooShort, refusedSheet, byCheck, call, boardWords, bookWords, reportWords}
 use Rattle.judgment.proofs.Narrow.{limit-good}
 use Rattle.judgment.proofs.Promised.{promise}
 use Rattle.judgment.proofs.Words.{length-board, length-book, length-report}
@@ -34,24 +35,24 @@ pub fronted : {limit : ℕ} {s b k rep : List ℕ} (a : FrontAsk limit s b k rep
 fronted {limit} {s} {b} {k} {rep} a o {b'} {k'} {rep'} q = record {
   answer = q .answer;
   board = front b b' boardWords boardSize length-board (a .board) (q .board);
-  book = front k k' (bookWords (o .solutions)) bookSize (length-book (o .solutions)) (a .book) (q .book);
+  book = front k k' (bookWords (o .solutions) (o .levels) (o .answer .fresh)) bookSize (length-book (o .solutions) (o .levels) (o .answer .fresh)) (a .book) (q .book);
   report = front rep rep' (reportWords limit (o .report)) (reportStride * limit) (length-report limit (o .report)) (a .report) (q .report);
 }
 
 -- ---- the tests
-module _ (s : List ℕ) (c w : ℕ) (b : Buffers) where
-  called : {a : Answer} {d : Buffers} → call s c w b ≡ record { answer = a; after = d } → Answered s c w b a d
+module _ (m : Mode) (s : List ℕ) (c w : ℕ) (b : Buffers) where
+  called : {a : Answer} {d : Buffers} → call m s c w b ≡ record { answer = a; after = d } → Answered m s c w b a d
   called {a} {d} e = record {
     answer = sym (ap (λ (x : Called). x .answer) e);
     buffers = sym (ap (λ (x : Called). x .after) e);
-    promise = promise (limitsWith w) s c;
+    promise = promise (limitsFor m w) s c;
   }
 
-  pub high-ceiling : {a : Answer} → highestCeiling < c → a ≡ refusedAt 1 0 → Answered s c w b a b
+  pub high-ceiling : {a : Answer} → highestCeiling < c → a ≡ refusedAt 1 0 → Answered m s c w b a b
   unfolding call
   high-ceiling h e = called (rw (lt-ltb highestCeiling c h, e) refl)
 
-  pub bad-limit : {a : Answer} {x : Bool} → c ≤ highestCeiling → x ≡ limitBad w → x ≡ true → a ≡ refusedAt 32 0 → Answered s c w b a b
+  pub bad-limit : {a : Answer} {x : Bool} → c ≤ highestCeiling → x ≡ limitBad w → x ≡ true → a ≡ refusedAt 32 0 → Answered m s c w b a b
   unfolding call
   bad-limit h l q e = called (rw (le-ltb highestCeiling c h, sym l ∙ q, e) refl)
 
@@ -59,17 +60,17 @@ module _ (s : List ℕ) (c w : ℕ) (b : Buffers) where
     pub low-limit : w ≤ highestLimit
     low-limit = limit-good w (sym l ∙ p) .1
 
-    pub short-buffer : {a : Answer} {x : Bool} → x ≡ tooShort w b → x ≡ true → a ≡ refusedAt 2 0 → Answered s c w b a b
+    pub short-buffer : {a : Answer} {x : Bool} → x ≡ tooShort w b → x ≡ true → a ≡ refusedAt 2 0 → Answered m s c w b a b
     unfolding call
     short-buffer t q e = called (rw (le-ltb highestCeiling c h, sym l ∙ p, sym t ∙ q, e) refl)
 
     module _ {x : Bool} (t : x ≡ tooShort w b) (q : x ≡ false) where
-      by-check : (v : Check) → check s ≡ v → call s c w b ≡ byCheck s c w b v
+      by-check : (v : Check) → check s ≡ v → call m s c w b ≡ byCheck m s c w b v
       unfolding call
       by-check v z = rw (le-ltb highestCeiling c h, sym l ∙ p, sym t ∙ q, z) refl
 
       -- 3, 4 or 5
-      pub refused-by : (k : Check) {a : Answer} → check s ≡ k → byCheck s c w b k ≡ refusedSheet k b → a ≡ refusedAt (checkNumber k) (checkLine k) → Answered s c w b a b
+      pub refused-by : (k : Check) {a : Answer} → check s ≡ k → byCheck m s c w b k ≡ refusedSheet k b → a ≡ refusedAt (checkNumber k) (checkLine k) → Answered m s c w b a b
       refused-by k z p e = called (by-check k z ∙ p ∙ rw e refl)
 
       long-enough : tooShort w b ≡ false → (boardSize ≤ length (b .board)) × (bookSize ≤ length (b .book)) × (reportStride * w ≤ length (b .report))
@@ -83,9 +84,9 @@ module _ (s : List ℕ) (c w : ℕ) (b : Buffers) where
           go false false false p q r e = (ltb-false (length (b .board)) boardSize p, ltb-false (length (b .book)) bookSize q, ltb-false (length (b .report)) (reportStride * w) r)
 
       pub front-asks : check s ≡ Plan → FrontAsk w s (b .board) (b .book) (b .report)
-      front-asks z = let m = long-enough (sym t ∙ q) in record { plan = z; limited = low-limit; board = m .0; book = m .1; report = m .2 }
+      front-asks z = let e = long-enough (sym t ∙ q) in record { plan = z; limited = low-limit; board = e .0; book = e .1; report = e .2 }
 
-      pub answered : {a : Answer} {d : Buffers} → check s ≡ Plan → Fronted w (judge (limitsWith w) c (triples s)) (b .board) (b .book) (b .report) (d .board) (d .book) (d .report) a → Answered s c w b a d
+      pub answered : {a : Answer} {d : Buffers} → check s ≡ Plan → Fronted w (judge (limitsFor m w) c (triples s)) (b .board) (b .book) (b .report) (d .board) (d .book) (d .report) a → Answered m s c w b a d
       answered {a} {d} z f = called (by-check Plan z ∙ sym (rw (f .answer, f .board, f .book, f .report) refl))
 
 -- a refused line is a word

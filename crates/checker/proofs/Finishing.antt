@@ -19,14 +19,14 @@ use Rattle.sheet.specs.Rows.{rows}
 use Rattle.judgment.specs.declared.Answer.{Answer}
 use Rattle.judgment.specs.Solutions.{Solutions}
 use Rattle.judgment.specs.Board.{State, state}
-use Rattle.judgment.specs.Run.{runFrom, checkType}
+use Rattle.judgment.specs.Levels.{Levels, ownLevels, levelsAfter, Mode}
+use Rattle.judgment.specs.Run.{events, runFrom, checkType}
 use Rattle.judgment.specs.Run.{Run as Steps, run as steps}
 use Rattle.judgment.specs.Chain.{Told, told}
-use Rattle.judgment.specs.Result.{startOf, Result, endReport, resultOf, runOf, judge, limitsWith, padded, bookWords, reportWords, boardWords}
+use Rattle.judgment.specs.Result.{startOf, Result, endReport, resultOf, runOf, judge, limitsFor, padded, bookWords, reportWords, boardWords}
 use Rattle.judgment.proofs.Words.{length-board}
-use Rattle.book.specs.declared.Book.{Book}
-use Rattle.book.specs.Book.{sols, Booked}
-use Rattle.book.proofs.Words.{words-at, book-words}
+use Rattle.book.specs.Book.{sols, levelsOf, levelsWritten}
+use Rattle.book.proofs.Words.{words-at, book-words, length-written}
 use Rattle.operations.specs.declared.Halt.{Halt}
 use Rattle.operations.specs.declared.Run.{Run}
 use Rattle.operations.specs.State.{reported, errorOf, going, stateOf, WellFormed}
@@ -46,23 +46,26 @@ resultTold plain t = record {
   answer = answerBy plain (t .end) (t .taken) (counterOf (t .last));
   report = endReport (t .end);
   solutions = solutionsOf (t .last);
+  levels = t .levels;
 }
 
-result-told : (plain : Bool) (R : Steps) → resultOf plain R ≡ resultTold plain (told 0 R)
+result-told : (plain : Bool) (v : Levels) (R : Steps) → resultOf plain v R ≡ resultTold plain (told 0 v R)
 unfolding resultOf
-result-told plain (steps ss e (state Γ σ n)) =
-    ap (λ (m : ℕ). resultTold plain (record { end = e; taken = m; last = state Γ σ n })) (sym (zero-add (length ss)))
+result-told plain v (steps ss e (state Γ σ n)) =
+    ap (λ (m : ℕ). resultTold plain (record { end = e; taken = m; last = state Γ σ n; levels = levelsAfter (events ss) v })) (sym (zero-add (length ss)))
 
-pub judged : (s : List ℕ) (C limit : ℕ) (b k rep : List ℕ) (c : Run) → told 0 (runFrom (limitsWith limit) (envOn s) C (startOf (rows s))) ≡ record { end = endOf rep c; taken = c .taken; last = stateOf (rows s) b k c }
-    → judge (limitsWith limit) C (rows s) ≡ record {
+pub judged : (m : Mode) (s : List ℕ) (C limit : ℕ) (b k rep : List ℕ) (c : Run)
+    → told 0 ownLevels (runFrom (limitsFor m limit) (envOn s) C ownLevels (startOf (rows s))) ≡ record { end = endOf rep c; taken = c .taken; last = stateOf (rows s) b k c; levels = levelsOf k }
+    → judge (limitsFor m limit) C (rows s) ≡ record {
       answer = answerBy (planOf (rows s) .plain) (endOf rep c) (c .taken) (c .fresh);
       report = endReport (endOf rep c);
       solutions = sols k;
+      levels = levelsOf k;
     }
 unfolding judge runOf checkType
-judged s C limit b k rep c e =
+judged m s C limit b k rep c e =
     let p = planOf (rows s) in
-    result-told (p .plain) (runFrom (limitsWith limit) (envOn s) C (startOf (rows s))) ∙ ap (resultTold (p .plain)) e
+    result-told (p .plain) ownLevels (runFrom (limitsFor m limit) (envOn s) C ownLevels (startOf (rows s))) ∙ ap (resultTold (p .plain)) e
 
 -- ---- the buffers
 -- all words of a buffer of that length
@@ -74,8 +77,9 @@ all-set l vs e =
 pub whole-board : (b b' : List ℕ) → length b ≡ boardSize → b' ≡ sets b 0 boardWords → b' ≡ boardWords
 whole-board b b' l e = e ∙ all-set b boardWords (l ∙ sym length-board)
 
-pub whole-book : {k : List ℕ} {d : Book} → Booked k d → length k ≡ bookSize → k ≡ bookWords (sols k)
-whole-book {k} {d} h e = sym (take-all bookSize k (omega arith)) ∙ book-words k d h
+pub whole-book : {b k : List ℕ} {c : Run} → WellFormed b k c → length k ≡ bookSize → levelsWritten k (c .fresh) ≡ bookWords (sols k) (levelsOf k) (c .fresh)
+whole-book {b} {k} {c} h e =
+    sym (take-all bookSize (levelsWritten k (c .fresh)) (omega (arith, length-written k (c .fresh)))) ∙ book-words k (c .book) (h .book) (c .fresh) (h .numbers) (λ j l i. h .unmade j l i .1)
 
 -- the report: n nodes, and then 0
 module _ (limit : ℕ) (rep : List ℕ) (len : length rep ≡ reportStride * limit) (n : ℕ) where
@@ -160,18 +164,18 @@ pub end-clears : {n size l : ℕ} (h : Halt) → n ≡ reportEnd size h → size
 end-clears h e q = let x = end-within h e in omega arith
 
 -- ---- all of it
-pub ran : (s : List ℕ) (C limit : ℕ) {b k : List ℕ} (rep : List ℕ) (c : Run) {b' rep' : List ℕ} {a : Answer} {plain : Bool} {size n : ℕ}
-    → WellFormed b k c × (told 0 (runFrom (limitsWith limit) (envOn s) C (startOf (rows s))) ≡ record { end = endOf rep c; taken = c .taken; last = stateOf (rows s) b k c })
-    → length k ≡ bookSize → length rep ≡ reportStride * limit → b' ≡ boardWords → size ≡ length rep → n ≡ reportEnd size (c .halt) → rep' ≡ sets rep n (zeros (size - n))
-    → plain ≡ plainPlan (rows s) → ((rep : List ℕ) → a ≡ answerBy plain (endOf rep c) (c .taken) (c .fresh)) → Ran limit (judge (limitsWith limit) C (rows s)) b' k rep' a
+pub ran : (m : Mode) (s : List ℕ) (C limit : ℕ) {b k : List ℕ} (rep : List ℕ) (c : Run) {b' k' rep' : List ℕ} {a : Answer} {plain : Bool} {size n : ℕ}
+    → WellFormed b k c × (told 0 ownLevels (runFrom (limitsFor m limit) (envOn s) C ownLevels (startOf (rows s))) ≡ record { end = endOf rep c; taken = c .taken; last = stateOf (rows s) b k c; levels = levelsOf k })
+    → length k ≡ bookSize → k' ≡ levelsWritten k (c .fresh) → length rep ≡ reportStride * limit → b' ≡ boardWords → size ≡ length rep → n ≡ reportEnd size (c .halt) → rep' ≡ sets rep n (zeros (size - n))
+    → plain ≡ plainPlan (rows s) → ((rep : List ℕ) → a ≡ answerBy plain (endOf rep c) (c .taken) (c .fresh)) → Ran limit (judge (limitsFor m limit) C (rows s)) b' k' rep' a
 unfolding planOf
-ran s C limit {b} {k} rep c {size} {n} h lk lr eb es en er ep ea =
-    let j = judged s C limit b k rep c (h .1) in
+ran m s C limit {b} {k} rep c {size} {n} h lk ek lr eb es en er ep ea =
+    let j = judged m s C limit b k rep c (h .1) in
     let z : size ≡ reportStride * limit = es ∙ lr in
     record {
       answer = ea rep ∙ ap (λ (p : Bool). answerBy p (endOf rep c) (c .taken) (c .fresh)) ep ∙ sym (ap (λ (r : Result). r .answer) j);
       board = eb;
-      book = whole-book (h .0 .book) lk ∙ sym (ap (λ (r : Result). bookWords (r .solutions)) j);
+      book = ek ∙ whole-book (h .0) lk ∙ sym (ap (λ (r : Result). bookWords (r .solutions) (r .levels) (r .answer .fresh)) j);
       report = er ∙ ap (λ (m : ℕ). sets rep m (zeros (size - m))) en ∙ ap (λ (m : ℕ). sets rep (reportEnd m (c .halt)) (zeros (m - reportEnd m (c .halt)))) z
           ∙ ended-report limit rep lr (c .halt) (c .board .entries) ∙ sym (ap (λ (r : Result). reportWords limit (r .report)) j);
     }

@@ -13,7 +13,8 @@ use Rattle.sheet.specs.Plan.{triples}
 use Rattle.sheet.specs.Rows.{rows, Ended}
 use Rattle.sheet.proofs.Lines.{length-triples}
 use Rattle.judgment.specs.declared.Answer.{Answer}
-use Rattle.judgment.specs.Result.{limitsWith, judge}
+use Rattle.judgment.specs.Result.{limitsFor, judge}
+use Rattle.judgment.specs.Levels.{Mode}
 use Rattle.inferring.specs.Inferring.{CaseRoom}
 use Rattle.stepping.specs.Stepping.{Read}
 use Rattle.checker.specs.Calling.{RunAsk, RowsAsk, Ran}
@@ -33,5 +34,5 @@ pub rows-asks : (d : List ℕ) {limit : ℕ} {s b k rep r w v : List ℕ} → Ru
     → RowsAsk limit s b k rep (take (4 * (length s / lineLength)) d) r w v
 rows-asks d {limit} {s} p h x y z = record { run = p; rows = length-take-le (4 * (length s / lineLength)) d h; right = x; frames = y; bound = z }
 
-pub ran-as : {ls ms : List Triple} (c limit : ℕ) {b k rep : List ℕ} {a : Answer} → ls ≡ ms → Ran limit (judge (limitsWith limit) c ls) b k rep a → Ran limit (judge (limitsWith limit) c ms) b k rep a
-ran-as c limit {b} {k} {rep} {a} e r = subst (λ (ls : List Triple). Ran limit (judge (limitsWith limit) c ls) b k rep a) e r
+pub ran-as : (m : Mode) {ls ms : List Triple} (c limit : ℕ) {b k rep : List ℕ} {a : Answer} → ls ≡ ms → Ran limit (judge (limitsFor m limit) c ls) b k rep a → Ran limit (judge (limitsFor m limit) c ms) b k rep a
+ran-as m c limit {b} {k} {rep} {a} e r = subst (λ (ls : List Triple). Ran limit (judge (limitsFor m limit) c ls) b k rep a) e r

@@ -6,7 +6,7 @@ use native.Mathlib.Nat.{add-zero}
 use native.Mathlib.Omega.{arith}
 use lib.ListN.{length, take, drop}
 use lib.Seq.{sets}
-use Rattle.sizes.specs.Sizes.{mostLines, mostNodes, typeWords, boardSize, bookSize}
+use Rattle.sizes.specs.Sizes.{mostLines, mostNodes, typeWords, boardSize, bookSize, bookStride}
 use Rattle.nodes.specs.Nodes.{Ty, words, nodesAt}
 use Rattle.nodes.specs.Lists.{All}
 use Rattle.nodes.specs.Parts.{takeParts, dropParts}
@@ -25,6 +25,7 @@ use mathlib.Core.Bool.{Bool, true, false, cond, true≢false}
 use Rattle.judgment.specs.Board.{Limits, State, Outcome, finished, refused}
 use Rattle.judgment.specs.Run.{runFrom}
 use Rattle.judgment.proofs.Plans.{plan-inv}
+use Rattle.judgment.specs.Levels.{Levels, ownLevels}
 use Rattle.judgment.specs.Result.{startOf, bookWords}
 use Rattle.applying.specs.Applying.{envOn}
 use Rattle.board.specs.declared.Board.{Board}
@@ -32,7 +33,8 @@ use Rattle.board.specs.Board.{termAt, entryOf, entriesOf, Stacked, laid, grown,
 use Rattle.board.proofs.Stacks.{laid-entries, laid-stacked, new-stacked, no-entries}
 use Rattle.board.proofs.Terms.{part-lines}
 use Rattle.book.specs.declared.Book.{Book}
-use Rattle.book.specs.Book.{sols}
+use Rattle.book.specs.Book.{sols, levelsOf}
+use Rattle.book.proofs.Levels.{new-levels, new-level-words}
 use Rattle.book.proofs.Words.{new-sols, new-booked, zero-at}
 use Rattle.inference.proofs.Heads.{part-within}
 use Rattle.inference.proofs.Written.{length-typeOn, copied}
@@ -126,15 +128,15 @@ module _ (s : List ℕ) (h : Read s) where
         subst (λ (m : ℕ). Stacked words-after (grown none m)) e
         (laid-stacked (new-stacked b lb) 5 (placesOf ls .term) T [] (omega arith) few (λ _. sym (add-zero (length T))))
 
-    pub begun-formed : WellFormed words-after (sets k 0 (bookWords [])) begun
+    pub begun-formed : WellFormed words-after (sets k 0 (bookWords [] ownLevels 0)) begun
     begun-formed = record {
       board = stacked;
       book = new-booked k lk;
       numbers = omega arith;
-      unmade = λ j _ i. let z = zero-at k lk (2 * j) (omega arith) in omega arith;
+      unmade = λ j _ i. (let z = zero-at k lk (bookStride * j) (omega arith) in omega arith, new-level-words k lk j i);
     }
 
-    pub begun-outcome : (rep : List ℕ) → outcomeOf ls words-after (sets k 0 (bookWords [])) rep begun ≡ finished (startOf ls)
+    pub begun-outcome : (rep : List ℕ) → outcomeOf ls words-after (sets k 0 (bookWords [] ownLevels 0)) rep begun ≡ finished (startOf ls)
     unfolding entryOf
     begun-outcome rep =
         rw (laid-entries (new-stacked b lb) 5 (placesOf ls .term) T [] (omega arith) few ls, no-entries ls b, new-sols k lk, term-is, tn, type-is) refl
@@ -169,14 +171,14 @@ module _ {s b k t : List ℕ} (a : StartAsk s b k t) {p : Places} (ep : p ≡ pl
         let z : T ≡ nodesOf (take (partLine (rows s) (placesOf (rows s) .expected) 1 - placesOf (rows s) .expected) (drop (placesOf (rows s) .expected) (rows s))) = rw (ee, ep) refl in
         y ∙ z
 
-    pub begun-is : {b' k' : List ℕ} {q : Board} {bk : Book} → (b' ≡ laid b d 5 (p .term) (nodesAt t' 0 (e - p .expected)) (nodesAt t' 0 0)) × (q ≡ grown d (e - p .expected + 0)) → k' ≡ sets k 0 (bookWords []) → bk ≡ record { nodes = 0 } → {h : Halt} → h ≡ noHalt
-        → (let r : Run = record { taken = 0; fresh = 0; board = q; book = bk; halt = h } in WellFormed b' k' r × (r .taken ≡ 0) × ((rep : List ℕ) → outcomeOf (rows s) b' k' rep r ≡ finished (startOf (rows s))))
+    pub begun-is : {b' k' : List ℕ} {q : Board} {bk : Book} → (b' ≡ laid b d 5 (p .term) (nodesAt t' 0 (e - p .expected)) (nodesAt t' 0 0)) × (q ≡ grown d (e - p .expected + 0)) → k' ≡ sets k 0 (bookWords [] ownLevels 0) → bk ≡ record { nodes = 0 } → {h : Halt} → h ≡ noHalt
+        → (let r : Run = record { taken = 0; fresh = 0; board = q; book = bk; halt = h } in WellFormed b' k' r × (r .taken ≡ 0) × (levelsOf k' ≡ ownLevels) × ((rep : List ℕ) → outcomeOf (rows s) b' k' rep r ≡ finished (startOf (rows s))))
     unfolding nodesAt
     begun-is u ek eb eh =
         let f = begun-formed s (a .plan) b k t' (a .board) (a .book) (e - p .expected) count-is expected-nodes in
         let o = begun-outcome s (a .plan) b k t' (a .board) (a .book) (e - p .expected) count-is expected-nodes in
         let pt : p .term ≡ placesOf (rows s) .term = ap (λ (x : Places). x .term) ep in
-        (rw (u .0, u .1, ek, eb, ed, pt, eh) f, refl, λ rep. rw (u .0, u .1, ek, ed, pt, eh) (o rep))
+        (rw (u .0, u .1, ek, eb, ed, pt, eh) f, refl, rw ek (new-levels k (a .book)), λ rep. rw (u .0, u .1, ek, ed, pt, eh) (o rep))
 
 -- what stands in the words is where the run of the sheet starts
 abbrev stateIn : Outcome → State
@@ -187,27 +189,28 @@ abbrev goesOn : Outcome → Bool
 goesOn (finished s) = true
 goesOn (refused e ts s) = false
 
-pub start-is : (s b k : List ℕ) (c : Run) → WellFormed b k c × (c .taken ≡ 0) × ((rep : List ℕ) → outcomeOf (rows s) b k rep c ≡ finished (startOf (rows s))) → (going (c .halt) ≡ true) × (stateOf (rows s) b k c ≡ startOf (rows s))
-start-is s b k c q = go (going (c .halt)) refl (q .2 [])
+pub start-is : (s b k : List ℕ) (c : Run) → WellFormed b k c × (c .taken ≡ 0) × (levelsOf k ≡ ownLevels) × ((rep : List ℕ) → outcomeOf (rows s) b k rep c ≡ finished (startOf (rows s))) → (going (c .halt) ≡ true) × (stateOf (rows s) b k c ≡ startOf (rows s))
+start-is s b k c q = go (going (c .halt)) refl (q .3 [])
   where
     go : (g : Bool) → going (c .halt) ≡ g → cond g (finished (stateOf (rows s) b k c)) (refused (errorOf (c .halt)) (nodesAt [] 0 (reported (errorOf (c .halt)))) (stateOf (rows s) b k c)) ≡ finished (startOf (rows s))
         → (going (c .halt) ≡ true) × (stateOf (rows s) b k c ≡ startOf (rows s))
     go true p e = (p, ap stateIn e)
     go false p e = absurd (true≢false (sym (ap goesOn e)))
 
-pub start-stands : (s b k : List ℕ) (c : Run) → Read s → WellFormed b k c × (c .taken ≡ 0) × ((rep : List ℕ) → outcomeOf (rows s) b k rep c ≡ finished (startOf (rows s))) → Standing s b k c × (going (c .halt) ≡ true)
+pub start-stands : (s b k : List ℕ) (c : Run) → Read s → WellFormed b k c × (c .taken ≡ 0) × (levelsOf k ≡ ownLevels) × ((rep : List ℕ) → outcomeOf (rows s) b k rep c ≡ finished (startOf (rows s))) → Standing s b k c × (going (c .halt) ≡ true)
 start-stands s b k c h q =
     let p = planOf (rows s) in
     let w = read-whole h in
     let e = start-is s b k c q in
     let o = of-outcome ⊥ (c .halt) [] (entriesOf (rows s) b (c .board .entries)) (sols k) (c .fresh)
-    (subst⁻¹ (OutcomeOK ⊥) (q .2 []) (record { inv = plan-inv p (read-good h); entries = (w .1, tt); solutions = tt })) in
+    (subst⁻¹ (OutcomeOK ⊥) (q .3 []) (record { inv = plan-inv p (read-good h); entries = (w .1, tt); solutions = tt })) in
     (record { plan = h; formed = q .0; good = o }, e .0)
 
 -- its run is the sheet's
-pub start-told : (L : Limits) (s b k : List ℕ) (c : Run) (C : ℕ) → WellFormed b k c × (c .taken ≡ 0) × ((rep : List ℕ) → outcomeOf (rows s) b k rep c ≡ finished (startOf (rows s)))
-    → told 0 (runFrom L (envOn s) C (startOf (rows s))) ≡ told (c .taken) (runFrom L (envOn s) (C - c .taken) (stateOf (rows s) b k c))
+pub start-told : (L : Levels → Limits) (s b k : List ℕ) (c : Run) (C : ℕ) → WellFormed b k c × (c .taken ≡ 0) × (levelsOf k ≡ ownLevels) × ((rep : List ℕ) → outcomeOf (rows s) b k rep c ≡ finished (startOf (rows s)))
+    → told 0 ownLevels (runFrom L (envOn s) C ownLevels (startOf (rows s))) ≡ told (c .taken) (levelsOf k) (runFrom L (envOn s) (C - c .taken) (levelsOf k) (stateOf (rows s) b k c))
 start-told L s b k c C q =
     let e = start-is s b k c q in
     let z : C ≡ C - 0 = omega arith in
-    sym (ap₂ (λ (m : ℕ) (x : State). told m (runFrom L (envOn s) (C - m) x)) (q .1) (e .1) ∙ ap (λ (m : ℕ). told 0 (runFrom L (envOn s) m (startOf (rows s)))) (sym z))
+    sym (ap (λ (v : Levels). told (c .taken) v (runFrom L (envOn s) (C - c .taken) v (stateOf (rows s) b k c))) (q .2)
+    ∙ ap₂ (λ (m : ℕ) (x : State). told m ownLevels (runFrom L (envOn s) (C - m) ownLevels x)) (q .1) (e .1) ∙ ap (λ (m : ℕ). told 0 ownLevels (runFrom L (envOn s) m ownLevels (startOf (rows s)))) (sym z))

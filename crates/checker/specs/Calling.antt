@@ -54,7 +54,7 @@ pub record RowsAsk (limit : ℕ) (s b k rep d r w v : List ℕ) : Type 0 where
 pub record Ran (limit : ℕ) (o : Result) (b k rep : List ℕ) (a : Answer) : Type 0 where
   pub answer : a ≡ o .answer
   pub board : b ≡ boardWords
-  pub book : k ≡ bookWords (o .solutions)
+  pub book : k ≡ bookWords (o .solutions) (o .levels) (o .answer .fresh)
   pub report : rep ≡ reportWords limit (o .report)
 
 -- the same of buffers that may be longer
@@ -68,5 +68,5 @@ pub record FrontAsk (limit : ℕ) (s b k rep : List ℕ) : Type 0 where
 pub record Fronted (limit : ℕ) (o : Result) (b k rep b' k' rep' : List ℕ) (a : Answer) : Type 0 where
   pub answer : a ≡ o .answer
   pub board : b' ≡ sets b 0 boardWords
-  pub book : k' ≡ sets k 0 (bookWords (o .solutions))
+  pub book : k' ≡ sets k 0 (bookWords (o .solutions) (o .levels) (o .answer .fresh))
   pub report : rep' ≡ sets rep 0 (reportWords limit (o .report))

@@ -9,10 +9,12 @@ ghost use Rattle.sheet.specs.Plan.{triples};
 ghost use Rattle.sheet.specs.Rows.{rows};
 ghost use Rattle.judgment.specs.Run.{runFrom};
 ghost use Rattle.judgment.specs.Chain.{told};
-ghost use Rattle.judgment.specs.Result.{limitsWith, startOf, judge, refusedAt, limitBad, tooShort};
-ghost use Rattle.operations.specs.State.{outcomeOf, stateOf, WellFormed, going};
+ghost use Rattle.judgment.specs.Result.{limitsFor, startOf, judge, refusedAt, limitBad, tooShort};
+ghost use Rattle.operations.specs.State.{outcomeOf, stateOf, WellFormed, going, modeOf};
 ghost use Rattle.applying.specs.Applying.{envOn};
 ghost use Rattle.judgment.specs.Board.{finished};
+ghost use Rattle.judgment.specs.Levels.{ownLevels, firstCall, strictCall};
+ghost use Rattle.book.specs.Book.{levelsOf};
 ghost use Rattle.stepping.specs.Stepping.{Standing, Lent};
 ghost use Rattle.ending.specs.Ending.{endOf};
 ghost use Rattle.checker.specs.Calling.{shortLines, middleLines, StartAsk, PlanAsk, RunAsk, RowsAsk, Ran, FrontAsk, Fronted};
@@ -21,6 +23,7 @@ use board::Board;
 use board::clear_board;
 use book::Book;
 use book::clear_book;
+use book::write_levels;
 use ending::answer;
 use ending::report_end;
 use ending::takes_more;
@@ -59,6 +62,7 @@ fn solve(
     s: &[u64],
     ceiling: u32,
     limit: usize,
+    strict: bool,
     t: &mut [u32],
     l: &mut [u32],
     r: &mut [u32],
@@ -66,11 +70,11 @@ fn solve(
     v: &mut [usize],
 ) -> Run
     requires { ⌜ Standing (now s) (now board) (now book) c × (going (c .halt) ≡ true) × (limit ≤ mostNodes) × (4 * limit ≤ length (now report)) × Lent (now s) (now t) (now l) (now r) (now w) (now v) ⌝ }
-    ensures { λ q. ⌜ WellFormed (now (board .exit)) (now (book .exit)) q × (told (c .taken) (runFrom (limitsWith limit) (envOn (now (s .entry))) (ceiling - c .taken) (stateOf (rows (now (s .entry))) (now (board .entry)) (now (book .entry)) c)) ≡ record { end = endOf (now (report .exit)) q; taken = q .taken; last = stateOf (rows (now (s .entry))) (now (board .exit)) (now (book .exit)) q }) ⌝ }
+    ensures { λ q. ⌜ WellFormed (now (board .exit)) (now (book .exit)) q × (told (c .taken) (levelsOf (now (book .entry))) (runFrom (limitsFor (modeOf strict) limit) (envOn (now (s .entry))) (ceiling - c .taken) (levelsOf (now (book .entry))) (stateOf (rows (now (s .entry))) (now (board .entry)) (now (book .entry)) c)) ≡ record { end = endOf (now (report .exit)) q; taken = q .taken; last = stateOf (rows (now (s .entry))) (now (board .exit)) (now (book .exit)) q; levels = levelsOf (now (book .exit)) }) ⌝ }
 {
     let mut run = c;
     while takes_more(run, ceiling) {
-        run = solve_step(board, book, report, run, s, limit, t, l, r, w, v);
+        run = solve_step(board, book, report, run, s, limit, strict, t, l, r, w, v);
     }
     run
 }
@@ -78,7 +82,7 @@ fn solve(
 // The Chk of term and expected type on the board, and no solution.
 fn start(board: &mut [u32], book: &mut [u32], s: &[u64], t: &mut [u32]) -> Run
     requires { ⌜ StartAsk (now s) (now board) (now book) (now t) ⌝ }
-    ensures { λ r. ⌜ WellFormed (now (board .exit)) (now (book .exit)) r × (r .taken ≡ 0) × ((rep : List ℕ) → outcomeOf (rows (now (s .entry))) (now (board .exit)) (now (book .exit)) rep r ≡ finished (startOf (rows (now (s .entry))))) ⌝ }
+    ensures { λ r. ⌜ WellFormed (now (board .exit)) (now (book .exit)) r × (r .taken ≡ 0) × (levelsOf (now (book .exit)) ≡ ownLevels) × ((rep : List ℕ) → outcomeOf (rows (now (s .entry))) (now (board .exit)) (now (book .exit)) rep r ≡ finished (startOf (rows (now (s .entry))))) ⌝ }
 {
     clear_book(book);
     let places = find_places(s);
@@ -103,6 +107,7 @@ fn check_plan(
     s: &[u64],
     ceiling: u32,
     limit: usize,
+    strict: bool,
     board: &mut [u32],
     book: &mut [u32],
     report: &mut [u32],
@@ -113,11 +118,26 @@ fn check_plan(
     v: &mut [usize],
 ) -> Answer
     requires { ⌜ PlanAsk limit (now s) (now board) (now book) (now report) (now t) (now l) (now r) (now w) (now v) ⌝ }
-    ensures { λ o. ⌜ Ran limit (judge (limitsWith limit) ceiling (rows (now (s .entry)))) (now (board .exit)) (now (book .exit)) (now (report .exit)) o ⌝ }
+    ensures { λ o. ⌜ Ran limit (judge (limitsFor (modeOf strict) limit) ceiling (rows (now (s .entry)))) (now (board .exit)) (now (book .exit)) (now (report .exit)) o ⌝ }
 {
     let c = start(board, book, s, t);
-    let o = solve(board, book, report, c, s, ceiling, limit, t, l, r, w, v);
+    let o = solve(
+        board,
+        book,
+        report,
+        c,
+        s,
+        ceiling,
+        limit,
+        strict,
+        t,
+        l,
+        r,
+        w,
+        v,
+    );
     clear_board(board);
+    write_levels(book, o.fresh);
     let halt = o.halt;
     let size = report.len();
     let end = report_end(halt, size);
@@ -130,6 +150,7 @@ fn run_rows(
     s: &[u8],
     ceiling: u32,
     limit: usize,
+    strict: bool,
     board: &mut [u32],
     book: &mut [u32],
     report: &mut [u32],
@@ -139,7 +160,7 @@ fn run_rows(
     v: &mut [usize],
 ) -> Answer
     requires { ⌜ RowsAsk limit (now s) (now board) (now book) (now report) (now d) (now r) (now w) (now v) ⌝ }
-    ensures { λ o. ⌜ Ran limit (judge (limitsWith limit) ceiling (triples (now (s .entry)))) (now (board .exit)) (now (book .exit)) (now (report .exit)) o ⌝ }
+    ensures { λ o. ⌜ Ran limit (judge (limitsFor (modeOf strict) limit) ceiling (triples (now (s .entry)))) (now (board .exit)) (now (book .exit)) (now (report .exit)) o ⌝ }
 {
     read_rows(d, s);
     let mut t = [0u32; TYPE_WORDS];
@@ -148,6 +169,7 @@ fn run_rows(
         d,
         ceiling,
         limit,
+        strict,
         board,
         book,
         report,
@@ -164,12 +186,13 @@ fn run_short(
     s: &[u8],
     ceiling: u32,
     limit: usize,
+    strict: bool,
     board: &mut [u32],
     book: &mut [u32],
     report: &mut [u32],
 ) -> Answer
     requires { ⌜ RunAsk limit (now s) (now board) (now book) (now report) × (length (now s) / lineLength ≤ shortLines) ⌝ }
-    ensures { λ o. ⌜ Ran limit (judge (limitsWith limit) ceiling (triples (now (s .entry)))) (now (board .exit)) (now (book .exit)) (now (report .exit)) o ⌝ }
+    ensures { λ o. ⌜ Ran limit (judge (limitsFor (modeOf strict) limit) ceiling (triples (now (s .entry)))) (now (board .exit)) (now (book .exit)) (now (report .exit)) o ⌝ }
 {
     let mut d = [0u64; 4 * SHORT_LINES];
     let mut r = [0u32; 2 * SHORT_LINES + 2];
@@ -179,6 +202,7 @@ fn run_short(
         s,
         ceiling,
         limit,
+        strict,
         board,
         book,
         report,
@@ -194,12 +218,13 @@ fn run_middle(
     s: &[u8],
     ceiling: u32,
     limit: usize,
+    strict: bool,
     board: &mut [u32],
     book: &mut [u32],
     report: &mut [u32],
 ) -> Answer
     requires { ⌜ RunAsk limit (now s) (now board) (now book) (now report) × (length (now s) / lineLength ≤ middleLines) ⌝ }
-    ensures { λ o. ⌜ Ran limit (judge (limitsWith limit) ceiling (triples (now (s .entry)))) (now (board .exit)) (now (book .exit)) (now (report .exit)) o ⌝ }
+    ensures { λ o. ⌜ Ran limit (judge (limitsFor (modeOf strict) limit) ceiling (triples (now (s .entry)))) (now (board .exit)) (now (book .exit)) (now (report .exit)) o ⌝ }
 {
     let mut d = [0u64; 4 * MIDDLE_LINES];
     let mut r = [0u32; 2 * MIDDLE_LINES + 2];
@@ -209,6 +234,7 @@ fn run_middle(
         s,
         ceiling,
         limit,
+        strict,
         board,
         book,
         report,
@@ -224,12 +250,13 @@ fn run_long(
     s: &[u8],
     ceiling: u32,
     limit: usize,
+    strict: bool,
     board: &mut [u32],
     book: &mut [u32],
     report: &mut [u32],
 ) -> Answer
     requires { ⌜ RunAsk limit (now s) (now board) (now book) (now report) ⌝ }
-    ensures { λ o. ⌜ Ran limit (judge (limitsWith limit) ceiling (triples (now (s .entry)))) (now (board .exit)) (now (book .exit)) (now (report .exit)) o ⌝ }
+    ensures { λ o. ⌜ Ran limit (judge (limitsFor (modeOf strict) limit) ceiling (triples (now (s .entry)))) (now (board .exit)) (now (book .exit)) (now (report .exit)) o ⌝ }
 {
     let mut d = [0u64; 4 * MOST_LINES];
     let mut r = [0u32; 2 * MOST_LINES + 2];
@@ -239,6 +266,7 @@ fn run_long(
         s,
         ceiling,
         limit,
+        strict,
         board,
         book,
         report,
@@ -253,20 +281,21 @@ fn run_plan(
     s: &[u8],
     ceiling: u32,
     limit: usize,
+    strict: bool,
     board: &mut [u32],
     book: &mut [u32],
     report: &mut [u32],
 ) -> Answer
     requires { ⌜ RunAsk limit (now s) (now board) (now book) (now report) ⌝ }
-    ensures { λ o. ⌜ Ran limit (judge (limitsWith limit) ceiling (triples (now (s .entry)))) (now (board .exit)) (now (book .exit)) (now (report .exit)) o ⌝ }
+    ensures { λ o. ⌜ Ran limit (judge (limitsFor (modeOf strict) limit) ceiling (triples (now (s .entry)))) (now (board .exit)) (now (book .exit)) (now (report .exit)) o ⌝ }
 {
     if s.len() / LINE_LENGTH <= SHORT_LINES {
-        return run_short(s, ceiling, limit, board, book, report);
+        return run_short(s, ceiling, limit, strict, board, book, report);
     }
     if s.len() / LINE_LENGTH <= MIDDLE_LINES {
-        return run_middle(s, ceiling, limit, board, book, report);
+        return run_middle(s, ceiling, limit, strict, board, book, report);
     }
-    run_long(s, ceiling, limit, board, book, report)
+    run_long(s, ceiling, limit, strict, board, book, report)
 }
 
 // Lends the words that a buffer must have: a longer one keeps its tail.
@@ -274,17 +303,19 @@ fn run_front(
     s: &[u8],
     ceiling: u32,
     limit: usize,
+    strict: bool,
     board: &mut [u32],
     book: &mut [u32],
     report: &mut [u32],
 ) -> Answer
     requires { ⌜ FrontAsk limit (now s) (now board) (now book) (now report) ⌝ }
-    ensures { λ o. ⌜ Fronted limit (judge (limitsWith limit) ceiling (triples (now (s .entry)))) (now (board .entry)) (now (book .entry)) (now (report .entry)) (now (board .exit)) (now (book .exit)) (now (report .exit)) o ⌝ }
+    ensures { λ o. ⌜ Fronted limit (judge (limitsFor (modeOf strict) limit) ceiling (triples (now (s .entry)))) (now (board .entry)) (now (book .entry)) (now (report .entry)) (now (board .exit)) (now (book .exit)) (now (report .exit)) o ⌝ }
 {
     run_plan(
         s,
         ceiling,
         limit,
+        strict,
         &mut board[..BOARD_SIZE],
         &mut book[..BOOK_SIZE],
         &mut report[..REPORT_STRIDE * limit],
@@ -330,17 +361,18 @@ fn too_short(limit: usize, board: &[u32], book: &[u32], report: &[u32]) -> bool
     report.len() < REPORT_STRIDE * limit
 }
 
-// Checks a plan, with at most `ceiling` entries taken and `limit` nodes in a type written out: refusals 1, 32 and 2 to 5 in that
-// order, which write nothing, and then the run. Longer buffers keep their tails.
-pub fn check_type(
+// A plan by the strict call or the first, with at most `ceiling` entries taken and `limit` nodes in a type written out: refusals 1, 32
+// and 2 to 5 in that order, which write nothing, and then the run. Longer buffers keep their tails.
+fn check_call(
     sheet: &[u8],
     ceiling: u32,
     limit: u32,
+    strict: bool,
     board: &mut [u32],
     book: &mut [u32],
     report: &mut [u32],
 ) -> Answer
-    ensures { λ r. ⌜ Answered (now (sheet .entry)) ceiling limit (record { board = now (board .entry); book = now (book .entry); report = now (report .entry) }) r (record { board = now (board .exit); book = now (book .exit); report = now (report .exit) }) ⌝ }
+    ensures { λ r. ⌜ Answered (modeOf strict) (now (sheet .entry)) ceiling limit (record { board = now (board .entry); book = now (book .entry); report = now (report .entry) }) r (record { board = now (board .exit); book = now (book .exit); report = now (report .exit) }) ⌝ }
 {
     if HIGHEST_CEILING < ceiling {
         return refused(1, 0);
@@ -353,9 +385,37 @@ pub fn check_type(
         return refused(2, 0);
     }
     match check_sheet(sheet) {
-        Check::Plan => run_front(sheet, ceiling, nodes, board, book, report),
+        Check::Plan => run_front(sheet, ceiling, nodes, strict, board, book, report),
         Check::Length => refused(3, 0),
         Check::Misspelt(line) => refused(4, line as u32),
         Check::Unfit(line) => refused(5, line as u32),
     }
+}
+
+// Checks a plan as the Rust does.
+pub fn check_type(
+    sheet: &[u8],
+    ceiling: u32,
+    limit: u32,
+    board: &mut [u32],
+    book: &mut [u32],
+    report: &mut [u32],
+) -> Answer
+    ensures { λ r. ⌜ Answered firstCall (now (sheet .entry)) ceiling limit (record { board = now (board .entry); book = now (book .entry); report = now (report .entry) }) r (record { board = now (board .exit); book = now (book .exit); report = now (report .exit) }) ⌝ }
+{
+    check_call(sheet, ceiling, limit, false, board, book, report)
+}
+
+// The same, and 39 where a solution has a universal that is out of the unknown's scope.
+pub fn check_type_strict(
+    sheet: &[u8],
+    ceiling: u32,
+    limit: u32,
+    board: &mut [u32],
+    book: &mut [u32],
+    report: &mut [u32],
+) -> Answer
+    ensures { λ r. ⌜ Answered strictCall (now (sheet .entry)) ceiling limit (record { board = now (board .entry); book = now (book .entry); report = now (report .entry) }) r (record { board = now (board .exit); book = now (book .exit); report = now (report .exit) }) ⌝ }
+{
+    check_call(sheet, ceiling, limit, true, board, book, report)
 }

@@ -7,6 +7,7 @@ ghost use Rattle.sheet.specs.Rows.{rows};
 ghost use Rattle.judgment.specs.Types.{first, rest, view};
 ghost use Rattle.judgment.specs.Terms.{lambdaOf};
 ghost use Rattle.judgment.specs.Rules.{Env, checkArrow, checkBy};
+ghost use Rattle.judgment.specs.Result.{Way};
 ghost use Rattle.board.specs.Board.{termAt};
 ghost use Rattle.operations.specs.State.{WellFormed, Does};
 ghost use Rattle.checking.specs.Checking.{checkedType, lambdaOut, checkedOut, CheckAsk};
@@ -33,7 +34,7 @@ fn check_arrow(
     out: &mut [u32],
 ) -> Run
     requires { ⌜ CheckAsk (now board) c (now s) line (now t) tn (now out) × (0 < tn) ⌝ }
-    ensures { λ r. ⌜ ((w : ℕ) (E : Env) (k rep : List ℕ) → WellFormed (now (board .entry)) k c → Does w (rows (now (s .entry))) (now (board .entry)) k rep c (checkArrow E (termAt (rows (now (s .entry))) line) (nodesAt (now (t .entry)) 0 tn) (first (nodesAt (now (t .entry)) 2 (tn - 1))) (rest (nodesAt (now (t .entry)) 2 (tn - 1))) (lambdaOf (termAt (rows (now (s .entry))) line))) (now (board .exit)) k rep r) × (now (out .exit) ≡ lambdaOut (now (out .entry)) (lambdaOf (termAt (rows (now (s .entry))) line))) ⌝ }
+    ensures { λ r. ⌜ ((w : Way) (E : Env) (k rep : List ℕ) → WellFormed (now (board .entry)) k c → Does w (rows (now (s .entry))) (now (board .entry)) k rep c (checkArrow E (termAt (rows (now (s .entry))) line) (nodesAt (now (t .entry)) 0 tn) (first (nodesAt (now (t .entry)) 2 (tn - 1))) (rest (nodesAt (now (t .entry)) 2 (tn - 1))) (lambdaOf (termAt (rows (now (s .entry))) line))) (now (board .exit)) k rep r) × (now (out .exit) ≡ lambdaOut (now (out .entry)) (lambdaOf (termAt (rows (now (s .entry))) line))) ⌝ }
 {
     let at = wide(line);
     let head = triple_at(s, at);
@@ -54,6 +55,7 @@ fn check_arrow(
 // Chk of the term that starts at a line.
 pub fn solve_checking(
     board: &mut [u32],
+    book: &mut [u32],
     c: Run,
     s: &[u64],
     line: u32,
@@ -61,8 +63,8 @@ pub fn solve_checking(
     tn: usize,
     out: &mut [u32],
 ) -> Run
-    requires { ⌜ CheckAsk (now board) c (now s) line (now t) tn (now out) ⌝ }
-    ensures { λ r. ⌜ ((w : ℕ) (E : Env) (k rep : List ℕ) → WellFormed (now (board .entry)) k c → Does w (rows (now (s .entry))) (now (board .entry)) k rep c (checkBy E (termAt (rows (now (s .entry))) line) (nodesAt (now (t .entry)) 0 tn) (view (nodesAt (now (t .entry)) 0 tn))) (now (board .exit)) k rep r) × (now (t .exit) ≡ checkedType (now (t .entry)) (c .fresh) (view (nodesAt (now (t .entry)) 0 tn))) × (now (out .exit) ≡ checkedOut (now (out .entry)) (lambdaOf (termAt (rows (now (s .entry))) line)) (view (nodesAt (now (t .entry)) 0 tn))) ⌝ }
+    requires { ⌜ WellFormed (now board) (now book) c × CheckAsk (now board) c (now s) line (now t) tn (now out) ⌝ }
+    ensures { λ r. ⌜ ((w : Way) (E : Env) (rep : List ℕ) → Does w (rows (now (s .entry))) (now (board .entry)) (now (book .entry)) rep c (checkBy E (termAt (rows (now (s .entry))) line) (nodesAt (now (t .entry)) 0 tn) (view (nodesAt (now (t .entry)) 0 tn))) (now (board .exit)) (now (book .exit)) rep r) × (now (t .exit) ≡ checkedType (now (t .entry)) (c .fresh) (view (nodesAt (now (t .entry)) 0 tn))) × (now (out .exit) ≡ checkedOut (now (out .entry)) (lambdaOf (termAt (rows (now (s .entry))) line)) (view (nodesAt (now (t .entry)) 0 tn))) ⌝ }
 {
     let k = shape(t, 0, tn);
     if k == ARROW {
@@ -71,7 +73,7 @@ pub fn solve_checking(
     if k == FORALL {
         let name = t[1];
         let n = tn - 1;
-        return check_forall(board, c, line, name, t, 2, n);
+        return check_forall(board, book, c, line, name, t, 2, n);
     }
     synthesize(board, c, line, t, tn)
 }

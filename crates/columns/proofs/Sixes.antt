@@ -15,6 +15,7 @@ use Rattle.spelling.proofs.Fields.{run, field-run, field-reads}
 use Rattle.spelling.proofs.Texts.{length-field}
 use Rattle.judgment.specs.declared.Answer.{Answer}
 use Rattle.judgment.proofs.Narrow.{Narrow}
+use Rattle.judgment.specs.Levels.{Mode}
 use Rattle.judgment.specs.Result.{numbers, Buffers, call}
 use Rattle.judgment.proofs.Narrow.{narrow}
 use Rattle.columns.specs.Columns.{column, columnsText, answerText, sixes, InSixes}
@@ -69,5 +70,5 @@ narrow-six a h =
     }
 
 -- SIX COLUMNS: the text of the answer of every call
-pub in-sixes : (s : List ℕ) (c w : ℕ) (b : Buffers) → InSixes (call s c w b .answer)
-in-sixes s c w b = narrow-six (call s c w b .answer) (narrow s c w b)
+pub in-sixes : (m : Mode) (s : List ℕ) (c w : ℕ) (b : Buffers) → InSixes (call m s c w b .answer)
+in-sixes m s c w b = narrow-six (call m s c w b .answer) (narrow m s c w b)

@@ -12,15 +12,16 @@ use Rattle.nodes.specs.Nodes.{node}
 use Rattle.nodes.proofs.ListLaws.{cond-ind}
 use Rattle.spelling.specs.declared.Triple.{Triple}
 use Rattle.judgment.specs.Types.{Renaming}
-use Rattle.judgment.specs.Board.{tvar, Rule, done, fresh, push}
+use Rattle.judgment.specs.Board.{tvar, Rule, done, fresh, push, own}
 use Rattle.judgment.specs.Rules.{openNames}
+use Rattle.judgment.specs.Result.{Way}
 use Rattle.core_types.specs.Names.{pairs}
 use Rattle.board.specs.Board.{entryOf, Stacked}
 use Rattle.board.specs.Board.{fitting as fitsBoard}
 use Rattle.board.proofs.Stacks.{laid-stacked, fits-facts}
 use Rattle.operations.specs.declared.Run.{Run}
 use Rattle.operations.specs.State.{cameTo, performC, WellFormed, Performs, going, freshRun, pushRun, pushWords, Pushes}
-use Rattle.operations.proofs.Then.{same-going, fresh-is, fresh-made}
+use Rattle.operations.proofs.Then.{same-going, fresh-is, fresh-made, kept, kept-board}
 use Rattle.constructors.specs.Opening.{namedRun, namedWords, Named}
 
 -- ---- a run after an operation
@@ -69,7 +70,7 @@ named-none b c s = record {
   outcome = λ w k rep h f m xs l ls. none w k rep f m xs l ls;
 }
   where
-    none : (w : ℕ) (k rep : List ℕ) (f : Renaming → Rule) (m : Renaming) (xs : List ℕ) → length xs ≡ 0 → (ls : List Triple)
+    none : (w : Way) (k rep : List ℕ) (f : Renaming → Rule) (m : Renaming) (xs : List ℕ) → length xs ≡ 0 → (ls : List Triple)
         → performC w ls (f (pairs xs (c .fresh) m)) (cameTo ls b k rep c) ≡ performC w ls (openNames xs m f) (cameTo ls b k rep c)
     none w k rep f m [] l ls = refl
     none w k rep f m (x ∷ xs) l ls = absurd (omega arith)
@@ -80,7 +81,7 @@ named-end {b} {c} {n} s e = rw e (named-none b c s)
 pub made-stacked : {b : List ℕ} (c r : Run) → r ≡ freshRun c → Stacked b (c .board) → Stacked b (r .board)
 made-stacked c r e s = rw (e, fresh-follows c .1) s
 
-module _ {b b₂ : List ℕ} {c c₁ c₂ : Run} (d : (c₁ ≡ freshRun c) × Performs c (λ rep. fresh (λ n. done)) c₁)
+module _ {b b₂ : List ℕ} {c c₁ c₂ : Run} (d : (c₁ ≡ freshRun c) × Performs c (λ rep. fresh own (λ n. done)) c₁)
     (p : Pushes b c₁ 17 (c .fresh) [] [] (λ ls. tvar (node 17 (c .fresh))) b₂ c₂) where
   first-follows : Follows c c₁ × (c₁ .board ≡ c .board)
   first-follows = subst⁻¹ (λ (r : Run). Follows c r × (r .board ≡ c .board)) (d .0) (fresh-follows c)
@@ -96,7 +97,7 @@ module _ {b b₂ : List ℕ} {c c₁ c₂ : Run} (d : (c₁ ≡ freshRun c) × P
   named-stacked s = rw (p .1, p .0) (tvar-stacked b c₁ (c .fresh) (made-stacked c c₁ (d .0) s))
 
   module _ {b₃ : List ℕ} {c₃ : Run} {n : ℕ} (g : Named b₂ c₂ n b₃ c₃) where
-    more : (w : ℕ) (k rep : List ℕ) → WellFormed b k c → (f : Renaming → Rule) (m : Renaming) (xs : List ℕ) → length xs ≡ suc n → (ls : List Triple)
+    more : (w : Way) (k rep : List ℕ) → WellFormed b k c → (f : Renaming → Rule) (m : Renaming) (xs : List ℕ) → length xs ≡ suc n → (ls : List Triple)
         → performC w ls (f (pairs xs (c .fresh) m)) (cameTo ls b₃ k rep c₃) ≡ performC w ls (openNames xs m f) (cameTo ls b k rep c)
     unfolding pairs openNames
     more w k rep h f m [] l ls = absurd (omega arith)
@@ -107,7 +108,7 @@ module _ {b b₂ : List ℕ} {c c₁ c₂ : Run} (d : (c₁ ≡ freshRun c) × P
         same-going w ls b₃ k rep c₃ (f (pairs xs (c .fresh + 1) m₂)) (f (pairs xs (c₂ .fresh) m₂)) (λ z. ap (λ (a : ℕ). f (pairs xs a m₂)) (sym (next (g .alive z))))
         ∙ g .outcome w k rep (D2 .kept) f m₂ xs (omega arith) ls
         ∙ ap (performC w ls (openNames xs m₂ f)) (D2 .outcome ∙ ap (performC w ls (push (tvar (node 17 (c .fresh))) done)) (D1 .outcome))
-        ∙ sym (fresh-is w ls b k rep c (λ a. push (tvar (node 17 a)) (openNames xs ((x, a) ∷ m) f)))
+        ∙ sym (fresh-is w ls b k rep c own (λ a. push (tvar (node 17 a)) (openNames xs ((x, a) ∷ m) f)))
 
     named-more : Named b c (suc n) b₃ c₃
     unfolding namedRun namedWords
@@ -119,7 +120,7 @@ module _ {b b₂ : List ℕ} {c c₁ c₂ : Run} (d : (c₁ ≡ freshRun c) × P
       taken = g .taken ∙ then-follows .0 .0 ∙ first-follows .0 .0;
       alive = λ z. first-follows .0 .1 (then-follows .0 .1 (g .alive z));
       made = λ z. let i = g .made z in let j = next (g .alive z) in omega arith;
-      kept = λ k h. g .kept k (p .2 0 [] k [] (d .1 0 [] b k [] h .kept) .kept);
+      kept = λ k h. g .kept k (kept-board (p .2) (kept (d .1) h));
       outcome = more;
     }
 

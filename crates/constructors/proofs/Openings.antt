@@ -12,6 +12,7 @@ use Rattle.sheet.specs.Plan.{nodesOf}
 use Rattle.judgment.specs.Types.{rename, frontNames, afterFront}
 use Rattle.judgment.specs.Board.{Rule}
 use Rattle.judgment.specs.Rules.{instantiateConstructor}
+use Rattle.judgment.specs.Result.{Way}
 use Rattle.core_types.specs.Names.{namesAt, pairs, renaming}
 use Rattle.core_types.proofs.Fronts.{front-is}
 use Rattle.core_types.proofs.Renames.{renamed}
@@ -77,7 +78,7 @@ opens {t} {n} {o} {o₂} {q} {b} {b'} {c} {d} room x g = record {
 }
 
 -- ---- an opened type, and then the rest of a rule
-pub opens-then : {w : ℕ} {ls : List Triple} {b k rep : List ℕ} {c : Run} {t : Ty} {n : ℕ} {o b₁ o₁ : List ℕ} {r : Opened} {b₂ k₂ rep₂ : List ℕ} {c₂ : Run} (f : Ty → Rule)
+pub opens-then : {w : Way} {ls : List Triple} {b k rep : List ℕ} {c : Run} {t : Ty} {n : ℕ} {o b₁ o₁ : List ℕ} {r : Opened} {b₂ k₂ rep₂ : List ℕ} {c₂ : Run} (f : Ty → Rule)
     → WellFormed b k c → Opens b c t n o b₁ o₁ r → Does w ls b₁ k rep (r .run) (f (nodesAt o₁ (r .at) (r .nodes))) b₂ k₂ rep₂ c₂
     → Does w ls b k rep c (instantiateConstructor t f) b₂ k₂ rep₂ c₂
 opens-then {w} {ls} {k = k} {rep = rep} f h x d =

@@ -13,6 +13,7 @@ use Rattle.sheet.specs.Plan.{Narrow}
 use Rattle.judgment.specs.Types.{Renaming, rename, frontNames, afterFront}
 use Rattle.judgment.specs.Board.{Rule}
 use Rattle.judgment.specs.Rules.{openNames, instantiateConstructor}
+use Rattle.judgment.specs.Result.{Way}
 use Rattle.core_types.specs.Names.{pairs, renaming}
 use Rattle.board.specs.Board.{Stacked}
 use Rattle.operations.specs.declared.Run.{Run}
@@ -38,7 +39,7 @@ pub record Named (b : List ℕ) (c : Run) (n : ℕ) (b' : List ℕ) (r : Run) : 
   pub alive : going (r .halt) ≡ true → going (c .halt) ≡ true
   pub made : going (r .halt) ≡ true → r .fresh ≡ c .fresh + n
   pub kept : (k : List ℕ) → WellFormed b k c → WellFormed b' k r
-  pub outcome : (w : ℕ) (k rep : List ℕ) → WellFormed b k c → (f : Renaming → Rule) (m : Renaming) (xs : List ℕ) → length xs ≡ n → (ls : List Triple)
+  pub outcome : (w : Way) (k rep : List ℕ) → WellFormed b k c → (f : Renaming → Rule) (m : Renaming) (xs : List ℕ) → length xs ≡ n → (ls : List Triple)
       → performC w ls (f (pairs xs (c .fresh) m)) (cameTo ls b' k rep r) ≡ performC w ls (openNames xs m f) (cameTo ls b k rep c)
 
 -- ---- a type, opened
@@ -73,5 +74,5 @@ pub record Opens (b : List ℕ) (c : Run) (t : Ty) (n : ℕ) (o b' o' : List ℕ
   pub out : o' ≡ openedOut t (c .fresh) o
   pub type : nodesAt o' (r .at) (r .nodes) ≡ rename (pairs (frontNames t) (c .fresh) []) (afterFront t)
   pub named : Named b c (length (frontNames t)) b' (r .run)
-  pub outcome : (w : ℕ) (k rep : List ℕ) → WellFormed b k c → (f : Ty → Rule) (ls : List Triple)
+  pub outcome : (w : Way) (k rep : List ℕ) → WellFormed b k c → (f : Ty → Rule) (ls : List Triple)
       → performC w ls (f (nodesAt o' (r .at) (r .nodes))) (cameTo ls b' k rep (r .run)) ≡ performC w ls (instantiateConstructor t f) (cameTo ls b k rep c)

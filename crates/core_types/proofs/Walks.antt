@@ -12,6 +12,7 @@ use lib.Dec.{eqb}
 use borrow.Author.Tests.{eq-eqb, ne-eqb, eqb-true}
 use Rattle.nodes.specs.Parts.{takeParts, dropParts}
 use Rattle.nodes.specs.Nodes.{Node, node, Ty, nodeParts}
+use Rattle.judgment.specs.Levels.{isAbove, noneAbove}
 use Rattle.judgment.specs.Types.{first, rest, isNode, occurs, isMonotype, substituteFrom, substitute}
 use Rattle.nodes.specs.Nodes.{words, nodeAt, nodesAt}
 use Rattle.nodes.proofs.Laws.{nodesAt-cons, nodesAt-snoc, nodesAt-above, nodesAt-same, length-nodesAt, take-nodesAt, drop-nodesAt}
@@ -38,6 +39,14 @@ module _ (b : List ℕ) (p n : ℕ) (h : 0 < n) where
   pub mono-turn : getD b p 0 ≢ 14 → isMonotype (nodesAt b p n) ≡ isMonotype (nodesAt b (p + 2) (n - 1))
   unfolding isMonotype
   mono-turn e = rw (nodesAt-cons b p n h, ne-eqb (getD b p 0) 14 e)
+
+  pub above-hit : (m : ℕ) → isAbove m (nodeAt b p) ≡ true → noneAbove m (nodesAt b p n) ≡ false
+  unfolding noneAbove
+  above-hit m e = rw (nodesAt-cons b p n h, e)
+
+  pub above-turn : (m : ℕ) → isAbove m (nodeAt b p) ≡ false → noneAbove m (nodesAt b p n) ≡ noneAbove m (nodesAt b (p + 2) (n - 1))
+  unfolding noneAbove
+  above-turn m e = rw (nodesAt-cons b p n h, e)
 
   pub take-turn : (m : ℕ) → m ≢ 0 → takeParts nodeParts (nodesAt b p n) m ≡ nodeAt b p ∷ takeParts nodeParts (nodesAt b (p + 2) (n - 1)) (m - 1 + nodeParts (nodeAt b p))
   take-turn zero f = absurd (f refl)

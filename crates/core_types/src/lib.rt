@@ -6,6 +6,7 @@ ghost use lib.Seq.{sets};
 ghost use Rattle.sizes.specs.Sizes.{mostNodes, mostNumbers};
 ghost use Rattle.nodes.specs.Nodes.{node, nodeParts};
 ghost use Rattle.judgment.specs.Types.{isNode as nodeIs, first, occurs as occursIn, isMonotype, substitute as substituted, frontNames, renameNode};
+ghost use Rattle.judgment.specs.Levels.{isAbove, noneAbove};
 ghost use Rattle.nodes.specs.Nodes.{words, nodesAt};
 ghost use Rattle.core_types.specs.Walk.{substituting};
 ghost use mathlib.Core.List.{[]};
@@ -67,6 +68,33 @@ pub fn is_monotype(t: &[u32], at: usize, n: usize) -> bool
     let mut left = n;
     while 0 < left {
         if t[p] == 14 {
+            return false;
+        }
+        p += 2;
+        left -= 1;
+    }
+    true
+}
+
+// A node is a universal numbered above m.
+fn is_above(kind: u32, number: u32, m: u32) -> bool
+    ensures { λ r. ⌜ r ≡ isAbove m (node kind number) ⌝ }
+{
+    if kind == 18 {
+        return m < number;
+    }
+    false
+}
+
+// No universal numbered above m stands in the n nodes at word `at` of t.
+pub fn none_above(t: &[u32], at: usize, n: usize, m: u32) -> bool
+    requires { ⌜ at + 2 * n ≤ length (now t) ⌝ }
+    ensures { λ r. ⌜ r ≡ noneAbove m (nodesAt (now (t .entry)) at n) ⌝ }
+{
+    let mut p = at;
+    let mut left = n;
+    while 0 < left {
+        if is_above(t[p], t[p + 1], m) {
             return false;
         }
         p += 2;

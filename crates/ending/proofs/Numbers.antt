@@ -42,7 +42,8 @@ reported-few h =
     (λ _. cond-ind P (eqb (h .number) 19) (λ _. omega arith)
     (λ _. cond-ind P (eqb (h .number) 22) (λ _. omega arith)
     (λ _. cond-ind P (eqb (h .number) 23) (λ _. omega arith)
-    (λ _. cond-ind P (eqb (h .number) 24) (λ _. omega arith) (λ _. omega arith))))))))))))
+    (λ _. cond-ind P (eqb (h .number) 24) (λ _. omega arith)
+    (λ _. cond-ind P (eqb (h .number) 39) (λ _. omega arith) (λ _. omega arith)))))))))))))
 
 module _ (size : ℕ) (h : Halt) {e : TypeError} {n : ℕ} (g : going h ≡ false) (p : e ≡ errorOf h) (q : n ≡ reported e) where
   counted : n ≡ reported (errorOf h)

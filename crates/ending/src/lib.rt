@@ -49,6 +49,7 @@ fn reported_nodes(e: TypeError) -> usize
         TypeError::TypeTooLong => 0,
         TypeError::NoFreshNumber => 0,
         TypeError::SolutionsFull => 0,
+        TypeError::OutOfScope => 0,
     }
 }
 

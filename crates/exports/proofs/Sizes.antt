@@ -14,11 +14,12 @@ use Rattle.grammar.specs.declared.Check.the-variants.{Plan, Length, Misspelt, U
 use Rattle.grammar.specs.Check.{lengthOk, check}
 use Rattle.sheet.specs.Plan.{triples, planOf}
 use Rattle.judgment.specs.declared.TypeError.{TypeError}
-use Rattle.judgment.specs.declared.TypeError.the-variants.{UnboundVariable, UnboundDataConstructor, NotAFunction, ArityMismatch, SubtypingError, TypeUnificationError, InstantiationError, IntrinsicArityMismatch, UnknownIntrinsic, BoardFull, TypeTooLong, NoFreshNumber, SolutionsFull}
+use Rattle.judgment.specs.declared.TypeError.the-variants.{UnboundVariable, UnboundDataConstructor, NotAFunction, ArityMismatch, SubtypingError, TypeUnificationError, InstantiationError, IntrinsicArityMismatch, UnknownIntrinsic, BoardFull, TypeTooLong, NoFreshNumber, SolutionsFull, OutOfScope}
 use Rattle.judgment.specs.Solutions.{Solutions}
 use Rattle.judgment.specs.Board.{state}
 use Rattle.judgment.specs.Run.{End, accepted, ceiling, refusedBy, Run, run}
-use Rattle.judgment.specs.Result.{errorNumber, endNumber, resultOf, runOf, judge, limitsWith, Buffers, Called, boardWords, bookWords, reportWords, refusedAt, limitBad, tooShort, byCheck, call}
+use Rattle.judgment.specs.Levels.{Levels, ownLevels, Mode}
+use Rattle.judgment.specs.Result.{errorNumber, endNumber, resultOf, runOf, judge, limitsFor, Buffers, Called, boardWords, bookWords, reportWords, refusedAt, limitBad, tooShort, byCheck, call}
 use Rattle.judgment.proofs.Words.{length-board, length-book, length-report}
 use Rattle.exports.specs.Interface.{Least, Highest, HighestLimit, Longest, OneLine}
 
@@ -29,8 +30,8 @@ least w b = refl
 pub board-words : (boardSize ≡ length boardWords) × ((w : ℕ) → Least w boardSize bookSize (reportStride * w))
 board-words = (sym length-board, least)
 
-pub book-words : ((σ : Solutions) → bookSize ≡ length (bookWords σ)) × ((w : ℕ) → Least w boardSize bookSize (reportStride * w))
-book-words = (λ σ. sym (length-book σ), least)
+pub book-words : ((σ : Solutions) (v : Levels) (n : ℕ) → bookSize ≡ length (bookWords σ v n)) × ((w : ℕ) → Least w boardSize bookSize (reportStride * w))
+book-words = (λ σ v n. sym (length-book σ v n), least)
 
 pub report-words : (w : ℕ) {r : ℕ} → r ≡ reportStride * w → ((t : Ty) → r ≡ length (reportWords w t)) × Least w boardSize bookSize r
 report-words w e = rw e (λ t. sym (length-report w t), least w)
@@ -53,20 +54,21 @@ error-other BoardFull = (refl, refl)
 error-other TypeTooLong = (refl, refl)
 error-other NoFreshNumber = (refl, refl)
 error-other SolutionsFull = (refl, refl)
+error-other OutOfScope = (refl, refl)
 
 end-other : (e : End) → Other (endNumber e)
 end-other accepted = (refl, refl)
 end-other ceiling = (refl, refl)
 end-other (refusedBy e ts) = error-other e
 
-run-other : (p : Bool) (r : Run) → Other (resultOf p r .answer .number)
+run-other : (p : Bool) (v : Levels) (r : Run) → Other (resultOf p v r .answer .number)
 unfolding resultOf
-run-other p (run ss e (state Γ σ n)) = end-other e
+run-other p v (run ss e (state Γ σ n)) = end-other e
 
-module _ (s : List ℕ) (c w : ℕ) (b : Buffers) where
-  check-other : (v : Check) → Other (byCheck s c w b v .answer .number)
+module _ (m : Mode) (s : List ℕ) (c w : ℕ) (b : Buffers) where
+  check-other : (v : Check) → Other (byCheck m s c w b v .answer .number)
   unfolding judge
-  check-other Plan = let p = planOf (triples s) in run-other (p .plain) (runOf (limitsWith w) c p)
+  check-other Plan = let p = planOf (triples s) in run-other (p .plain) ownLevels (runOf (limitsFor m w) c p)
   check-other Length = (refl, refl)
   check-other (Misspelt l) = (refl, refl)
   check-other (Unfit l) = (refl, refl)
@@ -74,7 +76,7 @@ module _ (s : List ℕ) (c w : ℕ) (b : Buffers) where
   -- the call by its three tests
   abbrev tested : Bool → Bool → Bool → Called
   tested x y z =
-      cond x (record { answer = refusedAt 1 0; after = b }) (cond y (record { answer = refusedAt 32 0; after = b }) (cond z (record { answer = refusedAt 2 0; after = b }) (byCheck s c w b (check s))))
+      cond x (record { answer = refusedAt 1 0; after = b }) (cond y (record { answer = refusedAt 32 0; after = b }) (cond z (record { answer = refusedAt 2 0; after = b }) (byCheck m s c w b (check s))))
 
   one : (x y z : Bool) → eqb (tested x y z .answer .number) 1 ≡ x
   one true y z = refl
@@ -90,11 +92,11 @@ module _ (s : List ℕ) (c w : ℕ) (b : Buffers) where
 
 pub highest : Highest highestCeiling
 unfolding call
-highest s c w b = one s c w b (ltb highestCeiling c) (limitBad w) (tooShort w b)
+highest m s c w b = one m s c w b (ltb highestCeiling c) (limitBad w) (tooShort w b)
 
 pub highest-limit : HighestLimit highestLimit
 unfolding call
-highest-limit s c w b e = thirty-two s c w b (ltb highestCeiling c) (limitBad w) (tooShort w b) e
+highest-limit m s c w b e = thirty-two m s c w b (ltb highestCeiling c) (limitBad w) (tooShort w b) e
 
 -- ---- the sheet
 module _ (n : ℕ) where

@@ -1,7 +1,9 @@
 // The C interface. A `&[u8]` is a pointer and a length, a `&mut u32` a pointer.
 use checker::check_type;
+use checker::check_type_strict;
 use grammar::Check;
 use grammar::check_sheet;
+use judgment::Answer;
 use reading::term_of_sheet;
 use sizes::BOARD_SIZE;
 use sizes::BOOK_SIZE;
@@ -18,6 +20,7 @@ ghost use Rattle.sizes.specs.Sizes.{usualLimit, boardSize, bookSize, reportStri
 ghost use Rattle.grammar.specs.Check.{check, checkNumber, checkLine};
 ghost use Rattle.nodes.specs.Nodes.{Ty};
 ghost use Rattle.judgment.specs.Solutions.{Solutions};
+ghost use Rattle.judgment.specs.Levels.{Levels, firstCall, strictCall};
 ghost use Rattle.judgment.specs.Result.{numbers, call, boardWords, bookWords, reportWords};
 ghost use Rattle.exports.specs.Interface.{termOn, version, Least, Highest, HighestLimit, Longest, OneLine};
 
@@ -59,6 +62,20 @@ pub extern "C" fn kirvoghus_term_bytes(sheet: &[u8], line: u32) -> usize
     term.len()
 }
 
+fn seven(a: Answer) -> [u32; 7]
+    ensures { λ r. ⌜ r ≡ numbers a ⌝ }
+{
+    [
+        a.number,
+        a.line,
+        a.taken,
+        a.fresh,
+        a.detail1,
+        a.detail2,
+        a.plain,
+    ]
+}
+
 // The checker's entry call. `result` gets the seven numbers; the answer is the first of them.
 #[no_mangle]
 pub extern "C" fn kirvoghus_check_type(
@@ -70,18 +87,28 @@ pub extern "C" fn kirvoghus_check_type(
     report: &mut [u32],
     result: &mut [u32; 7],
 ) -> u32
-    ensures { λ r. ⌜ (r ≡ call (now (sheet .entry)) ceiling limit (record { board = now (board .entry); book = now (book .entry); report = now (report .entry) }) .answer .number) × (now (result .exit) ≡ numbers (call (now (sheet .entry)) ceiling limit (record { board = now (board .entry); book = now (book .entry); report = now (report .entry) }) .answer)) × (record { board = now (board .exit); book = now (book .exit); report = now (report .exit) } ≡ call (now (sheet .entry)) ceiling limit (record { board = now (board .entry); book = now (book .entry); report = now (report .entry) }) .after) ⌝ }
+    ensures { λ r. ⌜ (r ≡ call firstCall (now (sheet .entry)) ceiling limit (record { board = now (board .entry); book = now (book .entry); report = now (report .entry) }) .answer .number) × (now (result .exit) ≡ numbers (call firstCall (now (sheet .entry)) ceiling limit (record { board = now (board .entry); book = now (book .entry); report = now (report .entry) }) .answer)) × (record { board = now (board .exit); book = now (book .exit); report = now (report .exit) } ≡ call firstCall (now (sheet .entry)) ceiling limit (record { board = now (board .entry); book = now (book .entry); report = now (report .entry) }) .after) ⌝ }
 {
     let a = check_type(sheet, ceiling, limit, board, book, report);
-    *result = [
-        a.number,
-        a.line,
-        a.taken,
-        a.fresh,
-        a.detail1,
-        a.detail2,
-        a.plain,
-    ];
+    *result = seven(a);
+    a.number
+}
+
+// The strict call, which takes and gives the same.
+#[no_mangle]
+pub extern "C" fn kirvoghus_check_type_strict(
+    sheet: &[u8],
+    ceiling: u32,
+    limit: u32,
+    board: &mut [u32],
+    book: &mut [u32],
+    report: &mut [u32],
+    result: &mut [u32; 7],
+) -> u32
+    ensures { λ r. ⌜ (r ≡ call strictCall (now (sheet .entry)) ceiling limit (record { board = now (board .entry); book = now (book .entry); report = now (report .entry) }) .answer .number) × (now (result .exit) ≡ numbers (call strictCall (now (sheet .entry)) ceiling limit (record { board = now (board .entry); book = now (book .entry); report = now (report .entry) }) .answer)) × (record { board = now (board .exit); book = now (book .exit); report = now (report .exit) } ≡ call strictCall (now (sheet .entry)) ceiling limit (record { board = now (board .entry); book = now (book .entry); report = now (report .entry) }) .after) ⌝ }
+{
+    let a = check_type_strict(sheet, ceiling, limit, board, book, report);
+    *result = seven(a);
     a.number
 }
 
@@ -90,7 +117,7 @@ pub extern "C" fn kirvoghus_check_type(
 pub extern "C" fn kirvoghus_version() -> u32
     ensures { λ r. ⌜ r ≡ version ⌝ }
 {
-    4
+    5
 }
 
 // The words of the board: so many are written by a run, and a call takes no fewer.
@@ -104,7 +131,7 @@ pub extern "C" fn kirvoghus_board_words() -> usize
 // The words of the book, the same.
 #[no_mangle]
 pub extern "C" fn kirvoghus_book_words() -> usize
-    ensures { λ r. ⌜ ((σ : Solutions) → r ≡ length (bookWords σ)) × ((limit : ℕ) → Least limit boardSize r (reportStride * limit)) ⌝ }
+    ensures { λ r. ⌜ ((σ : Solutions) (v : Levels) (n : ℕ) → r ≡ length (bookWords σ v n)) × ((limit : ℕ) → Least limit boardSize r (reportStride * limit)) ⌝ }
 {
     BOOK_SIZE
 }

@@ -11,8 +11,9 @@ use Rattle.nodes.specs.Nodes.{node, Ty}
 use Rattle.nodes.proofs.ListLaws.{cond-ind}
 use Rattle.spelling.specs.declared.Triple.{Triple}
 use Rattle.judgment.specs.declared.TypeError.the-variants.{BoardFull}
-use Rattle.judgment.specs.Board.{Rule, done, tvar, var, sub, inf, chk, infApp, entryNodes, fresh, push}
+use Rattle.judgment.specs.Board.{Rule, done, tvar, var, sub, inf, chk, infApp, entryNodes, fresh, push, own}
 use Rattle.judgment.specs.Rules.{freshUnknown}
+use Rattle.judgment.specs.Result.{Way}
 use Rattle.board.specs.Board.{termAt, entryOf, Stacked, laid}
 use Rattle.board.specs.Board.{fitting as fitsBoard, grown as boardGrown}
 use Rattle.board.proofs.Stacks.{laid-stacked, fits-facts}
@@ -73,9 +74,9 @@ module _ {b : List ℕ} {c : Run} {b' : List ℕ} {r : Run} where
   app-keeps line {t} {u} s p = pushed-keeps b c 6 line t u (λ ls. refl) s (p .0) (p .1)
 
 -- ---- a fresh unknown with its TVar, and then the rest of a rule with its number
-module _ {w : ℕ} {ls : List Triple} {b k rep : List ℕ} {c : Run} {b₁ k₁ rep₁ : List ℕ} {c₁ : Run} {b₂ k₂ rep₂ : List ℕ} {c₂ : Run} where
+module _ {w : Way} {ls : List Triple} {b k rep : List ℕ} {c : Run} {b₁ k₁ rep₁ : List ℕ} {c₁ : Run} {b₂ k₂ rep₂ : List ℕ} {c₂ : Run} where
   pub unknown-then : {f : ℕ → Rule} → Does w ls b k rep c (freshUnknown (λ n. done)) b₁ k₁ rep₁ c₁ → Does w ls b₁ k₁ rep₁ c₁ (f (c .fresh)) b₂ k₂ rep₂ c₂
       → Does w ls b k rep c (freshUnknown f) b₂ k₂ rep₂ c₂
   unknown-then {f} x y =
       does-then {p = freshUnknown (λ n. done)} {q = f (c .fresh)} {r = freshUnknown f} x y
-      (fresh-is w ls b k rep c (λ a. push (tvar (node 17 a)) (f a)) ∙ ap (performC w ls (f (c .fresh))) (sym (fresh-is w ls b k rep c (λ a. push (tvar (node 17 a)) done))))
+      (fresh-is w ls b k rep c own (λ a. push (tvar (node 17 a)) (f a)) ∙ ap (performC w ls (f (c .fresh))) (sym (fresh-is w ls b k rep c own (λ a. push (tvar (node 17 a)) done))))

@@ -29,6 +29,6 @@ pub record LinesAsk (s : List ℕ) (at n : ℕ) : Type 0 where
   pub within : at + n ≤ length (rows s)
   pub narrow : All Narrow (take n (drop at (rows s)))
 
--- an unknown that was made and is not solved, in a run that goes on
+-- an unknown that was made and is not solved
 abbrev pub Open : List ℕ → Run → ℕ → Type 0
-Open k c x = going (c .halt) ≡ true → (x < c .fresh) × Free (solvedUnknowns (sols k)) (node 17 x)
+Open k c x = (x < c .fresh) × Free (solvedUnknowns (sols k)) (node 17 x)

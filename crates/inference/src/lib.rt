@@ -17,13 +17,16 @@ ghost use Rattle.judgment.specs.Types.{unknown, arrow, isArrow, isForall, isUnk
 ghost use Rattle.judgment.specs.Terms.{Term, isLitInt, isLambda, isApply, isTypeLambda, isBinOp, isIf, isIntrinsic};
 ghost use Rattle.judgment.specs.Board.{done};
 ghost use Rattle.judgment.specs.Rules.{Env, freshUnknown, inferBy, synthesize as synthesizeRule, checkArrow, checkBy, applyBy};
+ghost use Rattle.judgment.specs.Result.{Way};
 ghost use Rattle.board.specs.Board.{termAt, Stacked};
-ghost use Rattle.operations.specs.State.{Bookable, WellFormed, Does, PerformsOnBoard};
+ghost use Rattle.operations.specs.State.{Bookable, WellFormed, Does, PerformsOnBoard, Scoped};
 ghost use Rattle.inference.specs.Inference.{typeOn, lambdaOn, LinesAsk, Open};
 use core_types::substitute_type;
 use judgment::TypeError;
 use operations::Run;
 use operations::fresh_evar;
+use operations::fresh_part;
+use operations::fresh_universal;
 use operations::push_chk;
 use operations::push_inf;
 use operations::push_inf_app;
@@ -179,7 +182,7 @@ pub fn infer_lambda(
     tn: usize,
 ) -> Run
     requires { ⌜ Stacked (now board) (c .board) × (2 * tn ≤ length (now t)) × (2 * n + 4 ≤ length (now out)) × LinesAsk (now s) first n × Bookable (now board) c ⌝ }
-    ensures { λ r. ⌜ (now (out .exit) ≡ sets (now (out .entry)) 0 (words (arrow (typeOn (now (s .entry)) first n) (unknown (c .fresh))))) × ((w : ℕ) (E : Env) (k rep : List ℕ) → WellFormed (now (board .entry)) k c → Does w (rows (now (s .entry))) (now (board .entry)) k rep c (inferBy E (nodesAt (now (t .entry)) 0 tn) (isLambda name (typeOn (now (s .entry)) first n) (termAt (rows (now (s .entry))) body))) (now (board .exit)) k rep r) ⌝ }
+    ensures { λ r. ⌜ (now (out .exit) ≡ sets (now (out .entry)) 0 (words (arrow (typeOn (now (s .entry)) first n) (unknown (c .fresh))))) × ((w : Way) (E : Env) (k rep : List ℕ) → WellFormed (now (board .entry)) k c → Does w (rows (now (s .entry))) (now (board .entry)) k rep c (inferBy E (nodesAt (now (t .entry)) 0 tn) (isLambda name (typeOn (now (s .entry)) first n) (termAt (rows (now (s .entry))) body))) (now (board .exit)) k rep r) ⌝ }
 {
     let b = c.fresh;
     let nodes = n + 2;
@@ -207,7 +210,7 @@ pub fn check_lambda(
     bn: usize,
 ) -> Run
     requires { ⌜ Stacked (now board) (c .board) × (a + 2 * an + 2 * bn ≤ length (now t)) × (2 * n ≤ length (now out)) × LinesAsk (now s) first n × Bookable (now board) c ⌝ }
-    ensures { λ r. ⌜ (now (out .exit) ≡ sets (now (out .entry)) 0 (words (typeOn (now (s .entry)) first n))) × ((w : ℕ) (E : Env) (e : Term) (T : Ty) (k rep : List ℕ) → WellFormed (now (board .entry)) k c → Does w (rows (now (s .entry))) (now (board .entry)) k rep c (checkArrow E e T (nodesAt (now (t .entry)) a an) (nodesAt (now (t .entry)) (a + 2 * an) bn) (some (lambdaOn (now (s .entry)) name first n body))) (now (board .exit)) k rep r) ⌝ }
+    ensures { λ r. ⌜ (now (out .exit) ≡ sets (now (out .entry)) 0 (words (typeOn (now (s .entry)) first n))) × ((w : Way) (E : Env) (e : Term) (T : Ty) (k rep : List ℕ) → WellFormed (now (board .entry)) k c → Does w (rows (now (s .entry))) (now (board .entry)) k rep c (checkArrow E e T (nodesAt (now (t .entry)) a an) (nodesAt (now (t .entry)) (a + 2 * an) bn) (some (lambdaOn (now (s .entry)) name first n body))) (now (board .exit)) k rep r) ⌝ }
 {
     let b = a + 2 * an;
     copy_type(out, 0, s, first, n);
@@ -219,6 +222,7 @@ pub fn check_lambda(
 // A term checked against a Forall of `name` over the n nodes at word `at` of t: a fresh universal is put for the name, in place.
 pub fn check_forall(
     board: &mut [u32],
+    book: &mut [u32],
     c: Run,
     line: u32,
     name: u32,
@@ -226,11 +230,11 @@ pub fn check_forall(
     at: usize,
     n: usize,
 ) -> Run
-    requires { ⌜ Stacked (now board) (c .board) × (at + 2 * n ≤ length (now t)) × (n ≤ mostNodes) × Bookable (now board) c ⌝ }
-    ensures { λ r. ⌜ (now (t .exit) ≡ sets (now (t .entry)) at (words (substitute name (node 18 (c .fresh)) (nodesAt (now (t .entry)) at n)))) × ((E : Env) (T : Ty) → PerformsOnBoard (now (board .entry)) c (λ ls. checkBy E (termAt ls line) T (isForall name (nodesAt (now (t .entry)) at n))) (now (board .exit)) r) ⌝ }
+    requires { ⌜ WellFormed (now board) (now book) c × (at + 2 * n ≤ length (now t)) × (n ≤ mostNodes) ⌝ }
+    ensures { λ r. ⌜ (now (t .exit) ≡ sets (now (t .entry)) at (words (substitute name (node 18 (c .fresh)) (nodesAt (now (t .entry)) at n)))) × ((w : Way) (ls : List Triple) (E : Env) (T : Ty) (rep : List ℕ) → Does w ls (now (board .entry)) (now (book .entry)) rep c (checkBy E (termAt ls line) T (isForall name (nodesAt (now (t .entry)) at n))) (now (board .exit)) (now (book .exit)) rep r) ⌝ }
 {
     let u = c.fresh;
-    let c1 = fresh_evar(c);
+    let c1 = fresh_universal(book, c);
     let c2 = push_tvar(board, c1, 18, u);
     substitute_type(t, at, n, name, 18, u);
     push_chk(board, c2, line, t, at, n)
@@ -277,7 +281,7 @@ pub fn apply_forall(
     push_inf_app(board, c1, line, t, at, n, t, ct, cn)
 }
 
-// A function of the unknown x applied: x is solved by an Arrow of two fresh unknowns.
+// A function of the unknown x applied: x is split, solved by an Arrow of two fresh unknowns of its level.
 pub fn apply_unknown(
     board: &mut [u32],
     book: &mut [u32],
@@ -289,12 +293,12 @@ pub fn apply_unknown(
     cn: usize,
 ) -> Run
     requires { ⌜ WellFormed (now board) (now book) c × Open (now book) c x × (ct + 2 * cn ≤ length (now t)) ⌝ }
-    ensures { λ r. ⌜ ((w : ℕ) (ls : List Triple) (E : Env) (F : Ty) (rep : List ℕ) → Does w ls (now (board .entry)) (now (book .entry)) rep c (applyBy E F (termAt ls line) (nodesAt (now (t .entry)) ct cn) (isUnknown x)) (now (board .exit)) (now (book .exit)) rep r) ⌝ }
+    ensures { λ r. ⌜ ((w : Way) (ls : List Triple) (E : Env) (F : Ty) (rep : List ℕ) → Scoped w → Does w ls (now (board .entry)) (now (book .entry)) rep c (applyBy E F (termAt ls line) (nodesAt (now (t .entry)) ct cn) (isUnknown x)) (now (board .exit)) (now (book .exit)) rep r) ⌝ }
 {
     let a = c.fresh;
-    let c1 = fresh_evar(c);
+    let c1 = fresh_part(book, c, x);
     let b = c1.fresh;
-    let c2 = fresh_evar(c1);
+    let c2 = fresh_part(book, c1, x);
     let c3 = push_tvar(board, c2, 17, a);
     let c4 = push_tvar(board, c3, 17, b);
     let types = [13u32, 0, 17, a, 17, b];

@@ -27,6 +27,7 @@ use Rattle.sheet.proofs.TypeLines.{begun-row, sort-is}
 use Rattle.judgment.specs.Terms.{Term, part, TermView, isVar, isLitInt, isLambda, isApply, isTypeLambda, isConstructor, isCase, isBinOp, isIf, isIntrinsic, termView}
 use Rattle.judgment.specs.Board.{Rule}
 use Rattle.judgment.specs.Rules.{Env, constructor, inferBy}
+use Rattle.judgment.specs.Result.{Way}
 use Rattle.board.specs.Board.{fromLine, termAt}
 use Rattle.board.proofs.Terms.{lineOf, bodyAt, term-head, part-at}
 use Rattle.operations.specs.declared.Run.{Run}
@@ -83,11 +84,11 @@ module _ {K : ℕ} {b : List ℕ} {c : Run} {s : List ℕ} {p : ℕ} {t : List �
 
   -- ---- by another name of the rule, or of the view
   pub ruled : {q : Rule} → q ≡ inferBy E T (termView (termAt ls p)) → {b' : List ℕ} {o : Run}
-      → ((m : ℕ) (k rep : List ℕ) → WellFormed b k c → Does m ls b k rep c q b' k rep o) → Infers b c s p t tn b' o
+      → ((m : Way) (k rep : List ℕ) → WellFormed b k c → Does m ls b k rep c q b' k rep o) → Infers b c s p t tn b' o
   ruled e d = λ m k rep f. does-as (λ _. e) (d m k rep f)
 
   pub viewed : {v : TermView} → v ≡ termView (termAt ls p) → {b' : List ℕ} {o : Run}
-      → ((m : ℕ) (k rep : List ℕ) → WellFormed b k c → Does m ls b k rep c (inferBy E T v) b' k rep o) → Infers b c s p t tn b' o
+      → ((m : Way) (k rep : List ℕ) → WellFormed b k c → Does m ls b k rep c (inferBy E T v) b' k rep o) → Infers b c s p t tn b' o
   viewed e d = ruled (ap (inferBy E T) e) d
 
   -- ---- what the code reads

@@ -11,6 +11,7 @@ use Rattle.sheet.specs.Rows.{rows, Ended}
 use Rattle.sheet.specs.Form.{IsPart, Formed}
 use Rattle.judgment.specs.Terms.{termView}
 use Rattle.judgment.specs.Rules.{inferBy}
+use Rattle.judgment.specs.Result.{Way}
 use Rattle.board.specs.Board.{termAt}
 use Rattle.operations.specs.declared.Run.{Run}
 use Rattle.operations.specs.State.{Bookable, WellFormed, Does}
@@ -54,4 +55,4 @@ pub record TermAsk (k : ℕ) (b : List ℕ) (c : Run) (s : List ℕ) (at : ℕ) 
 -- Inf of the term that starts at line `at`, on a board that was b
 abbrev pub Infers : List ℕ → Run → List ℕ → ℕ → List ℕ → ℕ → List ℕ → Run → Type 0
 Infers b c s at t tn b' o =
-    (m : ℕ) (k rep : List ℕ) → WellFormed b k c → Does m (rows s) b k rep c (inferBy (envOn s) (nodesAt t 0 tn) (termView (termAt (rows s) at))) b' k rep o
+    (m : Way) (k rep : List ℕ) → WellFormed b k c → Does m (rows s) b k rep c (inferBy (envOn s) (nodesAt t 0 tn) (termView (termAt (rows s) at))) b' k rep o

@@ -10,6 +10,7 @@ ghost use Rattle.sheet.specs.Plan.{noTriple, partLine, findEntry};
 ghost use Rattle.sheet.specs.Rows.{rows, Ended};
 ghost use Rattle.judgment.specs.Terms.{termView};
 ghost use Rattle.judgment.specs.Rules.{inferBy};
+ghost use Rattle.judgment.specs.Result.{Way};
 ghost use Rattle.board.specs.Board.{termAt};
 ghost use Rattle.operations.specs.State.{WellFormed, Does};
 ghost use Rattle.applying.specs.Applying.{envOn};
@@ -263,7 +264,7 @@ pub fn solve_inference(
     v: &mut [usize],
 ) -> Run
     requires { ⌜ InferAsk (now board) c (now s) line (now t) tn (now l) × CaseRoom (now s) (now r) (now w) (now v) ⌝ }
-    ensures { λ o. ⌜ ((m : ℕ) (k rep : List ℕ) → WellFormed (now (board .entry)) k c → Does m (rows (now (s .entry))) (now (board .entry)) k rep c (inferBy (envOn (now (s .entry))) (nodesAt (now (t .entry)) 0 tn) (termView (termAt (rows (now (s .entry))) line))) (now (board .exit)) k rep o) × (scratch (now (l .exit)) (now (r .exit)) (now (w .exit)) (now (v .exit)) ≡ inferScratch (now (board .entry)) c (now (s .entry)) line (nodesAt (now (t .entry)) 0 tn) (scratch (now (l .entry)) (now (r .entry)) (now (w .entry)) (now (v .entry)))) ⌝ }
+    ensures { λ o. ⌜ ((m : Way) (k rep : List ℕ) → WellFormed (now (board .entry)) k c → Does m (rows (now (s .entry))) (now (board .entry)) k rep c (inferBy (envOn (now (s .entry))) (nodesAt (now (t .entry)) 0 tn) (termView (termAt (rows (now (s .entry))) line))) (now (board .exit)) k rep o) × (scratch (now (l .exit)) (now (r .exit)) (now (w .exit)) (now (v .exit)) ≡ inferScratch (now (board .entry)) c (now (s .entry)) line (nodesAt (now (t .entry)) 0 tn) (scratch (now (l .entry)) (now (r .entry)) (now (w .entry)) (now (v .entry)))) ⌝ }
 {
     infer_term(board, c, s, wide(line), t, tn, l, r, w, v)
 }

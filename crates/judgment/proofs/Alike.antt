@@ -3,15 +3,18 @@ use Prim.Native.Nat.{ℕ, zero, suc, _+_}
 use mathlib.Core.Path.{_≡_, refl, ap, ap₂, subst}
 use mathlib.Core.Bool.{Bool, true, false, cond}
 use mathlib.Core.Option.{Option, none, some}
-use mathlib.Core.List.{[], _∷_, _++_}
+use mathlib.Core.List.{[], _∷_, _++_, List}
 use lib.ListN.{length}
 use Rattle.nodes.proofs.ListLaws.{cond-ind}
 use Rattle.nodes.specs.Nodes.{Ty}
 use Rattle.judgment.specs.declared.TypeError.{TypeError}
+use Rattle.judgment.specs.declared.TypeError.the-variants.{UnboundVariable, UnboundDataConstructor, NotAFunction, ArityMismatch, SubtypingError, TypeUnificationError, InstantiationError, IntrinsicArityMismatch, UnknownIntrinsic, BoardFull, TypeTooLong, NoFreshNumber, SolutionsFull, OutOfScope}
 use Rattle.judgment.specs.Types.{unknown, eqTy, View, isArrow, isApp, isForall, isUnknown, isOther, view, canUnify, occurs, isMonotype}
 use Rattle.judgment.specs.Terms.{Term, Lambda, lambdaOf}
 use Rattle.judgment.specs.Solutions.{_≔_, Solutions, find, writeOut, solutionNodes}
-use Rattle.judgment.specs.Board.{below, within, Entry, var, Board, entryNodes, boardNodes, varNamed, orElse, findVar, isTVar, hasTVar, before, Limits, Rule, done, refuse, fresh, push, solve, zonk, look, state, Outcome, finished, refused, solving, roomFor, perform}
+use Rattle.judgment.specs.Board.{below, within, Entry, var, Board, entryNodes, boardNodes, varNamed, orElse, findVar, isTVar, hasTVar, before, Limits, Rule, done, refuse, fresh, push, solve, zonk, look, state, Outcome, finished, refused, solving, roomFor, perform, Origin, own, universal, splits, Operation, made, pushed, gave, met, operations}
+use Rattle.judgment.specs.Levels.{Levels, levelAfter, levelsAfter}
+use Rattle.judgment.proofs.WholeRun.{solving-ind}
 use Rattle.judgment.specs.Rules.{Env, Side, left, right, openBody, solveMonotype, instantiateBy, instantiateFrom, mismatch, unknownLeft, unknownRight, subtypeBy, subtype, variable, checkArrow, checkBy, applyBy, inferApp}
 
 -- ---- boards that no rule tells apart
@@ -67,53 +70,126 @@ solving-agree : (f : Option Ty) (s : Ty) {a b c a′ b′ c′ : Outcome} → Ag
 solving-agree none s f g h = f
 solving-agree (some t) s f g h = either (canUnify s t) g h
 
+-- the refusal that no rule raises, only a solve
+abbrev pub NotScope : TypeError → Type 0
+NotScope (UnboundVariable x) = Unit {0}
+NotScope (UnboundDataConstructor x) = Unit {0}
+NotScope (NotAFunction n) = Unit {0}
+NotScope (ArityMismatch e a) = Unit {0}
+NotScope (SubtypingError l r) = Unit {0}
+NotScope TypeUnificationError = Unit {0}
+NotScope (InstantiationError k n) = Unit {0}
+NotScope (IntrinsicArityMismatch a) = Unit {0}
+NotScope (UnknownIntrinsic x) = Unit {0}
+NotScope BoardFull = Unit {0}
+NotScope TypeTooLong = Unit {0}
+NotScope NoFreshNumber = Unit {0}
+NotScope SolutionsFull = Unit {0}
+NotScope OutOfScope = ⊥
+
+abbrev pub InScope : Outcome → Type 0
+InScope (finished s) = Unit {0}
+InScope (refused r ts s) = NotScope r
+
 -- a rule that asks of the board only what is the same
 abbrev pub Steady : Rule → Type 0
 Steady done = Unit {0}
-Steady (refuse r ts) = Unit {0}
-Steady (fresh f) = (n : ℕ) → Steady (f n)
+Steady (refuse r ts) = NotScope r
+Steady (fresh o f) = (n : ℕ) → Steady (f n)
 Steady (push e p) = Steady p
 Steady (solve k s p) = Steady p
 Steady (zonk t f) = (u : Ty) → Steady (f u)
 Steady (look f) = ((Γ Δ : Board) → Near Γ Δ → f Γ ≡ f Δ) × ((Γ : Board) → Steady (f Γ))
 
+-- operations that leave the same levels
+pub record Levelled (os ps : List Operation) : Type 0 where
+  pub same : (v : Levels) → levelsAfter os v ≡ levelsAfter ps v
+
+level-none : {os : List Operation} → Levelled os os
+level-none = record { same = λ v. refl }
+
+level-more : (o : Operation) {os ps : List Operation} → Levelled os ps → Levelled (o ∷ os) (o ∷ ps)
+unfolding levelsAfter
+level-more o k = record { same = λ v. k .same (levelAfter o v) }
+
+level-either : (b : Bool) {os ps os′ ps′ : List Operation} → Levelled os os′ → Levelled ps ps′ → Levelled (cond b os ps) (cond b os′ ps′)
+level-either true f g = f
+level-either false f g = g
+
+level-solving : (o : Option Ty) (s : Ty) {a b c a′ b′ c′ : List Operation} → Levelled a a′ → Levelled b b′ → Levelled c c′ → Levelled (solving o s a b c) (solving o s a′ b′ c′)
+level-solving none s f g h = f
+level-solving (some t) s f g h = level-either (canUnify s t) g h
+
+-- every solution is in scope
+abbrev pub Open : Limits → Type 0
+Open L = (k : ℕ) (s : Ty) → L .scope k s ≡ true
+
 module _ (L : Limits) where
-  -- two rules that come to the same
+  -- two rules that come to the same; and the second never to OutOfScope where every solution is in scope
   pub record Parallel (p q : Rule) : Type 0 where
     pub go : {Γ Δ : Board} (σ : Solutions) (n : ℕ) → Near Γ Δ → Agree (perform L p Γ σ n) (perform L q Δ σ n)
+    pub levels : {Γ Δ : Board} (σ : Solutions) (n : ℕ) → Near Γ Δ → Levelled (operations L p Γ σ n) (operations L q Δ σ n)
+    pub scope : Open L → (Γ : Board) (σ : Solutions) (n : ℕ) → InScope (perform L q Γ σ n)
 
   pub done-parallel : Parallel done done
-  unfolding perform
-  done-parallel = record { go = λ σ n h. finish h }
+  unfolding perform operations
+  done-parallel = record { go = λ σ n h. finish h; levels = λ σ n h. level-none; scope = λ o Γ σ n. tt }
 
-  pub refuse-parallel : {r : TypeError} {ts : Ty} → Parallel (refuse r ts) (refuse r ts)
-  unfolding perform
-  refuse-parallel = record { go = λ σ n h. stop }
+  pub refuse-parallel : {r : TypeError} {ts : Ty} → NotScope r → Parallel (refuse r ts) (refuse r ts)
+  unfolding perform operations
+  refuse-parallel s = record { go = λ σ n h. stop; levels = λ σ n h. level-none; scope = λ o Γ σ n. s }
 
-  pub fresh-parallel : {f g : ℕ → Rule} → ((n : ℕ) → Parallel (f n) (g n)) → Parallel (fresh f) (fresh g)
-  unfolding perform
-  fresh-parallel k = record { go = λ σ n h. either (below n (L .numbers)) (k n .go σ (suc n) h) stop }
+  pub fresh-parallel : (a : Origin) {f g : ℕ → Rule} → ((n : ℕ) → Parallel (f n) (g n)) → Parallel (fresh a f) (fresh a g)
+  unfolding perform operations
+  fresh-parallel a k = record {
+    go = λ σ n h. either (below n (L .numbers)) (k n .go σ (suc n) h) stop;
+    levels = λ σ n h. level-either (below n (L .numbers)) (level-more (made a n) (k n .levels σ (suc n) h)) level-none;
+    scope = λ o Γ σ n. cond-ind InScope (below n (L .numbers)) (λ _. k n .scope o Γ σ (suc n)) (λ _. tt);
+  }
 
   pub push-parallel : {e : Entry} {p q : Rule} → Parallel p q → Parallel (push e p) (push e q)
-  unfolding perform boardNodes
+  unfolding perform operations boardNodes
   push-parallel {e} {p} {q} k = record {
     go = λ {Γ} {Δ} σ n h.
         rw (alike-length (h .alike), h .whole .nodes) (either (roomFor L e Δ) (k .go σ n (near-push e h)) stop);
+    levels = λ {Γ} {Δ} σ n h.
+        rw (alike-length (h .alike), h .whole .nodes) (level-either (roomFor L e Δ) (level-more (pushed e) (k .levels σ n (near-push e h))) level-none);
+    scope = λ o Γ σ n. cond-ind InScope (roomFor L e Γ) (λ _. k .scope o (e ∷ Γ) σ n) (λ _. tt);
   }
 
   pub steady-parallel : (p : Rule) → Steady p → Parallel p p
-  unfolding perform
+  unfolding perform operations
   steady-parallel done s = done-parallel
-  steady-parallel (refuse r ts) s = refuse-parallel
-  steady-parallel (fresh f) s = fresh-parallel (λ n. steady-parallel (f n) (s n))
+  steady-parallel (refuse r ts) s = refuse-parallel s
+  steady-parallel (fresh o f) s = fresh-parallel o (λ n. steady-parallel (f n) (s n))
   steady-parallel (push e p) s = push-parallel (steady-parallel p s)
   steady-parallel (solve k t p) s =
       let i = steady-parallel p s in
-      record { go = λ σ n h. solving-agree (find k σ) t (either (within (solutionNodes σ + length t) (L .solved)) (i .go (σ ++ (_≔_ k t ∷ [])) n h) stop) (i .go σ n h) stop }
+      record {
+        go = λ σ n h.
+            solving-agree (find k σ) t
+            (either (L .scope k t) (either (within (solutionNodes σ + length t) (L .solved)) (i .go (σ ++ (_≔_ k t ∷ [])) n h) stop) stop) (i .go σ n h) stop;
+        levels = λ σ n h.
+            level-solving (find k σ) t
+            (level-either (L .scope k t) (level-either (within (solutionNodes σ + length t) (L .solved)) (level-more (gave k t) (i .levels (σ ++ (_≔_ k t ∷ [])) n h)) level-none) level-none)
+            (level-more (met k) (i .levels σ n h)) level-none;
+        scope = λ o Γ σ n.
+            solving-ind InScope (find k σ) t
+            (rw (o k t) (cond-ind InScope (within (solutionNodes σ + length t) (L .solved)) (λ _. i .scope o Γ (σ ++ (_≔_ k t ∷ [])) n) (λ _. tt)))
+            (i .scope o Γ σ n) tt;
+      }
   steady-parallel (zonk t f) s =
-      record { go = λ σ n h. either (within (length (writeOut σ t)) (L .written)) (steady-parallel (f (writeOut σ t)) (s (writeOut σ t)) .go σ n h) stop }
+      record {
+        go = λ σ n h. either (within (length (writeOut σ t)) (L .written)) (steady-parallel (f (writeOut σ t)) (s (writeOut σ t)) .go σ n h) stop;
+        levels = λ σ n h. level-either (within (length (writeOut σ t)) (L .written)) (steady-parallel (f (writeOut σ t)) (s (writeOut σ t)) .levels σ n h) level-none;
+        scope = λ o Γ σ n. cond-ind InScope (within (length (writeOut σ t)) (L .written)) (λ _. steady-parallel (f (writeOut σ t)) (s (writeOut σ t)) .scope o Γ σ n) (λ _. tt);
+      }
   steady-parallel (look f) s =
-      record { go = λ {Γ} {Δ} σ n h. subst (λ p. Agree (perform L (f Γ) Γ σ n) (perform L p Δ σ n)) (s .0 Γ Δ h) (steady-parallel (f Γ) (s .1 Γ) .go σ n h) }
+      record {
+        go = λ {Γ} {Δ} σ n h. subst (λ p. Agree (perform L (f Γ) Γ σ n) (perform L p Δ σ n)) (s .0 Γ Δ h) (steady-parallel (f Γ) (s .1 Γ) .go σ n h);
+        levels = λ {Γ} {Δ} σ n h. subst (λ p. Levelled (operations L (f Γ) Γ σ n) (operations L p Δ σ n)) (s .0 Γ Δ h) (steady-parallel (f Γ) (s .1 Γ) .levels σ n h);
+        scope = λ o Γ σ n. steady-parallel (f Γ) (s .1 Γ) .scope o Γ σ n;
+      }
 
 -- ---- the rules that push no pattern's Vars
 monotype-steady : (k : ℕ) (t : Ty) → Steady (solveMonotype k t)

@@ -12,13 +12,14 @@ use Rattle.judgment.specs.Types.{view, occurs, isMonotype, substitute, r
 use Rattle.judgment.specs.Terms.{termView, lambdaOf}
 use Rattle.judgment.specs.Solutions.{find, links, anySolved, writeOutBy, writeOut, solutionNodes}
 use Rattle.judgment.specs.Board.{Limits, boardNodes, findVar, before, perform, operations}
+use Rattle.judgment.specs.Levels.{Levels, firstCall}
 use Rattle.judgment.specs.Rules.{instantiateFrom, subtype, openNames, signatureFrom, insert, pushVars, checkPatterns, checkArms, inferApp}
 use Rattle.judgment.specs.Run.{runFrom, checkType}
-use Rattle.judgment.specs.Result.{numbers, resultOf, runOf, judge, limits, limitsWith, noLimits}
+use Rattle.judgment.specs.Result.{numbers, resultOf, runOf, judge, limits, limitsFor, noLimits}
 use Rattle.judgment.proofs.Wall.{l}
 
 -- the seven numbers, and how many nodes the report and the solutions have
-unfoldable pub shortUnder : Limits → List Triple → List ℕ × ℕ × ℕ
+unfoldable pub shortUnder : (Levels → Limits) → List Triple → List ℕ × ℕ × ℕ
 shortUnder L ls = let r = judge L 10000 ls in (numbers (r .answer), length (r .report), solutionNodes (r .solutions))
 
 abbrev short : List Triple → List ℕ × ℕ × ℕ
@@ -131,7 +132,7 @@ matched n =
     l 27 0 1 ∷ l 26 29 0 ∷ l 43 21 1 ∷ l 43 20 0 ∷ l 22 7 0 ∷ [])))))
 
 -- 23 by Sub on the left, on the right and on both sides alike, and by InfApp alone
-pub picked : map (λ (q : ℕ × List Triple). shortUnder (limitsWith (q .0)) (q .1))
+pub picked : map (λ (q : ℕ × List Triple). shortUnder (limitsFor firstCall (q .0)) (q .1))
     ((1, goal (l 22 7 0 ∷ [])) ∷ (1, declared 0) ∷ (1, declared 1) ∷ (2, declared 1) ∷ (2, declared 2) ∷ (1, asArrow) ∷ (2, asArrow) ∷ (3, asArrow)
     ∷ (5, matched 5) ∷ (6, matched 5) ∷ (11, late 1 3 0) ∷ (12, late 1 3 0) ∷ (4096, late 66 60 5) ∷ (4096, late 66 60 6) ∷ []) ≡
     (0 ∷ 0 ∷ 5 ∷ 1 ∷ 0 ∷ 0 ∷ 1 ∷ [], 0, 1) ∷

@@ -22,10 +22,11 @@ use Rattle.judgment.specs.Solutions.{Solution, key, value, find, links, 
 use Rattle.judgment.specs.Board.{boardNodes, findVar, before, perform, operations}
 use Rattle.judgment.specs.Rules.{instantiateFrom, subtype, openNames, signatureFrom, insert, pushVars, checkPatterns, checkArms, inferApp}
 use Rattle.judgment.specs.Run.{runFrom, checkType}
-use Rattle.judgment.specs.Result.{Result, numbers, Buffers, Called, padded, pairsFrom, placeFrom, nodeWords, bookWords, reportWords, boardWords, resultOf, runOf, judge, limitsWith, limits, refusedAt, written, byCheck, call}
+use Rattle.judgment.specs.Result.{Result, numbers, Buffers, Called, padded, placeFrom, nodeWords, bookWords, reportWords, boardWords, resultOf, runOf, judge, limitsFor, limits, refusedAt, written, byCheck, call, threesFrom}
 use Rattle.judgment.proofs.Words.{length-board}
 use Rattle.judgment.proofs.Wall.{l, firstSheet, Row}
 use Rattle.judgment.proofs.Telling.{answers}
+use Rattle.judgment.specs.Levels.{ownLevels, firstCall}
 
 abbrev buffers : ℕ → ℕ → ℕ → Buffers
 buffers board book report = record { board = replicate board 7; book = replicate book 7; report = replicate report 7 }
@@ -43,7 +44,7 @@ refusedCalls =
     (10001, firstSheet) ∷  -- a ceiling of 10,001
     []
 
-pub refused-calls : map (λ q. numbers (call (q .1) (q .0) 1024 (buffers 12288 10192 4096) .answer)) refusedCalls ≡
+pub refused-calls : map (λ q. numbers (call firstCall (q .1) (q .0) 1024 (buffers 12288 11192 4096) .answer)) refusedCalls ≡
     (3 ∷ 0 ∷ 0 ∷ 0 ∷ 0 ∷ 0 ∷ 0 ∷ []) ∷
     (3 ∷ 0 ∷ 0 ∷ 0 ∷ 0 ∷ 0 ∷ 0 ∷ []) ∷
     (4 ∷ 2 ∷ 0 ∷ 0 ∷ 0 ∷ 0 ∷ 0 ∷ []) ∷
@@ -57,12 +58,12 @@ pub refused-calls : map (λ q. numbers (call (q .1) (q .0) 1024 (buffers 12288 1
 unfolding call lineText fieldText fieldFrom lineOf lineAt linesFrom linesOf firstMisspelt findRow table rowOf begins headOf declaredBy isGoal arms following read readAt readSheet check
 refused-calls = refl
 
-pub nothing-written : map (λ q. call (q .1) (q .0) 1024 (buffers 12288 10192 4096) .after) refusedCalls ≡ map (λ q. buffers 12288 10192 4096) refusedCalls
+pub nothing-written : map (λ q. call firstCall (q .1) (q .0) 1024 (buffers 12288 11192 4096) .after) refusedCalls ≡ map (λ q. buffers 12288 11192 4096) refusedCalls
 unfolding call lineText fieldText fieldFrom lineOf lineAt linesFrom linesOf firstMisspelt findRow table rowOf begins headOf declaredBy isGoal arms following read readAt readSheet check
 nothing-written = refl
 
 -- a buffer that is one word short: document 01's 2
-pub short-buffers : map (λ b. numbers (call firstSheet 10000 1024 b .answer)) (buffers 12287 10192 4096 ∷ buffers 12288 10191 4096 ∷ buffers 12288 10192 4095 ∷ [])
+pub short-buffers : map (λ b. numbers (call firstCall firstSheet 10000 1024 b .answer)) (buffers 12287 11192 4096 ∷ buffers 12288 11191 4096 ∷ buffers 12288 11192 4095 ∷ [])
     ≡ replicate 3 (2 ∷ 0 ∷ 0 ∷ 0 ∷ 0 ∷ 0 ∷ 0 ∷ [])
 unfolding call lineText fieldText
 short-buffers = refl
@@ -71,14 +72,14 @@ short-buffers = refl
 abbrev call01 : List ℕ → ℕ → Buffers → Called
 call01 s c b =
     cond (ltb 10000 c) (record { answer = refusedAt 1 0; after = b })
-    (cond (ltb (length (b .board)) 12288 || (ltb (length (b .book)) 10192 || ltb (length (b .report)) 4096)) (record { answer = refusedAt 2 0; after = b })
-    (byCheck s c 1024 b (check s)))
+    (cond (ltb (length (b .board)) 12288 || (ltb (length (b .book)) 11192 || ltb (length (b .report)) 4096)) (record { answer = refusedAt 2 0; after = b })
+    (byCheck firstCall s c 1024 b (check s)))
 
-pub usual-call : (s : List ℕ) (c : ℕ) (b : Buffers) → call s c 1024 b ≡ call01 s c b
+pub usual-call : (s : List ℕ) (c : ℕ) (b : Buffers) → call firstCall s c 1024 b ≡ call01 s c b
 unfolding call
 usual-call s c b = refl
 
-pub usual-run : (c : ℕ) (ls : List Triple) → judge (limitsWith 1024) c ls ≡ judge limits c ls
+pub usual-run : (c : ℕ) (ls : List Triple) → judge (limitsFor firstCall 1024) c ls ≡ judge limits c ls
 usual-run c ls = refl
 
 -- what a call asks for: ceiling, limit and buffers
@@ -87,12 +88,12 @@ asked =
     (10001, 0, buffers 0 0 0) ∷
     (10000, 0, buffers 0 0 0) ∷
     (10000, 4097, buffers 0 0 0) ∷
-    (10000, 4294967295, buffers 12288 10192 16384) ∷
-    (10000, 1, buffers 12288 10192 3) ∷
-    (10000, 4096, buffers 12288 10192 16383) ∷
+    (10000, 4294967295, buffers 12288 11192 16384) ∷
+    (10000, 1, buffers 12288 11192 3) ∷
+    (10000, 4096, buffers 12288 11192 16383) ∷
     []
 
-pub refused-asks : map (λ q. numbers (call firstSheet (q .0) (q .1) (q .2) .answer)) asked ≡
+pub refused-asks : map (λ q. numbers (call firstCall firstSheet (q .0) (q .1) (q .2) .answer)) asked ≡
     (1 ∷ 0 ∷ 0 ∷ 0 ∷ 0 ∷ 0 ∷ 0 ∷ []) ∷
     (32 ∷ 0 ∷ 0 ∷ 0 ∷ 0 ∷ 0 ∷ 0 ∷ []) ∷
     (32 ∷ 0 ∷ 0 ∷ 0 ∷ 0 ∷ 0 ∷ 0 ∷ []) ∷
@@ -103,7 +104,7 @@ pub refused-asks : map (λ q. numbers (call firstSheet (q .0) (q .1) (q .2) .ans
 unfolding call lineText fieldText
 refused-asks = refl
 
-pub kept-by-asks : map (λ q. call firstSheet (q .0) (q .1) (q .2) .after) asked ≡ map (λ q. q .2) asked
+pub kept-by-asks : map (λ q. call firstCall firstSheet (q .0) (q .1) (q .2) .after) asked ≡ map (λ q. q .2) asked
 unfolding call lineText fieldText
 kept-by-asks = refl
 
@@ -120,8 +121,8 @@ arrowSheet = sevenAs (lineText (l 13 0 0) ++ (lineText (l 12 1 0) ++ lineText (l
 abbrev told : Called → List ℕ × List ℕ
 told c = (numbers (c .answer), c .after .report)
 
-pub low-limits : told (call firstSheet 10000 1 (buffers 12288 10192 6)) ∷ told (call boolSheet 10000 1 (buffers 12288 10192 6))
-    ∷ told (call arrowSheet 10000 2 (buffers 12288 10192 10)) ∷ told (call arrowSheet 10000 3 (buffers 12288 10192 14)) ∷ [] ≡
+pub low-limits : told (call firstCall firstSheet 10000 1 (buffers 12288 11192 6)) ∷ told (call firstCall boolSheet 10000 1 (buffers 12288 11192 6))
+    ∷ told (call firstCall arrowSheet 10000 2 (buffers 12288 11192 10)) ∷ told (call firstCall arrowSheet 10000 3 (buffers 12288 11192 14)) ∷ [] ≡
     (0 ∷ 0 ∷ 5 ∷ 1 ∷ 0 ∷ 0 ∷ 1 ∷ [], 0 ∷ 0 ∷ 0 ∷ 0 ∷ 7 ∷ 7 ∷ []) ∷
     (15 ∷ 0 ∷ 4 ∷ 1 ∷ 1 ∷ 1 ∷ 1 ∷ [], 12 ∷ 1 ∷ 12 ∷ 2 ∷ 7 ∷ 7 ∷ []) ∷
     (23 ∷ 0 ∷ 4 ∷ 1 ∷ 0 ∷ 0 ∷ 1 ∷ [], 0 ∷ 0 ∷ 0 ∷ 0 ∷ 0 ∷ 0 ∷ 0 ∷ 0 ∷ 7 ∷ 7 ∷ []) ∷
@@ -130,7 +131,7 @@ pub low-limits : told (call firstSheet 10000 1 (buffers 12288 10192 6)) ∷ told
 unfolding call lineText fieldText fieldFrom lineOf lineAt linesFrom linesOf firstMisspelt findRow table rowOf begins headOf declaredBy isGoal arms following read readAt readSheet check triples judge resultOf runOf checkType runFrom perform operations boardNodes findVar before lookup instantiateFrom subtype openNames signatureFrom insert pushVars checkPatterns checkArms inferApp find links anySolved writeOutBy writeOut solutionNodes view termView lambdaOf occurs isMonotype substitute rename frontNames afterFront canUnify planOf declarations bindingsIn endFrom entriesEnd placesOf partLine isPlain names plainEntries plainPlan partsOf reportWords padded words
 low-limits = refl
 
-pub highest-limit : numbers (call firstSheet 10000 4096 (buffers 12288 10192 16384) .answer) ≡ 0 ∷ 0 ∷ 5 ∷ 1 ∷ 0 ∷ 0 ∷ 1 ∷ []
+pub highest-limit : numbers (call firstCall firstSheet 10000 4096 (buffers 12288 11192 16384) .answer) ≡ 0 ∷ 0 ∷ 5 ∷ 1 ∷ 0 ∷ 0 ∷ 1 ∷ []
 unfolding call lineText fieldText fieldFrom lineOf lineAt linesFrom linesOf firstMisspelt findRow table rowOf begins headOf declaredBy isGoal arms following read readAt readSheet check triples judge resultOf runOf checkType runFrom perform operations boardNodes findVar before lookup instantiateFrom subtype openNames signatureFrom insert pushVars checkPatterns checkArms inferApp find links anySolved writeOutBy writeOut solutionNodes view termView lambdaOf occurs isMonotype substitute rename frontNames afterFront canUnify planOf declarations bindingsIn endFrom entriesEnd placesOf partLine isPlain names plainEntries plainPlan partsOf reportWords padded words
 highest-limit = refl
 
@@ -140,10 +141,10 @@ unfolding boardWords
 board-after w b r h = sets-eq boardWords (b .board) 0 h
     ∙ ap (λ (k : ℕ). boardWords ++ drop k (b .board)) (zero-add (length boardWords) ∙ length-board)
 
--- what stands where a book's pair says
+-- what stands where a book's three words say
 abbrev stands : List ℕ → Solution → Ty
-stands b x = nodesAt b (getD b (2 * key x) 0) (getD b (2 * key x + 1) 0)
+stands b x = nodesAt b (getD b (3 * key x) 0) (getD b (3 * key x + 1) 0)
 
-pub books : map (λ (r : Row). map (stands (bookWords (r .2))) (r .2)) (take 3 answers) ≡ map (λ (r : Row). map value (r .2)) (take 3 answers)
-unfolding bookWords padded pairsFrom placeFrom nodeWords words nodesAt
+pub books : map (λ (r : Row). map (stands (bookWords (r .2) ownLevels 1000)) (r .2)) (take 3 answers) ≡ map (λ (r : Row). map value (r .2)) (take 3 answers)
+unfolding bookWords padded threesFrom placeFrom nodeWords words nodesAt
 books = refl

@@ -14,6 +14,7 @@ use Rattle.judgment.specs.declared.TypeError.the-variants.{TypeUnificati
 use Rattle.judgment.specs.Types.{canUnify}
 use Rattle.judgment.specs.Solutions.{_≔_, Solutions, find, writeOut, solutionNodes}
 use Rattle.judgment.specs.Board.{below, within, Entry, Board, Limits, Rule, done, refuse, fresh, push, solve, zonk, look, Operation, made, pushed, gave, met, State, state, Outcome, finished, refused, roomFor, solving, perform, operations}
+use Rattle.judgment.specs.Levels.{Levels, levelsAfter}
 use Rattle.judgment.specs.Rules.{Env, rule}
 use Rattle.judgment.specs.Run.{Step, step, End, refusedBy, Run, run, steps, final, addStep, onto, onward, runFrom}
 use Rattle.judgment.specs.Promise.{taken, events, pushes, given, NotMet, board, solutions}
@@ -55,15 +56,17 @@ module _ (L : Limits) where
   unfolding perform operations count
   rule-left done Γ σ n = stays Γ σ n
   rule-left (refuse r ts) Γ σ n = refuses r ts Γ σ n
-  rule-left (fresh f) Γ σ n = both (below n (L .numbers)) (let r = rule-left (f n) Γ σ (suc n) in record { gives = r .gives; counts = r .counts }) (refuses _ _ Γ σ n)
+  rule-left (fresh g f) Γ σ n = both (below n (L .numbers)) (let r = rule-left (f n) Γ σ (suc n) in record { gives = r .gives; counts = r .counts }) (refuses _ _ Γ σ n)
   rule-left (push e p) Γ σ n =
       both (roomFor L e Γ)
       (let r = rule-left p (e ∷ Γ) σ n in record { gives = r .gives; counts = λ q. (let c = r .counts q in omega arith) })
       (refuses _ _ Γ σ n)
   rule-left (solve k s p) Γ σ n =
       solve-left (find k σ) s
+      (both (L .scope k s)
       (both (within (solutionNodes σ + length s) (L .solved))
       (let r = rule-left p Γ (σ ++ (_≔_ k s ∷ [])) n in record { gives = r .gives ∙ append-assoc σ (_≔_ k s ∷ []) _; counts = r .counts })
+      (refuses _ _ Γ σ n))
       (refuses _ _ Γ σ n))
       (let r = rule-left p Γ σ n in record { gives = r .gives; counts = r .counts })
       (let r = refuses TypeUnificationError [] Γ σ n in record { gives = r .gives; counts = r .counts })
@@ -76,18 +79,19 @@ module _ (L : Limits) where
   unfolding operations
   rule-unmet Plain Q done Γ σ n i g = tt
   rule-unmet Plain Q (refuse r ts) Γ σ n i g = tt
-  rule-unmet Plain Q (fresh f) Γ σ n i g =
-      cond-ind (All NotMet) (below n (L .numbers)) (λ _. (tt, rule-unmet Plain Q (f n) Γ σ (suc n) (inv-fresh Plain i) g)) (λ _. tt)
+  rule-unmet Plain Q (fresh o f) Γ σ n i g =
+      cond-ind (All NotMet) (below n (L .numbers)) (λ _. (tt, rule-unmet Plain Q (f n) Γ σ (suc n) (inv-fresh Plain i) (g .1))) (λ _. tt)
   rule-unmet Plain Q (push e p) Γ σ n i g =
       cond-ind (All NotMet) (roomFor L e Γ) (λ _. (tt, rule-unmet Plain Q p (e ∷ Γ) σ n (inv-push Plain e (g .0) i) (g .1))) (λ _. tt)
   rule-unmet Plain Q (solve k s p) Γ σ n i g =
       subst⁻¹ (λ o. All NotMet (solving o s
-      (cond (within (solutionNodes σ + length s) (L .solved)) (gave k s ∷ operations L p Γ (σ ++ (_≔_ k s ∷ [])) n) [])
+      (cond (L .scope k s) (cond (within (solutionNodes σ + length s) (L .solved)) (gave k s ∷ operations L p Γ (σ ++ (_≔_ k s ∷ [])) n) []) [])
       (met k ∷ operations L p Γ σ n)
       (met k ∷ [])))
       (find-none σ k (g .0 .unsolved))
-      (cond-ind (All NotMet) (within (solutionNodes σ + length s) (L .solved))
-      (λ _. (tt, rule-unmet Plain Q p Γ (σ ++ (_≔_ k s ∷ [])) n (inv-solve Plain k s (g .0) i) (g .1))) (λ _. tt))
+      (cond-ind (All NotMet) (L .scope k s)
+      (λ _. cond-ind (All NotMet) (within (solutionNodes σ + length s) (L .solved))
+      (λ _. (tt, rule-unmet Plain Q p Γ (σ ++ (_≔_ k s ∷ [])) n (inv-solve Plain k s (g .0) i) (g .1))) (λ _. tt)) (λ _. tt))
   rule-unmet Plain Q (zonk t f) Γ σ n i g =
       cond-ind (All NotMet) (within (length (writeOut σ t)) (L .written)) (λ _. rule-unmet Plain Q (f (writeOut σ t)) Γ σ n i g) (λ _. tt)
   rule-unmet Plain Q (look f) Γ σ n i g = rule-unmet Plain Q (f Γ) Γ σ n i g
@@ -95,14 +99,14 @@ module _ (L : Limits) where
 -- ---- given and pushed, of several steps
 given-append : (xs ys : List Operation) → given (xs ++ ys) ≡ given xs ++ given ys
 given-append [] ys = refl
-given-append (made n ∷ xs) ys = given-append xs ys
+given-append (made g n ∷ xs) ys = given-append xs ys
 given-append (pushed e ∷ xs) ys = given-append xs ys
 given-append (gave k s ∷ xs) ys = ap (λ (l : Solutions). _≔_ k s ∷ l) (given-append xs ys)
 given-append (met k ∷ xs) ys = given-append xs ys
 
 pushes-append : (xs ys : List Operation) → pushes (xs ++ ys) ≡ pushes xs ++ pushes ys
 pushes-append [] ys = refl
-pushes-append (made n ∷ xs) ys = pushes-append xs ys
+pushes-append (made g n ∷ xs) ys = pushes-append xs ys
 pushes-append (pushed e ∷ xs) ys = ap (λ (l : List Entry). e ∷ l) (pushes-append xs ys)
 pushes-append (gave k s ∷ xs) ys = pushes-append xs ys
 pushes-append (met k ∷ xs) ys = pushes-append xs ys
@@ -146,7 +150,7 @@ onto-unmet (run ss d s) (run ts e t) a b =
     subst⁻¹ (λ (Q : Run). All NotMet (events (steps Q))) (onto-run ss ts e t)
     (subst⁻¹ (All NotMet) (events-append ss ts) (all-append NotMet (events ss) (events ts) a b))
 
-module _ (L : Limits) (E : Env) where
+module _ (L : Levels → Limits) (E : Env) where
   one-step : (Γ : Board) (σ : Solutions) (n : ℕ) (e : Entry) (os : List Operation) (Γ₁ : Board) (σ₁ : Solutions) (n₁ : ℕ) → Left Γ σ os (finished (state Γ₁ σ₁ n₁))
       → (R : Run) → Adds Γ₁ σ₁ R → Adds (e ∷ Γ) σ (addStep (step (state (e ∷ Γ) σ n) e os (finished (state Γ₁ σ₁ n₁))) R)
   unfolding count
@@ -171,14 +175,14 @@ module _ (L : Limits) (E : Env) where
   stopped : (Γ : Board) (σ : Solutions) → (σ ≡ σ ++ []) × ((p : Entry → Bool) → 0 + count p Γ ≡ count p Γ + 0)
   stopped Γ σ = (sym (append-nil σ), λ p. omega arith)
 
-  pub run-adds : (c : ℕ) (Γ : Board) (σ : Solutions) (n : ℕ) → Adds Γ σ (runFrom L E c (state Γ σ n))
+  pub run-adds : (c : ℕ) (v : Levels) (Γ : Board) (σ : Solutions) (n : ℕ) → Adds Γ σ (runFrom L E c v (state Γ σ n))
   unfolding runFrom count
-  run-adds zero [] σ n = stopped [] σ
-  run-adds zero (e ∷ Γ) σ n = stopped (e ∷ Γ) σ
-  run-adds (suc c) [] σ n = stopped [] σ
-  run-adds (suc c) (e ∷ Γ) σ n =
-      onward-adds Γ σ n e (operations L (rule E e) Γ σ n) (perform L (rule E e) Γ σ n) (λ s. runFrom L E c s)
-      (rule-left L (rule E e) Γ σ n) (λ Γ₁ σ₁ n₁. run-adds c Γ₁ σ₁ n₁)
+  run-adds zero v [] σ n = stopped [] σ
+  run-adds zero v (e ∷ Γ) σ n = stopped (e ∷ Γ) σ
+  run-adds (suc c) v [] σ n = stopped [] σ
+  run-adds (suc c) v (e ∷ Γ) σ n =
+      onward-adds Γ σ n e (operations (L v) (rule E e) Γ σ n) (perform (L v) (rule E e) Γ σ n) (λ s. runFrom L E c (levelsAfter (operations (L v) (rule E e) Γ σ n) v) s)
+      (rule-left (L v) (rule E e) Γ σ n) (λ Γ₁ σ₁ n₁. run-adds c (levelsAfter (operations (L v) (rule E e) Γ σ n) v) Γ₁ σ₁ n₁)
 
   module _ (Plain : Type 0) (hE : EnvOK Plain E) where
     onward-unmet : (s : State) (e : Entry) (os : List Operation) (o : Outcome) (Q : Board → Solutions → ℕ → Type 0) (again : State → Run) → All NotMet os → Kept Plain Q o
@@ -190,15 +194,15 @@ module _ (L : Limits) (E : Env) where
         step-unmet (run ss d t) h = all-append NotMet os (events ss) u h
     onward-unmet s e os (refused r ts s′) Q again u k f = all-append NotMet os [] u tt
 
-    pub run-unmet : (c : ℕ) (Γ : Board) (σ : Solutions) (n : ℕ) → Inv Plain Γ σ n → All NotMet (events (steps (runFrom L E c (state Γ σ n))))
+    pub run-unmet : (c : ℕ) (v : Levels) (Γ : Board) (σ : Solutions) (n : ℕ) → Inv Plain Γ σ n → All NotMet (events (steps (runFrom L E c v (state Γ σ n))))
     unfolding runFrom
-    run-unmet zero [] σ n i = tt
-    run-unmet zero (e ∷ Γ) σ n i = tt
-    run-unmet (suc c) [] σ n i = tt
-    run-unmet (suc c) (e ∷ Γ) σ n i =
+    run-unmet zero v [] σ n i = tt
+    run-unmet zero v (e ∷ Γ) σ n i = tt
+    run-unmet (suc c) v [] σ n i = tt
+    run-unmet (suc c) v (e ∷ Γ) σ n i =
         let j : Inv Plain Γ σ n = record { entries = i .entries .1; fine = i .fine; solutions = i .solutions } in
         let g = rule-good Plain E hE Γ σ n j e (i .entries .0) in
-        onward-unmet (state (e ∷ Γ) σ n) e (operations L (rule E e) Γ σ n) (perform L (rule E e) Γ σ n) (Explains Plain σ e) (λ s. runFrom L E c s)
-        (rule-unmet L Plain (Explains Plain σ e) (rule E e) Γ σ n j g)
-        (perform-kept Plain L (Explains Plain σ e) (rule E e) Γ σ n j g)
-        (λ Γ₁ σ₁ n₁ i₁. run-unmet c Γ₁ σ₁ n₁ i₁)
+        onward-unmet (state (e ∷ Γ) σ n) e (operations (L v) (rule E e) Γ σ n) (perform (L v) (rule E e) Γ σ n) (Explains Plain σ e) (λ s. runFrom L E c (levelsAfter (operations (L v) (rule E e) Γ σ n) v) s)
+        (rule-unmet (L v) Plain (Explains Plain σ e) (rule E e) Γ σ n j g)
+        (perform-kept Plain (L v) (Explains Plain σ e) (rule E e) Γ σ n j g)
+        (λ Γ₁ σ₁ n₁ i₁. run-unmet c (levelsAfter (operations (L v) (rule E e) Γ σ n) v) Γ₁ σ₁ n₁ i₁)

@@ -16,10 +16,10 @@ use Rattle.judgment.specs.Types.{canUnify}
 use Rattle.sheet.specs.Plan.{lineNode}
 use Rattle.judgment.specs.Terms.{Term}
 use Rattle.judgment.specs.declared.TypeError.{TypeError}
-use Rattle.judgment.specs.declared.TypeError.the-variants.{UnboundVariable, UnboundDataConstructor, NotAFunction, ArityMismatch, SubtypingError, TypeUnificationError, InstantiationError, IntrinsicArityMismatch, UnknownIntrinsic, BoardFull, TypeTooLong, NoFreshNumber, SolutionsFull}
+use Rattle.judgment.specs.declared.TypeError.the-variants.{UnboundVariable, UnboundDataConstructor, NotAFunction, ArityMismatch, SubtypingError, TypeUnificationError, InstantiationError, IntrinsicArityMismatch, UnknownIntrinsic, BoardFull, TypeTooLong, NoFreshNumber, SolutionsFull, OutOfScope}
 use Rattle.judgment.specs.Solutions.{Solution, _≔_, Solutions, value, find, writeOut, solutionNodes, solvedUnknowns}
 use Rattle.judgment.proofs.SolutionLaws.{fine-snoc, find-none}
-use Rattle.judgment.specs.Board.{below, within, Entry, tvar, var, sub, inf, chk, infApp, Board, Limits, Rule, done, refuse, fresh, push, solve, zonk, look, state, Outcome, finished, refused, perform, roomFor, solving}
+use Rattle.judgment.specs.Board.{below, within, Entry, tvar, var, sub, inf, chk, infApp, Board, Limits, Origin, own, universal, splits, Rule, done, refuse, fresh, push, solve, zonk, look, state, Outcome, finished, refused, perform, roomFor, solving}
 use Rattle.judgment.specs.Good.{Free, Lines, Mono, OK, EntryOK, SolutionOK, Inv}
 
 -- the refusal that no run meets
@@ -37,6 +37,13 @@ NotClash BoardFull = Unit {0}
 NotClash TypeTooLong = Unit {0}
 NotClash NoFreshNumber = Unit {0}
 NotClash SolutionsFull = Unit {0}
+NotClash OutOfScope = Unit {0}
+
+-- an unknown is split that was made before the number n
+abbrev pub Earlier : ℕ → Origin → Type 0
+Earlier n own = Unit {0}
+Earlier n universal = Unit {0}
+Earlier n (splits k) = k < n
 
 module _ (Plain : Type 0) where
   -- a later number
@@ -72,7 +79,7 @@ module _ (Plain : Type 0) where
   abbrev pub Good : Rule → Board → Solutions → ℕ → (Board → Solutions → ℕ → Type 0) → Type 0
   Good done Γ σ n Q = Q Γ σ n
   Good (refuse r ts) Γ σ n Q = NotClash r
-  Good (fresh f) Γ σ n Q = Good (f n) Γ σ (suc n) Q
+  Good (fresh o f) Γ σ n Q = Earlier n o × Good (f n) Γ σ (suc n) Q
   Good (push e p) Γ σ n Q = EntryOK Plain n e × Good p (e ∷ Γ) σ n Q
   Good (solve k s p) Γ σ n Q = SolveOK σ n k s × Good p Γ (σ ++ (_≔_ k s ∷ [])) n Q
   Good (zonk t f) Γ σ n Q = Good (f (writeOut σ t)) Γ σ n Q
@@ -104,18 +111,21 @@ module _ (Plain : Type 0) where
     unfolding perform
     perform-kept done Γ σ n i g = (i, g)
     perform-kept (refuse r ts) Γ σ n i g = (i, g)
-    perform-kept (fresh f) Γ σ n i g =
-        cond-ind (Kept Q) (below n (L .numbers)) (λ _. perform-kept (f n) Γ σ (suc n) (inv-fresh i) g) (λ _. (i, tt))
+    perform-kept (fresh o f) Γ σ n i g =
+        cond-ind (Kept Q) (below n (L .numbers)) (λ _. perform-kept (f n) Γ σ (suc n) (inv-fresh i) (g .1)) (λ _. (i, tt))
     perform-kept (push e p) Γ σ n i g =
         cond-ind (Kept Q) (roomFor L e Γ) (λ _. perform-kept p (e ∷ Γ) σ n (inv-push e (g .0) i) (g .1)) (λ _. (i, tt))
     perform-kept (solve k s p) Γ σ n i g =
         subst⁻¹ (λ o. Kept Q (solving o s
+        (cond (L .scope k s)
         (cond (within (solutionNodes σ + length s) (L .solved)) (perform L p Γ (σ ++ (_≔_ k s ∷ [])) n) (refused SolutionsFull [] (state Γ σ n)))
+        (refused OutOfScope [] (state Γ σ n)))
         (perform L p Γ σ n)
         (refused TypeUnificationError [] (state Γ σ n))))
         (find-none σ k (g .0 .unsolved))
-        (cond-ind (Kept Q) (within (solutionNodes σ + length s) (L .solved))
-        (λ _. perform-kept p Γ (σ ++ (_≔_ k s ∷ [])) n (inv-solve k s (g .0) i) (g .1)) (λ _. (i, tt)))
+        (cond-ind (Kept Q) (L .scope k s)
+        (λ _. cond-ind (Kept Q) (within (solutionNodes σ + length s) (L .solved))
+        (λ _. perform-kept p Γ (σ ++ (_≔_ k s ∷ [])) n (inv-solve k s (g .0) i) (g .1)) (λ _. (i, tt))) (λ _. (i, tt)))
     perform-kept (zonk t f) Γ σ n i g =
         cond-ind (Kept Q) (within (length (writeOut σ t)) (L .written)) (λ _. perform-kept (f (writeOut σ t)) Γ σ n i g) (λ _. (i, tt))
     perform-kept (look f) Γ σ n i g = perform-kept (f Γ) Γ σ n i g
@@ -144,16 +154,20 @@ pub perform-grows : (L : Limits) (p : Rule) (Γ : Board) (σ : Solutions) (n : �
 unfolding perform
 perform-grows L done Γ σ n = same Γ σ
 perform-grows L (refuse r ts) Γ σ n = same Γ σ
-perform-grows L (fresh f) Γ σ n = cond-ind (Grown Γ σ) (below n (L .numbers)) (λ _. perform-grows L (f n) Γ σ (suc n)) (λ _. same Γ σ)
+perform-grows L (fresh o f) Γ σ n = cond-ind (Grown Γ σ) (below n (L .numbers)) (λ _. perform-grows L (f n) Γ σ (suc n)) (λ _. same Γ σ)
 perform-grows L (push e p) Γ σ n =
     cond-ind (Grown Γ σ) (roomFor L e Γ) (λ _. grown-push e Γ σ (perform L p (e ∷ Γ) σ n) (perform-grows L p (e ∷ Γ) σ n)) (λ _. same Γ σ)
 perform-grows L (solve k s p) Γ σ n =
     solving-grows Γ σ (find k σ) s
+    (cond (L .scope k s)
     (cond (within (solutionNodes σ + length s) (L .solved)) (perform L p Γ (σ ++ (_≔_ k s ∷ [])) n) (refused SolutionsFull [] (state Γ σ n)))
+    (refused OutOfScope [] (state Γ σ n)))
     (perform L p Γ σ n)
     (refused TypeUnificationError [] (state Γ σ n))
-    (cond-ind (Grown Γ σ) (within (solutionNodes σ + length s) (L .solved))
+    (cond-ind (Grown Γ σ) (L .scope k s)
+    (λ _. cond-ind (Grown Γ σ) (within (solutionNodes σ + length s) (L .solved))
     (λ _. grown-solve (_≔_ k s) Γ σ (perform L p Γ (σ ++ (_≔_ k s ∷ [])) n) (perform-grows L p Γ (σ ++ (_≔_ k s ∷ [])) n))
+    (λ _. same Γ σ))
     (λ _. same Γ σ))
     (perform-grows L p Γ σ n)
     (same Γ σ)

@@ -8,6 +8,7 @@ pub mod TypeLaws
 pub mod SolutionLaws
 pub mod Chained
 pub mod Performed
+pub mod LevelLaws
 pub mod Invariant
 pub mod RuleLaws
 pub mod Zonk
@@ -34,3 +35,6 @@ pub mod OtherOrders
 pub mod Alike
 pub mod Reordered
 pub mod AnyOrder
+pub mod Levels
+pub mod Strict
+pub mod StrictRows

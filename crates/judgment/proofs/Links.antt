@@ -4,7 +4,7 @@ use Prim.Native.Nat.{ℕ, zero, suc, _+_, _≤_, _<_}
 use native.Mathlib.Decide.{ℕ-discrete}
 use native.Mathlib.Nat.{not-suc-le-zero}
 use native.Mathlib.Omega.{arith}
-use mathlib.Core.Path.{_≡_, refl, sym, _∙_, ap, ap₂, subst⁻¹}
+use mathlib.Core.Path.{_≡_, refl, sym, _∙_, ap, ap₂, subst, subst⁻¹}
 use mathlib.Core.Logic.{_≢_, inl, inr}
 use mathlib.Core.Bool.{Bool, true, false, cond, _&&_, _||_, false≢true}
 use mathlib.Core.Option.{Option, none, some, Option·none-ne-some}
@@ -23,9 +23,10 @@ use Rattle.judgment.specs.Types.{unknown, con, isNode, occurs}
 use Rattle.judgment.specs.Solutions.{_≔_, Solutions, key, find, writeOut, solutionNodes, Distinct, solvedUnknowns}
 use Rattle.judgment.specs.Board.{Entry, chk, Board, upTo, unlimited, Limit, within, below, Limits, Rule, done, refuse, fresh, push, solve, zonk, look, State, state, Operation, Outcome, finished, refused, roomFor, perform, operations}
 use Rattle.judgment.specs.Chain.{counterOf}
+use Rattle.judgment.specs.Levels.{Levels, ownLevels, levelsAfter, Mode}
 use Rattle.judgment.specs.Rules.{Env, rule}
 use Rattle.judgment.specs.Run.{step, Run, run, steps, addStep, onward, runFrom, checkType}
-use Rattle.judgment.specs.Result.{limitsWith, envOf, runOf}
+use Rattle.judgment.specs.Result.{limitsFor, envOf, runOf}
 use Rattle.judgment.specs.Promise.{Follows, solutions}
 use Rattle.judgment.specs.Good.{Free, Fine, SolutionOK, Inv}
 use Rattle.judgment.specs.Links.{leadsOn, isChain, LinksUpTo, Longest, risen, chained, states, counter}
@@ -278,23 +279,23 @@ module _ (L : Limits) where
   unfolding perform
   perform-counted done Γ σ n h = h
   perform-counted (refuse r ts) Γ σ n h = h
-  perform-counted (fresh f) Γ σ n h =
+  perform-counted (fresh g f) Γ σ n h =
       cond-ind Counted (below n (L .numbers)) (λ e. perform-counted (f n) Γ σ (suc n) (within-suc n (L .numbers) e)) (λ _. h)
   perform-counted (push e p) Γ σ n h = cond-ind Counted (roomFor L e Γ) (λ _. perform-counted p (e ∷ Γ) σ n h) (λ _. h)
   perform-counted (solve k s p) Γ σ n h =
       solving-ind Counted (find k σ) s
-      (cond-ind Counted (within (solutionNodes σ + length s) (L .solved)) (λ _. perform-counted p Γ (σ ++ (_≔_ k s ∷ [])) n h) (λ _. h))
+      (cond-ind Counted (L .scope k s) (λ _. cond-ind Counted (within (solutionNodes σ + length s) (L .solved)) (λ _. perform-counted p Γ (σ ++ (_≔_ k s ∷ [])) n h) (λ _. h)) (λ _. h))
       (perform-counted p Γ σ n h) h
   perform-counted (zonk t f) Γ σ n h =
       cond-ind Counted (within (length (writeOut σ t)) (L .written)) (λ _. perform-counted (f (writeOut σ t)) Γ σ n h) (λ _. h)
   perform-counted (look f) Γ σ n h = perform-counted (f Γ) Γ σ n h
 
 -- every state of a run is good, and its counter within the limit if it was at the start
-module _ (Plain : Type 0) (L : Limits) (E : Env) (hE : EnvOK Plain E) (Small : Type 0) where
+module _ (Plain : Type 0) (L : Levels → Limits) (most : Limit) (even : (v : Levels) → L v .numbers ≡ most) (E : Env) (hE : EnvOK Plain E) (Small : Type 0) where
   abbrev At : State → Type 0
-  At (state Γ σ n) = Inv Plain Γ σ n × (Small → within n (L .numbers) ≡ true)
+  At (state Γ σ n) = Inv Plain Γ σ n × (Small → within n most ≡ true)
 
-  onward-at : (Q : Board → Solutions → ℕ → Type 0) (s : State) (e : Entry) (os : List Operation) (o : Outcome) (again : State → Run) → At s → Kept Plain Q o → (Small → Counted L o)
+  onward-at : (Q : Board → Solutions → ℕ → Type 0) (s : State) (e : Entry) (os : List Operation) (o : Outcome) (again : State → Run) → At s → Kept Plain Q o → (Small → within (counterOf o) most ≡ true)
       → ((Γ : Board) (σ : Solutions) (n : ℕ) → At (state Γ σ n) → All At (states (again (state Γ σ n)))) → All At (states (onward L E s e os o again))
   onward-at Q s e os (finished (state Γ σ n)) again a k c f = first (again (state Γ σ n)) (f Γ σ n (k .0, c))
     where
@@ -302,39 +303,40 @@ module _ (Plain : Type 0) (L : Limits) (E : Env) (hE : EnvOK Plain E) (Small : T
       first (run ss d t) h = (a, h)
   onward-at Q s e os (refused r ts (state Γ σ n)) again a k c f = (a, ((k .0, c), tt))
 
-  run-at : (c : ℕ) (Γ : Board) (σ : Solutions) (n : ℕ) → At (state Γ σ n) → All At (states (runFrom L E c (state Γ σ n)))
+  run-at : (c : ℕ) (v : Levels) (Γ : Board) (σ : Solutions) (n : ℕ) → At (state Γ σ n) → All At (states (runFrom L E c v (state Γ σ n)))
   unfolding runFrom
-  run-at zero [] σ n a = (a, tt)
-  run-at zero (e ∷ Γ) σ n a = (a, tt)
-  run-at (suc c) [] σ n a = (a, tt)
-  run-at (suc c) (e ∷ Γ) σ n a =
+  run-at zero v [] σ n a = (a, tt)
+  run-at zero v (e ∷ Γ) σ n a = (a, tt)
+  run-at (suc c) v [] σ n a = (a, tt)
+  run-at (suc c) v (e ∷ Γ) σ n a =
       let i = a .0 in
       let j : Inv Plain Γ σ n = record { entries = i .entries .1; fine = i .fine; solutions = i .solutions } in
-      onward-at (Explains Plain σ e) (state (e ∷ Γ) σ n) e (operations L (rule E e) Γ σ n) (perform L (rule E e) Γ σ n) (λ s. runFrom L E c s) a
-      (perform-kept Plain L (Explains Plain σ e) (rule E e) Γ σ n j (rule-good Plain E hE Γ σ n j e (i .entries .0)))
-      (λ small. perform-counted L (rule E e) Γ σ n (a .1 small))
-      (λ Γ₁ σ₁ n₁ a₁. run-at c Γ₁ σ₁ n₁ a₁)
+      let os : List Operation = operations (L v) (rule E e) Γ σ n in
+      onward-at (Explains Plain σ e) (state (e ∷ Γ) σ n) e os (perform (L v) (rule E e) Γ σ n) (λ s. runFrom L E c (levelsAfter os v) s) a
+      (perform-kept Plain (L v) (Explains Plain σ e) (rule E e) Γ σ n j (rule-good Plain E hE Γ σ n j e (i .entries .0)))
+      (λ small. subst (λ m. within (counterOf (perform (L v) (rule E e) Γ σ n)) m ≡ true) (even v) (perform-counted (L v) (rule E e) Γ σ n (subst⁻¹ (λ m. within n m ≡ true) (even v) (a .1 small))))
+      (λ Γ₁ σ₁ n₁ a₁. run-at c (levelsAfter os v) Γ₁ σ₁ n₁ a₁)
 
--- Under any limits, in every state of a run from a good start: no more links than numbers made, and no more of these than the limit, if no more were made at the start.
-pub run-links : (Plain : Type 0) (L : Limits) (E : Env) → EnvOK Plain E → (c : ℕ) (Γ : Board) (σ : Solutions) (n : ℕ) → Inv Plain Γ σ n
-    → All (λ s. LinksUpTo (counter s) (solutions s) × (within n (L .numbers) ≡ true → within (counter s) (L .numbers) ≡ true)) (states (runFrom L E c (state Γ σ n)))
-run-links Plain L E hE c Γ σ n i =
-    all-map links (states (runFrom L E c (state Γ σ n))) (run-at Plain L E hE (within n (L .numbers) ≡ true) c Γ σ n (i, λ h. h))
+-- Under any limits of which that on numbers is one and the same, in every state of a run from a good start: no more links than numbers made, and no more of these than the limit, if no more were made at the start.
+pub run-links : (Plain : Type 0) (L : Levels → Limits) (most : Limit) → ((v : Levels) → L v .numbers ≡ most) → (E : Env) → EnvOK Plain E → (c : ℕ) (v : Levels) (Γ : Board) (σ : Solutions) (n : ℕ) → Inv Plain Γ σ n
+    → All (λ s. LinksUpTo (counter s) (solutions s) × (within n most ≡ true → within (counter s) most ≡ true)) (states (runFrom L E c v (state Γ σ n)))
+run-links Plain L most even E hE c v Γ σ n i =
+    all-map links (states (runFrom L E c v (state Γ σ n))) (run-at Plain L most even E hE (within n most ≡ true) c v Γ σ n (i, λ h. h))
   where
-    links : (s : State) → At Plain L E hE (within n (L .numbers) ≡ true) s → LinksUpTo (counter s) (solutions s) × (within n (L .numbers) ≡ true → within (counter s) (L .numbers) ≡ true)
+    links : (s : State) → At Plain L most even E hE (within n most ≡ true) s → LinksUpTo (counter s) (solutions s) × (within n most ≡ true → within (counter s) most ≡ true)
     links (state Γ′ σ′ n′) a = (good-links Plain Γ′ σ′ n′ (a .0), a .1)
 
 -- with document 01's limit on numbers
-pub limited-links : (Plain : Type 0) (w : ℕ) (E : Env) → EnvOK Plain E → (c : ℕ) (Γ : Board) (σ : Solutions) (n : ℕ) → Inv Plain Γ σ n → n ≤ mostNumbers
-    → All (λ s. LinksUpTo mostNumbers (solutions s)) (states (runFrom (limitsWith w) E c (state Γ σ n)))
-limited-links Plain w E hE c Γ σ n i l =
+pub limited-links : (Plain : Type 0) (m : Mode) (w : ℕ) (E : Env) → EnvOK Plain E → (c : ℕ) (v : Levels) (Γ : Board) (σ : Solutions) (n : ℕ) → Inv Plain Γ σ n → n ≤ mostNumbers
+    → All (λ s. LinksUpTo mostNumbers (solutions s)) (states (runFrom (limitsFor m w) E c v (state Γ σ n)))
+limited-links Plain m w E hE c v Γ σ n i l =
     all-map (λ s h ks e. (let a = h .0 ks e in let b = leb-true (counter s) mostNumbers (h .1 (le-leb n mostNumbers l)) in omega arith))
-    (states (runFrom (limitsWith w) E c (state Γ σ n))) (run-links Plain (limitsWith w) E hE c Γ σ n i)
+    (states (runFrom (limitsFor m w) E c v (state Γ σ n))) (run-links Plain (limitsFor m w) (upTo mostNumbers) (λ _. refl) E hE c v Γ σ n i)
 
--- every sheet that passes refusals 3 to 5, every ceiling and every limit on written-out types
-pub sheet-links : (s : List ℕ) (c w : ℕ) → check s ≡ Plan → All (λ t. LinksUpTo mostNumbers (solutions t)) (states (runOf (limitsWith w) c (planOf (triples s))))
+-- every sheet that passes refusals 3 to 5, every ceiling and every limit on written-out types, by either call
+pub sheet-links : (m : Mode) (s : List ℕ) (c w : ℕ) → check s ≡ Plan → All (λ t. LinksUpTo mostNumbers (solutions t)) (states (runOf (limitsFor m w) c (planOf (triples s))))
 unfolding runOf checkType
-sheet-links s c w e =
+sheet-links m s c w e =
     let p = planOf (triples s) in
     let g = sheet-plan s e in
-    limited-links ⊥ w (envOf p) (plan-env p g) c (chk (p .term) (p .expected) ∷ []) [] 0 (plan-inv p g) (omega arith)
+    limited-links ⊥ m w (envOf p) (plan-env p g) c ownLevels (chk (p .term) (p .expected) ∷ []) [] 0 (plan-inv p g) (omega arith)

@@ -26,11 +26,12 @@ use Rattle.judgment.specs.declared.TypeError.{TypeError}
 use Rattle.judgment.specs.Types.{eqTy, View, isArrow, isApp, isForall, isUnknown, isOther, view, occurs, isMonotype, substitute, Renaming, rename, frontNames, afterFront}
 use Rattle.judgment.specs.Terms.{Term, part, afterParts, Lambda, lambdaOf, TermView, isVar, isLitInt, isLambda, isApply, isTypeLambda, isConstructor, isCase, isBinOp, isIf, isIntrinsic, isNone, viewBy, termView, PatternView, patternView}
 use Rattle.judgment.specs.Solutions.{_≔_, Solutions, value, find, writeOut, solutionNodes}
-use Rattle.judgment.specs.Board.{Entry, tvar, var, sub, inf, chk, infApp, Board, findVar, before, Rule, done, refuse, fresh, push, solve, zonk, look, State, state, Outcome, finished, refused, roomFor, Operation, perform, operations}
+use Rattle.judgment.specs.Board.{Entry, tvar, var, sub, inf, chk, infApp, Board, findVar, before, Rule, done, refuse, fresh, push, solve, zonk, look, State, state, Outcome, finished, refused, roomFor, Operation, perform, operations, Limits}
 use Rattle.judgment.specs.Chain.{counterOf}
+use Rattle.judgment.specs.Levels.{Levels, ownLevels, levelsAfter, Mode}
 use Rattle.judgment.specs.Rules.{Env, Side, left, right, openBody, solveMonotype, instantiateBy, instantiateFrom, mismatch, unknownRight, unknownLeft, subtypeBy, subtype, openNames, instantiateConstructor, signatureBy, signatureFrom, insert, pushVars, patternParts, patternConstructor, patternBy, checkPatterns, checkArms, variable, constructor, inferBy, checkArrow, checkBy, applyBy, inferApp, rule}
 use Rattle.judgment.specs.Run.{Step, step, End, accepted, ceiling, refusedBy, Run, run, addStep, onward, runFrom, checkType}
-use Rattle.judgment.specs.Result.{errorNumber, errorDetails, endNumber, endDetails, envOf, runOf, resultOf, judge, limitsWith, Buffers, Called, refusedAt, byCheck, limitBad, tooShort, call}
+use Rattle.judgment.specs.Result.{errorNumber, errorDetails, endNumber, endDetails, envOf, runOf, resultOf, judge, Way, limitsIn, wayOf, limitsFor, Buffers, Called, refusedAt, byCheck, limitBad, tooShort, call}
 use Rattle.judgment.specs.Good.{EntryWhole, OK, EntryOK, Inv}
 use Rattle.judgment.proofs.TypeLaws.{eqb-true, Shows, view-shows}
 use Rattle.judgment.proofs.Invariant.{Kept, perform-kept}
@@ -42,7 +43,7 @@ use Rattle.judgment.proofs.Links.{perform-counted}
 
 -- How large the seven numbers of an answer are. The details are names, nodes of a written-out type, parameters of a constructor, unknowns and counts.
 pub record Narrow (a : Answer) : Type 0 where
-  pub number : a .number ≤ 32
+  pub number : a .number ≤ 39
   pub line : a .line ≤ mostLines + 1
   pub taken : a .taken ≤ highestCeiling
   pub fresh : a .fresh ≤ mostNumbers
@@ -53,13 +54,13 @@ pub record Narrow (a : Answer) : Type 0 where
 ---------------------------------------------------------------- what a rule must show
 -- a refusal's number and details
 abbrev Small : TypeError → Type 0
-Small r = (errorNumber r ≤ 25) × (errorDetails r .0 ≤ highestName) × (errorDetails r .1 ≤ highestLimit)
+Small r = (errorNumber r ≤ 39) × (errorDetails r .0 ≤ highestName) × (errorDetails r .1 ≤ highestLimit)
 
 -- every refusal is small, whatever is fresh, pushed and solved; a type that is written out has few nodes
 abbrev Brief : Solutions → Rule → Type 0
 Brief σ done = Unit {0}
 Brief σ (refuse r ts) = Small r
-Brief σ (fresh f) = (n : ℕ) → Brief σ (f n)
+Brief σ (fresh o f) = (n : ℕ) → Brief σ (f n)
 Brief σ (push e p) = Brief σ p
 Brief σ (solve k s p) = (τ : Solutions) → Brief τ p
 Brief σ (zonk t f) = length (writeOut σ t) ≤ highestLimit → Brief σ (f (writeOut σ t))
@@ -69,23 +70,24 @@ abbrev OutcomeNarrow : Outcome → Type 0
 OutcomeNarrow (finished s) = Unit {0}
 OutcomeNarrow (refused r ts s) = Small r
 
-module _ (limit : ℕ) (low : limit ≤ highestLimit) where
-  perform-narrow : (p : Rule) (Γ : Board) (σ : Solutions) (n : ℕ) → Brief σ p → OutcomeNarrow (perform (limitsWith limit) p Γ σ n)
+module _ (way : Way) (low : way .written ≤ highestLimit) where
+  perform-narrow : (p : Rule) (Γ : Board) (σ : Solutions) (n : ℕ) → Brief σ p → OutcomeNarrow (perform (limitsIn way) p Γ σ n)
   unfolding perform
   perform-narrow done Γ σ n g = tt
   perform-narrow (refuse r ts) Γ σ n g = g
-  perform-narrow (fresh f) Γ σ n g = cond-ind OutcomeNarrow (ltb n mostNumbers) (λ e. perform-narrow (f n) Γ σ (suc n) (g n)) (λ _. omega arith)
+  perform-narrow (fresh o f) Γ σ n g = cond-ind OutcomeNarrow (ltb n mostNumbers) (λ e. perform-narrow (f n) Γ σ (suc n) (g n)) (λ _. omega arith)
   perform-narrow (push e p) Γ σ n g =
-      cond-ind OutcomeNarrow (roomFor (limitsWith limit) e Γ) (λ _. perform-narrow p (e ∷ Γ) σ n g) (λ _. omega arith)
+      cond-ind OutcomeNarrow (roomFor (limitsIn way) e Γ) (λ _. perform-narrow p (e ∷ Γ) σ n g) (λ _. omega arith)
   perform-narrow (solve k s p) Γ σ n g =
       solving-ind OutcomeNarrow (find k σ) s
-      (cond-ind OutcomeNarrow (leb (solutionNodes σ + length s) mostNodes)
-      (λ _. perform-narrow p Γ (σ ++ (_≔_ k s ∷ [])) n (g (σ ++ (_≔_ k s ∷ [])))) (λ _. omega arith))
+      (cond-ind OutcomeNarrow (way .scope k s)
+      (λ _. cond-ind OutcomeNarrow (leb (solutionNodes σ + length s) mostNodes)
+      (λ _. perform-narrow p Γ (σ ++ (_≔_ k s ∷ [])) n (g (σ ++ (_≔_ k s ∷ [])))) (λ _. omega arith)) (λ _. omega arith))
       (perform-narrow p Γ σ n (g σ))
       (omega arith)
   perform-narrow (zonk t f) Γ σ n g =
-      cond-ind OutcomeNarrow (leb (length (writeOut σ t)) limit)
-      (λ e. perform-narrow (f (writeOut σ t)) Γ σ n (g (omega (arith, leb-true (length (writeOut σ t)) limit e)))) (λ _. omega arith)
+      cond-ind OutcomeNarrow (leb (length (writeOut σ t)) (way .written))
+      (λ e. perform-narrow (f (writeOut σ t)) Γ σ n (g (omega (arith, leb-true (length (writeOut σ t)) (way .written) e)))) (λ _. omega arith)
   perform-narrow (look f) Γ σ n g = perform-narrow (f Γ) Γ σ n (g Γ)
 
 ---------------------------------------------------------------- instantiation
@@ -365,7 +367,7 @@ RunNarrow c (run ss d (state Γ σ n)) = (length ss ≤ c) × EndNarrow d × (n 
 add-narrow : (c : ℕ) (t : Step) (R : Run) → RunNarrow c R → RunNarrow (suc c) (addStep t R)
 add-narrow c t (run ss d (state Γ σ n)) h = (omega (arith, h .0), h .1, h .2)
 
-module _ (limit : ℕ) (low : limit ≤ highestLimit) (Plain : Type 0) (E : Env) (hE : EnvOK Plain E) (wE : EnvWhole E) (sE : All Short (E .constructors)) where
+module _ (m : Mode) (limit : ℕ) (low : limit ≤ highestLimit) (Plain : Type 0) (E : Env) (hE : EnvOK Plain E) (wE : EnvWhole E) (sE : All Short (E .constructors)) where
   rule-brief : (Γ : Board) (σ : Solutions) (n : ℕ) → Inv Plain Γ σ n → n ≤ mostNumbers → (e : Entry) → EntryOK Plain n e → EntryWhole e → Brief σ (rule E e)
   unfolding inferApp
   rule-brief Γ σ n i l (tvar x) h w = tt
@@ -381,35 +383,37 @@ module _ (limit : ℕ) (low : limit ≤ highestLimit) (Plain : Type 0) (E : Env)
   onward-narrow : (c : ℕ) (Q : Board → Solutions → ℕ → Type 0) (s : State) (e : Entry) (os : List Operation) (o : Outcome) (again : State → Run)
       → Kept Plain Q o → OutcomeWhole o → counterOf o ≤ mostNumbers → OutcomeNarrow o
       → ((Γ₁ : Board) (σ₁ : Solutions) (n₁ : ℕ) → Inv Plain Γ₁ σ₁ n₁ → StateWhole (state Γ₁ σ₁ n₁) → n₁ ≤ mostNumbers → RunNarrow c (again (state Γ₁ σ₁ n₁)))
-      → RunNarrow (suc c) (onward (limitsWith limit) E s e os o again)
+      → RunNarrow (suc c) (onward (limitsFor m limit) E s e os o again)
   onward-narrow c Q s e os (finished (state Γ₁ σ₁ n₁)) again k w l g f =
       add-narrow c (step s e os (finished (state Γ₁ σ₁ n₁))) (again (state Γ₁ σ₁ n₁)) (f Γ₁ σ₁ n₁ (k .0) w l)
   onward-narrow c Q s e os (refused r ts (state Γ₁ σ₁ n₁)) again k w l g f = (omega arith, g, l)
 
-  run-narrow : (c : ℕ) (Γ : Board) (σ : Solutions) (n : ℕ) → Inv Plain Γ σ n → StateWhole (state Γ σ n) → n ≤ mostNumbers
-      → RunNarrow c (runFrom (limitsWith limit) E c (state Γ σ n))
+  run-narrow : (c : ℕ) (v : Levels) (Γ : Board) (σ : Solutions) (n : ℕ) → Inv Plain Γ σ n → StateWhole (state Γ σ n) → n ≤ mostNumbers
+      → RunNarrow c (runFrom (limitsFor m limit) E c v (state Γ σ n))
   unfolding runFrom
-  run-narrow zero [] σ n i w l = (omega arith, tt, l)
-  run-narrow zero (e ∷ Γ) σ n i w l = (omega arith, tt, l)
-  run-narrow (suc c) [] σ n i w l = (omega arith, tt, l)
-  run-narrow (suc c) (e ∷ Γ) σ n i w l =
+  run-narrow zero v [] σ n i w l = (omega arith, tt, l)
+  run-narrow zero v (e ∷ Γ) σ n i w l = (omega arith, tt, l)
+  run-narrow (suc c) v [] σ n i w l = (omega arith, tt, l)
+  run-narrow (suc c) v (e ∷ Γ) σ n i w l =
       let j : Inv Plain Γ σ n = record { entries = i .entries .1; fine = i .fine; solutions = i .solutions } in
-      onward-narrow c (Explains Plain σ e) (state (e ∷ Γ) σ n) e (operations (limitsWith limit) (rule E e) Γ σ n) (perform (limitsWith limit) (rule E e) Γ σ n) (λ s. runFrom (limitsWith limit) E c s)
-      (perform-kept Plain (limitsWith limit) (Explains Plain σ e) (rule E e) Γ σ n j (rule-good Plain E hE Γ σ n j e (i .entries .0)))
-      (perform-whole (limitsWith limit) (rule E e) Γ σ n (w .0 .1) (w .1) (rule-whole E wE e (w .0 .0)))
-      (leb-true _ mostNumbers (perform-counted (limitsWith limit) (rule E e) Γ σ n (le-leb n mostNumbers l)))
-      (perform-narrow limit low (rule E e) Γ σ n (rule-brief Γ σ n j l e (i .entries .0) (w .0 .0)))
-      (λ Γ₁ σ₁ n₁ i₁ w₁ l₁. run-narrow c Γ₁ σ₁ n₁ i₁ w₁ l₁)
+      let L : Limits = limitsFor m limit v in
+      let os : List Operation = operations L (rule E e) Γ σ n in
+      onward-narrow c (Explains Plain σ e) (state (e ∷ Γ) σ n) e os (perform L (rule E e) Γ σ n) (λ s. runFrom (limitsFor m limit) E c (levelsAfter os v) s)
+      (perform-kept Plain L (Explains Plain σ e) (rule E e) Γ σ n j (rule-good Plain E hE Γ σ n j e (i .entries .0)))
+      (perform-whole L (rule E e) Γ σ n (w .0 .1) (w .1) (rule-whole E wE e (w .0 .0)))
+      (leb-true _ mostNumbers (perform-counted L (rule E e) Γ σ n (le-leb n mostNumbers l)))
+      (perform-narrow (wayOf m limit v) low (rule E e) Γ σ n (rule-brief Γ σ n j l e (i .entries .0) (w .0 .0)))
+      (λ Γ₁ σ₁ n₁ i₁ w₁ l₁. run-narrow c (levelsAfter os v) Γ₁ σ₁ n₁ i₁ w₁ l₁)
 
 ---------------------------------------------------------------- a plan
-end-small : (d : End) → EndNarrow d → (endNumber d ≤ 25) × (endDetails d .0 ≤ highestName) × (endDetails d .1 ≤ highestLimit)
+end-small : (d : End) → EndNarrow d → (endNumber d ≤ 39) × (endDetails d .0 ≤ highestName) × (endDetails d .1 ≤ highestLimit)
 end-small accepted h = omega arith
 end-small ceiling h = omega arith
 end-small (refusedBy r ts) h = h
 
-result-narrow : (c : ℕ) (plain : Bool) → c ≤ highestCeiling → (R : Run) → RunNarrow c R → Narrow (resultOf plain R .answer)
+result-narrow : (c : ℕ) (plain : Bool) (v : Levels) → c ≤ highestCeiling → (R : Run) → RunNarrow c R → Narrow (resultOf plain v R .answer)
 unfolding resultOf
-result-narrow c plain l (run ss d (state Γ σ n)) h =
+result-narrow c plain v l (run ss d (state Γ σ n)) h =
     let e = end-small d (h .1) in
     record {
       number = omega (arith, e .0);
@@ -438,15 +442,15 @@ plan-short : (ls : List Triple) → length ls ≤ mostLines → All Short (planO
 unfolding planOf
 plan-short ls h = bindings-short 1 ls (declarations ls 0 0) h
 
-judge-narrow : (s : List ℕ) (c w : ℕ) → c ≤ highestCeiling → w ≤ highestLimit → check s ≡ Plan → Narrow (judge (limitsWith w) c (triples s) .answer)
+judge-narrow : (m : Mode) (s : List ℕ) (c w : ℕ) → c ≤ highestCeiling → w ≤ highestLimit → check s ≡ Plan → Narrow (judge (limitsFor m w) c (triples s) .answer)
 unfolding judge runOf checkType
-judge-narrow s c w l hw e =
+judge-narrow m s c w l hw e =
     let p : PlanOf = planOf (triples s) in
     let g = sheet-plan s e in
     let pw = plan-whole s e in
     let first : Board = chk (p .term) (p .expected) ∷ [] in
-    result-narrow c (p .plain) l (runFrom (limitsWith w) (envOf p) c (state first [] 0))
-    (run-narrow w hw ⊥ (envOf p) (plan-env p g) (pw .0) (plan-short (triples s) (plan-few s e)) c first [] 0 (plan-inv p g) ((pw .1, tt), tt) (omega arith))
+    result-narrow c (p .plain) ownLevels l (runFrom (limitsFor m w) (envOf p) c ownLevels (state first [] 0))
+    (run-narrow m w hw ⊥ (envOf p) (plan-env p g) (pw .0) (plan-short (triples s) (plan-few s e)) c ownLevels first [] 0 (plan-inv p g) ((pw .1, tt), tt) (omega arith))
 
 ---------------------------------------------------------------- a whole call
 pub limit-good : (w : ℕ) → limitBad w ≡ false → (0 < w) × (w ≤ highestLimit)
@@ -457,23 +461,23 @@ limit-good w e = go (eqb w 0) refl (ltb highestLimit w) refl e
     go false p true q r = absurd (true≢false r)
     go false p false q r = (let n = eqb-false w 0 p in omega arith, ltb-false highestLimit w q)
 
-before-run : (number line : ℕ) → number ≤ 32 → line ≤ mostLines + 1 → Narrow (refusedAt number line)
+before-run : (number line : ℕ) → number ≤ 39 → line ≤ mostLines + 1 → Narrow (refusedAt number line)
 before-run number line h k =
     record { number = h; line = k; taken = omega arith; fresh = omega arith; detail1 = omega arith; detail2 = omega arith; plain = omega arith }
 
-check-narrow : (s : List ℕ) (c w : ℕ) (b : Buffers) → c ≤ highestCeiling → w ≤ highestLimit → (k : Check) → check s ≡ k → checkLine k ≤ mostLines + 1
-    → Narrow (byCheck s c w b k .answer)
-check-narrow s c w b l hw Plan e h = judge-narrow s c w l hw e
-check-narrow s c w b l hw Length e h = before-run 3 0 (omega arith) (omega arith)
-check-narrow s c w b l hw (Misspelt i) e h = before-run 4 i (omega arith) h
-check-narrow s c w b l hw (Unfit i) e h = before-run 5 i (omega arith) h
+check-narrow : (m : Mode) (s : List ℕ) (c w : ℕ) (b : Buffers) → c ≤ highestCeiling → w ≤ highestLimit → (k : Check) → check s ≡ k → checkLine k ≤ mostLines + 1
+    → Narrow (byCheck m s c w b k .answer)
+check-narrow m s c w b l hw Plan e h = judge-narrow m s c w l hw e
+check-narrow m s c w b l hw Length e h = before-run 3 0 (omega arith) (omega arith)
+check-narrow m s c w b l hw (Misspelt i) e h = before-run 4 i (omega arith) h
+check-narrow m s c w b l hw (Unfit i) e h = before-run 5 i (omega arith) h
 
--- NARROW: for all bytes, every ceiling and limit, and any buffers
-pub narrow : (s : List ℕ) (c w : ℕ) (b : Buffers) → Narrow (call s c w b .answer)
+-- NARROW: for all bytes, every ceiling and limit, and any buffers, by either call
+pub narrow : (m : Mode) (s : List ℕ) (c w : ℕ) (b : Buffers) → Narrow (call m s c w b .answer)
 unfolding call
-narrow s c w b =
+narrow m s c w b =
     let N : Called → Type 0 = λ k. Narrow (k .answer) in
     cond-ind N (ltb highestCeiling c) (λ _. before-run 1 0 (omega arith) (omega arith))
     (λ e. cond-ind N (limitBad w) (λ _. before-run 32 0 (omega arith) (omega arith))
     (λ f. cond-ind N (tooShort w b) (λ _. before-run 2 0 (omega arith) (omega arith))
-    (λ _. check-narrow s c w b (ltb-false highestCeiling c e) (limit-good w f .1) (check s) refl (line-small s))))
+    (λ _. check-narrow m s c w b (ltb-false highestCeiling c e) (limit-good w f .1) (check s) refl (line-small s))))

@@ -10,6 +10,7 @@ use Rattle.sheet.specs.Plan.{Binding, _∶_, Bindings, Plan, planOf}
 use Rattle.judgment.specs.Types.{unknown}
 use Rattle.judgment.specs.Terms.{Term, part, afterParts, TermView, isVar, isLitInt, isLambda, isApply, isTypeLambda, isConstructor, isCase, isBinOp, isIf, isIntrinsic, isNone, termView}
 use Rattle.judgment.specs.Board.{Entry, tvar, var, sub, inf, chk, infApp, Limits, Rule, done, push, _>>=_, _>>_, State, state, perform, operations}
+use Rattle.judgment.specs.Levels.{Levels, ownLevels, levelsAfter}
 use Rattle.judgment.specs.Rules.{Env, freshUnknown, pushVars, checkPatterns, inferBy, rule}
 use Rattle.judgment.specs.Run.{accepted, ceiling, Run, run, onward}
 use Rattle.judgment.specs.Result.{Result, resultOf, envOf}
@@ -71,15 +72,16 @@ module _ (order : Order) where
     ruleIn (chk e t) = rule E (chk e t)
     ruleIn (infApp f e c) = rule E (infApp f e c)
 
-  unfoldable pub runFromIn : Limits → Env → ℕ → State → Run
-  runFromIn L E zero (state [] σ n) = run [] accepted (state [] σ n)
-  runFromIn L E zero (state (e ∷ Γ) σ n) = run [] ceiling (state (e ∷ Γ) σ n)
-  runFromIn L E (suc c) (state [] σ n) = run [] accepted (state [] σ n)
-  runFromIn L E (suc c) (state (e ∷ Γ) σ n) =
-      onward L E (state (e ∷ Γ) σ n) e (operations L (ruleIn E e) Γ σ n) (perform L (ruleIn E e) Γ σ n) (λ s. runFromIn L E c s)
+  unfoldable pub runFromIn : (Levels → Limits) → Env → ℕ → Levels → State → Run
+  runFromIn L E zero v (state [] σ n) = run [] accepted (state [] σ n)
+  runFromIn L E zero v (state (e ∷ Γ) σ n) = run [] ceiling (state (e ∷ Γ) σ n)
+  runFromIn L E (suc c) v (state [] σ n) = run [] accepted (state [] σ n)
+  runFromIn L E (suc c) v (state (e ∷ Γ) σ n) =
+      onward L E (state (e ∷ Γ) σ n) e (operations (L v) (ruleIn E e) Γ σ n) (perform (L v) (ruleIn E e) Γ σ n)
+      (λ s. runFromIn L E c (levelsAfter (operations (L v) (ruleIn E e) Γ σ n) v) s)
 
-  unfoldable pub runOfIn : Limits → ℕ → Plan → Run
-  runOfIn L c p = runFromIn L (envOf p) c (state (chk (p .term) (p .expected) ∷ []) [] 0)
+  unfoldable pub runOfIn : (Levels → Limits) → ℕ → Plan → Run
+  runOfIn L c p = runFromIn L (envOf p) c ownLevels (state (chk (p .term) (p .expected) ∷ []) [] 0)
 
-  unfoldable pub judgeIn : Limits → ℕ → List Triple → Result
-  judgeIn L c ls = let p = planOf ls in resultOf (p .plain) (runOfIn L c p)
+  unfoldable pub judgeIn : (Levels → Limits) → ℕ → List Triple → Result
+  judgeIn L c ls = let p = planOf ls in resultOf (p .plain) ownLevels (runOfIn L c p)

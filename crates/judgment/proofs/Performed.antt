@@ -8,7 +8,7 @@ use mathlib.Core.List.{List, [], _∷_, _++_}
 use lib.ListN.{length}
 use Rattle.nodes.specs.Nodes.{Ty}
 use Rattle.nodes.proofs.ListLaws.{cond-ind}
-use Rattle.judgment.specs.declared.TypeError.the-variants.{TypeUnificationError, BoardFull, TypeTooLong, NoFreshNumber, SolutionsFull}
+use Rattle.judgment.specs.declared.TypeError.the-variants.{TypeUnificationError, BoardFull, TypeTooLong, NoFreshNumber, SolutionsFull, OutOfScope}
 use Rattle.judgment.specs.Types.{canUnify}
 use Rattle.judgment.specs.Solutions.{_≔_, Solutions, find, writeOut, solutionNodes}
 use Rattle.judgment.specs.Board.{below, within, Board, Limits, Rule, done, refuse, fresh, push, solve, zonk, look, Operation, made, pushed, gave, met, State, state, Outcome, finished, refused, roomFor, solving, perform, operations}
@@ -31,13 +31,15 @@ module _ (L : Limits) where
   unfoldable pub doing : Rule → Board → Solutions → ℕ → Done
   doing done Γ σ n = only (finished (state Γ σ n))
   doing (refuse r ts) Γ σ n = only (refused r ts (state Γ σ n))
-  doing (fresh f) Γ σ n =
-      cond (below n (L .numbers)) (also (made n) (doing (f n) Γ σ (suc n))) (only (refused NoFreshNumber [] (state Γ σ n)))
+  doing (fresh g f) Γ σ n =
+      cond (below n (L .numbers)) (also (made g n) (doing (f n) Γ σ (suc n))) (only (refused NoFreshNumber [] (state Γ σ n)))
   doing (push e p) Γ σ n =
       cond (roomFor L e Γ) (also (pushed e) (doing p (e ∷ Γ) σ n)) (only (refused BoardFull [] (state Γ σ n)))
   doing (solve k s p) Γ σ n =
       solving (find k σ) s
+      (cond (L .scope k s)
       (cond (within (solutionNodes σ + length s) (L .solved)) (also (gave k s) (doing p Γ (σ ++ (_≔_ k s ∷ [])) n)) (only (refused SolutionsFull [] (state Γ σ n))))
+      (only (refused OutOfScope [] (state Γ σ n))))
       (also (met k) (doing p Γ σ n))
       (also (met k) (only (refused TypeUnificationError [] (state Γ σ n))))
   doing (zonk t f) Γ σ n =
@@ -57,11 +59,11 @@ module _ (L : Limits) where
   unfolding doing perform operations
   together done Γ σ n = refl
   together (refuse r ts) Γ σ n = refl
-  together (fresh f) Γ σ n = either (below n (L .numbers)) (ap (also (made n)) (together (f n) Γ σ (suc n))) refl
+  together (fresh g f) Γ σ n = either (below n (L .numbers)) (ap (also (made g n)) (together (f n) Γ σ (suc n))) refl
   together (push e p) Γ σ n = either (roomFor L e Γ) (ap (also (pushed e)) (together p (e ∷ Γ) σ n)) refl
   together (solve k s p) Γ σ n =
       three (find k σ) s
-      (either (within (solutionNodes σ + length s) (L .solved)) (ap (also (gave k s)) (together p Γ (σ ++ (_≔_ k s ∷ [])) n)) refl)
+      (either (L .scope k s) (either (within (solutionNodes σ + length s) (L .solved)) (ap (also (gave k s)) (together p Γ (σ ++ (_≔_ k s ∷ [])) n)) refl) refl)
       (ap (also (met k)) (together p Γ σ n))
       refl
   together (zonk t f) Γ σ n = either (within (length (writeOut σ t)) (L .written)) (together (f (writeOut σ t)) Γ σ n) refl
@@ -73,7 +75,7 @@ after (finished s) = s
 after (refused r ts s) = s
 
 abbrev pub redo : Operation → State → State
-redo (made m) (state Γ σ n) = state Γ σ (suc m)
+redo (made g m) (state Γ σ n) = state Γ σ (suc m)
 redo (pushed e) (state Γ σ n) = state (e ∷ Γ) σ n
 redo (gave k s) (state Γ σ n) = state Γ (σ ++ (_≔_ k s ∷ [])) n
 redo (met k) (state Γ σ n) = state Γ σ n
@@ -85,7 +87,7 @@ redone (o ∷ os) s = redone os (redo o s)
 -- the numbers made, from n on
 abbrev pub InTurn : ℕ → List Operation → Type 0
 InTurn n [] = Unit {0}
-InTurn n (made m ∷ os) = (m ≡ n) × InTurn (suc n) os
+InTurn n (made g m ∷ os) = (m ≡ n) × InTurn (suc n) os
 InTurn n (pushed e ∷ os) = InTurn n os
 InTurn n (gave k s ∷ os) = InTurn n os
 InTurn n (met k ∷ os) = InTurn n os
@@ -99,13 +101,14 @@ module _ (L : Limits) where
   unfolding doing
   agrees done Γ σ n = (refl, tt)
   agrees (refuse r ts) Γ σ n = (refl, tt)
-  agrees (fresh f) Γ σ n =
+  agrees (fresh g f) Γ σ n =
       cond-ind (Agrees (state Γ σ n)) (below n (L .numbers)) (λ _. let h = agrees (f n) Γ σ (suc n) in (h .0, (refl, h .1))) (λ _. (refl, tt))
   agrees (push e p) Γ σ n =
       cond-ind (Agrees (state Γ σ n)) (roomFor L e Γ) (λ _. agrees p (e ∷ Γ) σ n) (λ _. (refl, tt))
   agrees (solve k s p) Γ σ n =
       solved (find k σ) _ _
-      (cond-ind (Agrees (state Γ σ n)) (within (solutionNodes σ + length s) (L .solved)) (λ _. agrees p Γ (σ ++ (_≔_ k s ∷ [])) n) (λ _. (refl, tt)))
+      (cond-ind (Agrees (state Γ σ n)) (L .scope k s)
+      (λ _. cond-ind (Agrees (state Γ σ n)) (within (solutionNodes σ + length s) (L .solved)) (λ _. agrees p Γ (σ ++ (_≔_ k s ∷ [])) n) (λ _. (refl, tt))) (λ _. (refl, tt)))
       (agrees p Γ σ n)
     where
       solved : (a : Option Ty) (x y : Done) → Agrees (state Γ σ n) x → Agrees (state Γ σ n) y → Agrees (state Γ σ n) (solving a s x (also (met k) y) (also (met k) (only (refused TypeUnificationError [] (state Γ σ n)))))

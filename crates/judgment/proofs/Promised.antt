@@ -14,6 +14,7 @@ use Rattle.grammar.specs.Check.{check}
 use Rattle.sheet.specs.Plan.{triples, Plan as PlanOf, planOf}
 use Rattle.judgment.specs.Solutions.{Solutions, value, writeOut}
 use Rattle.judgment.specs.Board.{Entry, tvar, var, sub, inf, chk, infApp, Board, Limits, State, state}
+use Rattle.judgment.specs.Levels.{Levels, ownLevels}
 use Rattle.judgment.specs.Rules.{Env}
 use Rattle.judgment.specs.Run.{End, ceiling, Run, run, steps, end, runFrom, checkType}
 use Rattle.judgment.specs.Result.{endNumber, envOf, runOf, resultOf, judge}
@@ -58,18 +59,18 @@ module _ (plain : Bool) where
       }
 
 -- of any state that has the invariant
-pub start-promise : (plain : Bool) (L : Limits) (E : Env) → EnvOK (plain ≡ true) E → (c : ℕ) (Γ : Board) (σ : Solutions) (n : ℕ) → Inv (plain ≡ true) Γ σ n → Promise (state Γ σ n) plain (runFrom L E c (state Γ σ n))
-start-promise plain L E hE c Γ σ n i =
-    claim plain Γ σ n (runFrom L E c (state Γ σ n)) (run-facts (plain ≡ true) L E hE c Γ σ n i) (run-adds L E c Γ σ n)
-    (run-unmet L E (plain ≡ true) hE c Γ σ n i)
+pub start-promise : (plain : Bool) (L : Levels → Limits) (E : Env) → EnvOK (plain ≡ true) E → (c : ℕ) (v : Levels) (Γ : Board) (σ : Solutions) (n : ℕ) → Inv (plain ≡ true) Γ σ n → Promise (state Γ σ n) plain (runFrom L E c v (state Γ σ n))
+start-promise plain L E hE c v Γ σ n i =
+    claim plain Γ σ n (runFrom L E c v (state Γ σ n)) (run-facts (plain ≡ true) L E hE c v Γ σ n i) (run-adds L E c v Γ σ n)
+    (run-unmet L E (plain ≡ true) hE c v Γ σ n i)
 
 -- ---- a plan
-pub plan-promise : (L : Limits) (c : ℕ) (p : PlanOf) → GoodPlan (p .plain ≡ true) p → Promise (state (chk (p .term) (p .expected) ∷ []) [] 0) (p .plain) (runOf L c p)
+pub plan-promise : (L : Levels → Limits) (c : ℕ) (p : PlanOf) → GoodPlan (p .plain ≡ true) p → Promise (state (chk (p .term) (p .expected) ∷ []) [] 0) (p .plain) (runOf L c p)
 unfolding runOf checkType
-plan-promise L c p g = start-promise (p .plain) L (envOf p) (plan-env p g) c (chk (p .term) (p .expected) ∷ []) [] 0 (plan-inv p g)
+plan-promise L c p g = start-promise (p .plain) L (envOf p) (plan-env p g) c ownLevels (chk (p .term) (p .expected) ∷ []) [] 0 (plan-inv p g)
 
--- THE PROMISE: for every sheet that passes refusals 3 to 5, under any limits and every ceiling
-pub promise : (L : Limits) (s : List ℕ) (c : ℕ) → check s ≡ Plan
+-- THE PROMISE: for every sheet that passes refusals 3 to 5, under any limits, which may hang on the levels, and every ceiling: so by both calls
+pub promise : (L : Levels → Limits) (s : List ℕ) (c : ℕ) → check s ≡ Plan
     → (let p = planOf (triples s) in Promise (state (chk (p .term) (p .expected) ∷ []) [] 0) (p .plain) (runOf L c p))
 promise L s c e =
     let p = planOf (triples s) in
@@ -79,14 +80,14 @@ promise L s c e =
 not-21 : (e : End) → endNumber e ≢ 21 → e ≢ ceiling
 not-21 e h q = h (ap endNumber q)
 
-number-of : (b : Bool) (R : Run) → resultOf b R .answer .number ≡ endNumber (end R)
+pub number-of : (b : Bool) (v : Levels) (R : Run) → resultOf b v R .answer .number ≡ endNumber (end R)
 unfolding resultOf
-number-of b (run ss d (state Γ σ n)) = refl
+number-of b v (run ss d (state Γ σ n)) = refl
 
 -- raising the ceiling changes no result but 21
-pub raise : (L : Limits) (c d : ℕ) (ls : List Triple) → c ≤ d → judge L c ls .answer .number ≢ 21 → judge L d ls ≡ judge L c ls
+pub raise : (L : Levels → Limits) (c d : ℕ) (ls : List Triple) → c ≤ d → judge L c ls .answer .number ≢ 21 → judge L d ls ≡ judge L c ls
 unfolding judge runOf checkType
 raise L c d ls l h =
     let p = planOf ls in
     let s : State = state (chk (p .term) (p .expected) ∷ []) [] 0 in
-    ap (resultOf (p .plain)) (raise-ceiling L (envOf p) c d s l (not-21 _ (λ q. h (number-of (p .plain) (runFrom L (envOf p) c s) ∙ q))))
+    ap (resultOf (p .plain) ownLevels) (raise-ceiling L (envOf p) c d ownLevels s l (not-21 _ (λ q. h (number-of (p .plain) ownLevels (runFrom L (envOf p) c ownLevels s) ∙ q))))

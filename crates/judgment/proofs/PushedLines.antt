@@ -31,7 +31,7 @@ module _ (P : Node → Type 0) where
   abbrev pub Pushes : Rule → Type 0
   Pushes done = Unit {0}
   Pushes (refuse r ts) = Unit {0}
-  Pushes (fresh f) = (n : ℕ) → Pushes (f n)
+  Pushes (fresh g f) = (n : ℕ) → Pushes (f n)
   Pushes (push e p) = EntryHas e × Pushes p
   Pushes (solve k s p) = Pushes p
   Pushes (zonk t f) = (u : Ty) → Pushes (f u)
@@ -45,11 +45,11 @@ module _ (P : Node → Type 0) where
   unfolding perform
   perform-has L done Γ σ n h g = h
   perform-has L (refuse r ts) Γ σ n h g = h
-  perform-has L (fresh f) Γ σ n h g = cond-ind OutcomeHas (below n (L .numbers)) (λ _. perform-has L (f n) Γ σ (suc n) h (g n)) (λ _. h)
+  perform-has L (fresh o f) Γ σ n h g = cond-ind OutcomeHas (below n (L .numbers)) (λ _. perform-has L (f n) Γ σ (suc n) h (g n)) (λ _. h)
   perform-has L (push e p) Γ σ n h g = cond-ind OutcomeHas (roomFor L e Γ) (λ _. perform-has L p (e ∷ Γ) σ n (g .0, h) (g .1)) (λ _. h)
   perform-has L (solve k s p) Γ σ n h g =
       solving-ind OutcomeHas (find k σ) s
-      (cond-ind OutcomeHas (within (solutionNodes σ + length s) (L .solved)) (λ _. perform-has L p Γ (σ ++ (_≔_ k s ∷ [])) n h g) (λ _. h))
+      (cond-ind OutcomeHas (L .scope k s) (λ _. cond-ind OutcomeHas (within (solutionNodes σ + length s) (L .solved)) (λ _. perform-has L p Γ (σ ++ (_≔_ k s ∷ [])) n h g) (λ _. h)) (λ _. h))
       (perform-has L p Γ σ n h g)
       h
   perform-has L (zonk t f) Γ σ n h g =

@@ -15,7 +15,8 @@ use Rattle.judgment.specs.declared.TypeError.the-variants.{ArityMismatch
 use Rattle.judgment.specs.Types.{unknown, View, isArrow, isApp, isForall, isUnknown, isOther, view}
 use Rattle.judgment.specs.Terms.{Term, part, afterParts, Lambda, lambdaOf, TermView, isVar, isLitInt, isLambda, isApply, isTypeLambda, isConstructor, isCase, isBinOp, isIf, isIntrinsic, isNone, viewBy, termView, PatternView, isWildcard, isPatternVar, isPatternConstructor, patternView}
 use Rattle.judgment.specs.Solutions.{Solutions}
-use Rattle.judgment.specs.Board.{Entry, tvar, var, sub, inf, chk, infApp, Board, findVar, Limits, Rule, refuse, fresh, push, zonk, look, Operation, State, state, Outcome, finished, refused, perform, operations}
+use Rattle.judgment.specs.Board.{Entry, tvar, var, sub, inf, chk, infApp, Board, findVar, Limits, own, Rule, refuse, fresh, push, zonk, look, Operation, State, state, Outcome, finished, refused, perform, operations}
+use Rattle.judgment.specs.Levels.{Levels, ownLevels, levelsAfter}
 use Rattle.judgment.specs.Rules.{Env, extractSignature, insert, pushVars, patternParts, patternConstructor, patternBy, checkPatterns, checkArms, variable, constructor, inferBy, checkArrow, checkBy, applyBy, inferApp, rule}
 use Rattle.judgment.specs.Run.{Run, step, addStep, onward, runFrom, checkType}
 use Rattle.judgment.specs.Result.{envOf, runOf}
@@ -136,7 +137,7 @@ module _ (E F : Env) where
   inferBy-same t (isTypeLambda x e) k h = refl
   inferBy-same t (isConstructor x) k h = constructor-same x t (lookup x (E .constructors)) ∙ ap (constructor F x t) (k .constructors)
   inferBy-same t (isCase n e arms) k h =
-      ap fresh (fun-ext (λ a. ap (λ (r : Rule). push (tvar (node 17 a)) (push (chk e (unknown a)) r)) (checkArms-same n arms (unknown a) t (h .1))))
+      ap (fresh own) (fun-ext (λ a. ap (λ (r : Rule). push (tvar (node 17 a)) (push (chk e (unknown a)) r)) (checkArms-same n arms (unknown a) t (h .1))))
   inferBy-same t (isBinOp op e₁ e₂) k h = refl
   inferBy-same t (isIf e₁ e₂ e₃) k h = refl
   inferBy-same t (isIntrinsic x n e) k h = refl
@@ -170,22 +171,23 @@ module _ (E F : Env) where
   rule-same (infApp f e c) h = ap (zonk f) (fun-ext (λ f′. ap (zonk c) (fun-ext (λ c′. applyBy-same f′ e c′ (view f′)))))
 
   -- ---- and so are their runs
-  module _ (L : Limits) where
+  module _ (L : Levels → Limits) where
     onward-same : (s : State) (e : Entry) (os : List Operation) (o : Outcome) (f g : State → Run) → OutcomeHas Known o
         → ((Γ : Board) (σ : Solutions) (n : ℕ) → All (EntryHas Known) Γ → f (state Γ σ n) ≡ g (state Γ σ n)) → onward L E s e os o f ≡ onward L F s e os o g
     onward-same s e os (finished (state Γ σ n)) f g h k = ap (addStep (step s e os (finished (state Γ σ n)))) (k Γ σ n h)
     onward-same s e os (refused r ts (state Γ σ n)) f g h k = refl
 
-    pub run-same : (c : ℕ) (Γ : Board) (σ : Solutions) (n : ℕ) → All (EntryHas Known) Γ → runFrom L E c (state Γ σ n) ≡ runFrom L F c (state Γ σ n)
+    pub run-same : (c : ℕ) (v : Levels) (Γ : Board) (σ : Solutions) (n : ℕ) → All (EntryHas Known) Γ → runFrom L E c v (state Γ σ n) ≡ runFrom L F c v (state Γ σ n)
     unfolding runFrom
-    run-same zero [] σ n h = refl
-    run-same zero (e ∷ Γ) σ n h = refl
-    run-same (suc c) [] σ n h = refl
-    run-same (suc c) (e ∷ Γ) σ n h =
+    run-same zero v [] σ n h = refl
+    run-same zero v (e ∷ Γ) σ n h = refl
+    run-same (suc c) v [] σ n h = refl
+    run-same (suc c) v (e ∷ Γ) σ n h =
         let s : State = state (e ∷ Γ) σ n in
-        onward-same s e (operations L (rule E e) Γ σ n) (perform L (rule E e) Γ σ n) (λ s′. runFrom L E c s′) (λ s′. runFrom L F c s′)
-        (perform-has Known L (rule E e) Γ σ n (h .1) (rule-has Known E e (h .0))) (λ Δ τ m g. run-same c Δ τ m g)
-        ∙ ap (λ p. onward L F s e (operations L p Γ σ n) (perform L p Γ σ n) (λ s′. runFrom L F c s′)) (rule-same e (h .0))
+        let os : List Operation = operations (L v) (rule E e) Γ σ n in
+        onward-same s e os (perform (L v) (rule E e) Γ σ n) (λ s′. runFrom L E c (levelsAfter os v) s′) (λ s′. runFrom L F c (levelsAfter os v) s′)
+        (perform-has Known (L v) (rule E e) Γ σ n (h .1) (rule-has Known E e (h .0))) (λ Δ τ m g. run-same c (levelsAfter os v) Δ τ m g)
+        ∙ ap (λ p. onward L F s e (operations (L v) p Γ σ n) (perform (L v) p Γ σ n) (λ s′. runFrom L F c (levelsAfter (operations (L v) p Γ σ n) v) s′)) (rule-same e (h .0))
 
   -- ---- the names of the term
   names-here : (l : Triple) (ls : List Triple) → isUse (l .kind) ≡ true → names (l .value) (l ∷ ls) ≡ true
@@ -204,9 +206,9 @@ module _ (E F : Env) where
       of k n s e = subst Agree (sym (value-of l k e s)) (h (l .value) (names-here l ls (ap isUse e ∙ n)))
 
 -- ENTRIES THAT AGREE on the names in the term run alike
-pub agree-run : (L : Limits) (E F : Env) (c : ℕ) (e : Term) (t : Ty) → ((x : ℕ) → names x (e .lines) ≡ true → Agree E F x) → checkType L E c e t ≡ checkType L F c e t
+pub agree-run : (L : Levels → Limits) (E F : Env) (c : ℕ) (e : Term) (t : Ty) → ((x : ℕ) → names x (e .lines) ≡ true → Agree E F x) → checkType L E c e t ≡ checkType L F c e t
 unfolding checkType
-agree-run L E F c e t h = run-same E F L c (chk e t ∷ []) [] 0 (all-known E F (e .lines) h, tt)
+agree-run L E F c e t h = run-same E F L c ownLevels (chk e t ∷ []) [] 0 (all-known E F (e .lines) h, tt)
 
 -- ---- bindings left out
 lookup-kept : (ls : List Triple) (x : ℕ) → names x ls ≡ true → (bs : Bindings) → lookup x bs ≡ lookup x (namedBy ls bs)
@@ -224,7 +226,7 @@ lookup-kept ls x e (_∶_ y t ∷ bs) = kept (lookup-kept ls x e bs) (names y ls
     kept h false q = left-out q (eqb y x) refl ∙ h
 
 -- RESTRICT: the run of a plan is that of the plan with those entries alone that its term names, under any limits and every ceiling
-pub restrict : (L : Limits) (c : ℕ) (p : Plan) → runOf L c p ≡ runOf L c (restricted p)
+pub restrict : (L : Levels → Limits) (c : ℕ) (p : Plan) → runOf L c p ≡ runOf L c (restricted p)
 unfolding runOf
 restrict L c p =
     let ls = p .term .lines in

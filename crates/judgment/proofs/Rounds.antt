@@ -9,7 +9,7 @@ use lib.ListN.{length, length-append}
 use Rattle.nodes.specs.Nodes.{Node, node, Ty, kind, nodeParts}
 use Rattle.nodes.specs.Parts.{dropParts}
 use Rattle.judgment.specs.Types.{arrow, forall, isNode, eqNode, rest, View, isArrow, isApp, isForall, isUnknown, isOther, view, substituteFrom, substitute, canUnifyFrom}
-use Rattle.judgment.specs.Board.{tvar, Rule, fresh, push}
+use Rattle.judgment.specs.Board.{tvar, own, universal, Rule, fresh, push}
 use Rattle.judgment.specs.Rules.{Side, left, right, openBody, instantiateBy, instantiateFrom, signatureBy, signatureFrom}
 use Rattle.judgment.proofs.TypeLaws.{Shows, view-shows}
 
@@ -21,9 +21,9 @@ substitute-length x r (n ∷ t) (suc skip) = ap suc (substitute-length x r t (no
 
 openBody-same : (d : Side) (x : ℕ) (b : Ty) (f g : Ty → Rule) → ((t : Ty) → length t ≡ length b → f t ≡ g t) → openBody d x b f ≡ openBody d x b g
 unfolding substitute
-openBody-same left x b f g h = ap fresh (fun-ext (λ u. ap (push (tvar (node 18 u))) (h (substitute x (node 18 u) b) (substitute-length x (node 18 u) b 0))))
+openBody-same left x b f g h = ap (fresh universal) (fun-ext (λ u. ap (push (tvar (node 18 u))) (h (substitute x (node 18 u) b) (substitute-length x (node 18 u) b 0))))
 openBody-same right x b f g h =
-    ap fresh (fun-ext (λ u. ap (λ p. push (tvar (node 17 u)) (push (tvar (node 17 u)) p)) (h (substitute x (node 17 u) b) (substitute-length x (node 17 u) b 0))))
+    ap (fresh own) (fun-ext (λ u. ap (λ p. push (tvar (node 17 u)) (push (tvar (node 17 u)) p)) (h (substitute x (node 17 u) b) (substitute-length x (node 17 u) b 0))))
 
 instantiateBy-same : (d : Side) (k : ℕ) (t : Ty) (f g : Ty → Rule) (v : View) → Shows v t → ((s : Ty) → suc (length s) ≡ length t → f s ≡ g s)
     → instantiateBy d k t f v ≡ instantiateBy d k t g v

@@ -166,9 +166,9 @@ module _ (Plain : Type 0) where
         → ((t′ : Ty) (Γ′ : Board) (n′ : ℕ) → Ready σ n′ k t′ → Good Plain (again t′) Γ′ σ n′ Q)
         → Good Plain (openBody d x b again) Γ σ n Q
     openBody-good left x b again Γ n r f =
-        (tt, f _ _ _ (ready-body x b n (node 18 n) r (omega arith) (other-free (k ∷ solvedUnknowns σ) 18 n (omega arith))))
+        (tt, (tt, f _ _ _ (ready-body x b n (node 18 n) r (omega arith) (other-free (k ∷ solvedUnknowns σ) 18 n (omega arith)))))
     openBody-good right x b again Γ n r f =
-        (tt, (tt, f _ _ _ (ready-body x b n (node 17 n) r (unknown-ok (suc n) n (omega arith)) (free-new (k ∷ solvedUnknowns σ) n n (omega arith) (r .made, r .below)))))
+        (tt, (tt, (tt, f _ _ _ (ready-body x b n (node 17 n) r (unknown-ok (suc n) n (omega arith)) (free-new (k ∷ solvedUnknowns σ) n n (omega arith) (r .made, r .below))))))
 
     instantiateBy-good : (d : Side) (t : Ty) (again : Ty → Rule) (v : View) → Shows v t → (Γ : Board) (n : ℕ) → Ready σ n k t
         → ((Γ′ : Board) (σ′ : Solutions) (n′ : ℕ) → Joins (unknown k) t Γ′ σ′ n′ → Q Γ′ σ′ n′)
@@ -193,18 +193,24 @@ module _ (Plain : Type 0) where
         u = subst (All (Free (k ∷ solvedUnknowns σ))) e (r .free) .0
     instantiateBy-good d t again (isArrow t₁ t₂) e Γ n r c f =
         let h = pair-ok 13 t₁ t₂ t n (r .ok) e in (
-          pair-solve 13 n t r (omega arith) (omega arith) (omega arith),
+          r .made,
           (
-            tt,
+            omega (arith, r .made),
             (
-              tt,
+              pair-solve 13 n t r (omega arith) (omega arith) (omega arith),
               (
-                entry-off d (suc (suc n)) (unknown n) t₁ (unknown-ok (suc (suc n)) n (omega arith), tt) (h .0),
+                tt,
                 (
-                  entry-on d (suc (suc n)) (unknown (suc n)) t₂ (unknown-ok (suc (suc n)) (suc n) (omega arith), tt) (h .1),
-                  c _ _ _ (λ _ τ f g.
-                      pair-joins 13 n t r (omega arith) (omega arith) (omega arith) τ f t₁ t₂ e
-                      (equal-off (after 13 n ++ τ) d (unknown n) t₁ (g .1 .0)) (equal-on (after 13 n ++ τ) d (unknown (suc n)) t₂ (g .0))),
+                  tt,
+                  (
+                    entry-off d (suc (suc n)) (unknown n) t₁ (unknown-ok (suc (suc n)) n (omega arith), tt) (h .0),
+                    (
+                      entry-on d (suc (suc n)) (unknown (suc n)) t₂ (unknown-ok (suc (suc n)) (suc n) (omega arith), tt) (h .1),
+                      c _ _ _ (λ _ τ f g.
+                          pair-joins 13 n t r (omega arith) (omega arith) (omega arith) τ f t₁ t₂ e
+                          (equal-off (after 13 n ++ τ) d (unknown n) t₁ (g .1 .0)) (equal-on (after 13 n ++ τ) d (unknown (suc n)) t₂ (g .0))),
+                    ),
+                  ),
                 ),
               ),
             ),
@@ -212,18 +218,24 @@ module _ (Plain : Type 0) where
         )
     instantiateBy-good d t again (isApp t₁ t₂) e Γ n r c f =
         let h = pair-ok 15 t₁ t₂ t n (r .ok) e in (
-          pair-solve 15 n t r (omega arith) (omega arith) (omega arith),
+          r .made,
           (
-            tt,
+            omega (arith, r .made),
             (
-              tt,
+              pair-solve 15 n t r (omega arith) (omega arith) (omega arith),
               (
-                entry-on d (suc (suc n)) (unknown n) t₁ (unknown-ok (suc (suc n)) n (omega arith), tt) (h .0),
+                tt,
                 (
-                  entry-on d (suc (suc n)) (unknown (suc n)) t₂ (unknown-ok (suc (suc n)) (suc n) (omega arith), tt) (h .1),
-                  c _ _ _ (λ _ τ f g.
-                      pair-joins 15 n t r (omega arith) (omega arith) (omega arith) τ f t₁ t₂ e
-                      (equal-on (after 15 n ++ τ) d (unknown n) t₁ (g .1 .0)) (equal-on (after 15 n ++ τ) d (unknown (suc n)) t₂ (g .0))),
+                  tt,
+                  (
+                    entry-on d (suc (suc n)) (unknown n) t₁ (unknown-ok (suc (suc n)) n (omega arith), tt) (h .0),
+                    (
+                      entry-on d (suc (suc n)) (unknown (suc n)) t₂ (unknown-ok (suc (suc n)) (suc n) (omega arith), tt) (h .1),
+                      c _ _ _ (λ _ τ f g.
+                          pair-joins 15 n t r (omega arith) (omega arith) (omega arith) τ f t₁ t₂ e
+                          (equal-on (after 15 n ++ τ) d (unknown n) t₁ (g .1 .0)) (equal-on (after 15 n ++ τ) d (unknown (suc n)) t₂ (g .0))),
+                    ),
+                  ),
                 ),
               ),
             ),
@@ -278,11 +290,14 @@ module _ (Plain : Type 0) where
     forallRight-good x b e = (
       tt,
       (
+        tt,
         (
-          all-later Plain (omega arith) l (S .ok-l),
-          all-substitute (OK Plain (suc n)) x (node 18 n) b (omega arith) (all-later Plain (omega arith) b (subst (All (OK Plain n)) e (S .ok-r) .1)),
+          (
+            all-later Plain (omega arith) l (S .ok-l),
+            all-substitute (OK Plain (suc n)) x (node 18 n) b (omega arith) (all-later Plain (omega arith) b (subst (All (OK Plain n)) e (S .ok-r) .1)),
+          ),
+          λ p. absurd (no-forall n r x b e (S .ok-r) p),
         ),
-        λ p. absurd (no-forall n r x b e (S .ok-r) p),
       ),
     )
 
@@ -292,11 +307,14 @@ module _ (Plain : Type 0) where
       (
         tt,
         (
+          tt,
           (
-            all-substitute (OK Plain (suc n)) x (node 17 n) a (unknown-ok (suc n) n (omega arith)) (all-later Plain (omega arith) a (subst (All (OK Plain n)) e (S .ok-l) .1)),
-            all-later Plain (omega arith) r (S .ok-r),
+            (
+              all-substitute (OK Plain (suc n)) x (node 17 n) a (unknown-ok (suc n) n (omega arith)) (all-later Plain (omega arith) a (subst (All (OK Plain n)) e (S .ok-l) .1)),
+              all-later Plain (omega arith) r (S .ok-r),
+            ),
+            λ p. absurd (no-forall n l x a e (S .ok-l) p),
           ),
-          λ p. absurd (no-forall n l x a e (S .ok-l) p),
         ),
       ),
     )
@@ -420,8 +438,11 @@ module _ (Plain : Type 0) where
     openNames-good [] m f Γ n h c = c m Γ n (omega arith) h
     openNames-good (x ∷ xs) m f Γ n h c = (
       tt,
-      openNames-good xs ((x, n) ∷ m) f _ (suc n) (omega arith, all-map (λ q l. omega (arith, l)) m h)
-          (λ m′ Γ′ n′ l. c m′ Γ′ n′ (omega arith)),
+      (
+        tt,
+        openNames-good xs ((x, n) ∷ m) f _ (suc n) (omega arith, all-map (λ q l. omega (arith, l)) m h)
+            (λ m′ Γ′ n′ l. c m′ Γ′ n′ (omega arith)),
+      ),
     )
 
     instantiateConstructor-good : (t : Ty) (f : Ty → Rule) (Γ : Board) (n : ℕ) → All (OK Plain n) t
@@ -545,7 +566,7 @@ module _ (Plain : Type 0) where
 
     synthesize-good : (e : Term) (t : Ty) → Lines (OK Plain n) e → All (OK Plain n) t → Keeps (synthesize E e t) Γ σ n
     synthesize-good e t he ht =
-        (tt, ((new, all-later Plain (omega arith) t ht), ((lines-later Plain (omega arith) e he, new), tt)))
+        (tt, (tt, ((new, all-later Plain (omega arith) t ht), ((lines-later Plain (omega arith) e he, new), tt))))
 
     found : (x : ℕ) (bs : Bindings) → All (BindingOK 0) bs → Found n (lookup x bs)
     found x bs h = lookup-ok n x bs (all-map (binding-later (omega arith)) bs h)
@@ -559,31 +580,43 @@ module _ (Plain : Type 0) where
         let hs = all-later Plain {m = n} {n = suc n} (omega arith) s (h .0) in (
           tt,
           (
-            ((omega arith, all-append (OK Plain (suc n)) s (unknown n) hs new), all-later Plain (omega arith) t ht),
-            (hs, ((lines-later Plain (omega arith) e (h .1), new), tt)),
+            tt,
+            (
+              ((omega arith, all-append (OK Plain (suc n)) s (unknown n) hs new), all-later Plain (omega arith) t ht),
+              (hs, ((lines-later Plain (omega arith) e (h .1), new), tt)),
+            ),
           ),
         )
     inferBy-good t (isApply f e) h ht = (
       tt,
       (
-        (new, lines-later Plain (omega arith) e (h .1), all-later Plain (omega arith) t ht),
-        ((lines-later Plain (omega arith) f (h .0), new), tt),
+        tt,
+        (
+          (new, lines-later Plain (omega arith) e (h .1), all-later Plain (omega arith) t ht),
+          ((lines-later Plain (omega arith) f (h .0), new), tt),
+        ),
       ),
     )
     inferBy-good t (isTypeLambda x e) h ht = (
       tt,
       (
-        (((omega arith, λ p. absurd (h .0 .1 p .1 refl)), new), all-later Plain (omega arith) t ht),
-        (tt, ((lines-later Plain (omega arith) e (h .1), new), tt)),
+        tt,
+        (
+          (((omega arith, λ p. absurd (h .0 .1 p .1 refl)), new), all-later Plain (omega arith) t ht),
+          (tt, ((lines-later Plain (omega arith) e (h .1), new), tt)),
+        ),
       ),
     )
     inferBy-good t (isConstructor x) h ht = constructor-good x t (lookup x (E .constructors)) ht (found x (E .constructors) (hE .constructors))
     inferBy-good t (isCase a e arms) h ht = (
       tt,
       (
-        (lines-later Plain (omega arith) e (h .0), new),
-        checkArms-good σ (λ Γ′ σ′ n′. Unit {0}) E (hE .constructors) a arms (unknown n) t _ (suc n)
-            (lines-later Plain (omega arith) arms (h .1)) new (all-later Plain (omega arith) t ht) (λ Γ′ n′. tt),
+        tt,
+        (
+          (lines-later Plain (omega arith) e (h .0), new),
+          checkArms-good σ (λ Γ′ σ′ n′. Unit {0}) E (hE .constructors) a arms (unknown n) t _ (suc n)
+              (lines-later Plain (omega arith) arms (h .1)) new (all-later Plain (omega arith) t ht) (λ Γ′ n′. tt),
+        ),
       ),
     )
     inferBy-good t (isBinOp op e₁ e₂) h ht =
@@ -607,11 +640,14 @@ module _ (Plain : Type 0) where
     checkBy-good e t (isForall x b) s he ht = (
       tt,
       (
-        (
-          lines-later Plain (omega arith) e he,
-          all-substitute (OK Plain (suc n)) x (node 18 n) b (omega arith) (all-later Plain (omega arith) b (subst (All (OK Plain n)) s ht .1)),
-        ),
         tt,
+        (
+          (
+            lines-later Plain (omega arith) e he,
+            all-substitute (OK Plain (suc n)) x (node 18 n) b (omega arith) (all-later Plain (omega arith) b (subst (All (OK Plain n)) s ht .1)),
+          ),
+          tt,
+        ),
       ),
     )
     checkBy-good e t (isApp a b) s he ht = synthesize-good e t he ht
@@ -626,33 +662,43 @@ module _ (Plain : Type 0) where
     applyBy-good f e c (isForall x b) s hf free he hc = (
       tt,
       (
-        (
-          all-substitute (OK Plain (suc n)) x (node 17 n) b (new .0) (all-later Plain (omega arith) b (subst (All (OK Plain n)) s hf .1)),
-          lines-later Plain (omega arith) e he,
-          all-later Plain (omega arith) c hc,
-        ),
-        tt,
-      ),
-    )
-    applyBy-good f e c (isUnknown k) s hf free he hc = (
-      tt,
-      (
         tt,
         (
-          solve-pair 13 (omega arith) (omega arith) (omega arith) {t = []} (record {
-            below = solved-below Plain σ n (i .solutions);
-            unsolved = subst (All (Free (solvedUnknowns σ))) s free .0;
-            made = subst (All (OK Plain n)) s hf .0 .0 refl;
-            ok = tt;
-            free = tt;
-          }),
           (
-            ((unknown-ok (suc (suc n)) (suc n) (omega arith), tt), all-later Plain (omega arith) c hc),
-            ((lines-later Plain (omega arith) e he, (unknown-ok (suc (suc n)) n (omega arith), tt)), tt),
+            all-substitute (OK Plain (suc n)) x (node 17 n) b (new .0) (all-later Plain (omega arith) b (subst (All (OK Plain n)) s hf .1)),
+            lines-later Plain (omega arith) e he,
+            all-later Plain (omega arith) c hc,
           ),
+          tt,
         ),
       ),
     )
+    applyBy-good f e c (isUnknown k) s hf free he hc =
+        let m : k < n = subst (All (OK Plain n)) s hf .0 .0 refl in (
+          m,
+          (
+            omega (arith, m),
+            (
+              tt,
+              (
+                tt,
+                (
+                  solve-pair 13 (omega arith) (omega arith) (omega arith) {t = []} (record {
+                    below = solved-below Plain σ n (i .solutions);
+                    unsolved = subst (All (Free (solvedUnknowns σ))) s free .0;
+                    made = m;
+                    ok = tt;
+                    free = tt;
+                  }),
+                  (
+                    ((unknown-ok (suc (suc n)) (suc n) (omega arith), tt), all-later Plain (omega arith) c hc),
+                    ((lines-later Plain (omega arith) e he, (unknown-ok (suc (suc n)) n (omega arith), tt)), tt),
+                  ),
+                ),
+              ),
+            ),
+          ),
+        )
     applyBy-good f e c (isApp a b) s hf free he hc = tt
     applyBy-good f e c isOther s hf free he hc = tt
 

@@ -13,6 +13,7 @@ use Rattle.judgment.proofs.SolutionLaws.{written-again}
 use Rattle.judgment.specs.Promise.{taken}
 use Rattle.judgment.specs.Board.{Entry, tvar, var, sub, inf, chk, infApp, Board, Limits, Operation, State, state, Outcome, finished, refused, perform, operations}
 use Rattle.sheet.specs.Plan.{_∶_}
+use Rattle.judgment.specs.Levels.{Levels, levelsAfter}
 use Rattle.judgment.specs.Rules.{Env, rule}
 use Rattle.judgment.specs.Run.{Step, step, End, accepted, ceiling, refusedBy, Run, run, steps, end, final, addStep, onto, onward, runFrom}
 use Rattle.judgment.specs.Good.{Fine, Inv}
@@ -73,7 +74,7 @@ module _ (Plain : Type 0) where
           ((x, all-split (Equal σ′) Δ Γ (subst (All (Equal σ′)) p (g .0)) .1), (x, g .1));
     }
 
-    onward-facts : (L : Limits) (E : Env) (o : Outcome) (again : State → Run) → Kept Plain (Explains Plain σ e) o → Grown Γ σ o
+    onward-facts : (L : Levels → Limits) (E : Env) (o : Outcome) (again : State → Run) → Kept Plain (Explains Plain σ e) o → Grown Γ σ o
         → ((Γ₁ : Board) (σ₁ : Solutions) (n₁ : ℕ) → Inv Plain Γ₁ σ₁ n₁ → FactsOf Γ₁ σ₁ (again (state Γ₁ σ₁ n₁)))
         → FactsOf (e ∷ Γ) σ (onward L E (state (e ∷ Γ) σ n) e os o again)
     onward-facts L E (finished (state Γ₁ σ₁ n₁)) again k g f =
@@ -82,7 +83,7 @@ module _ (Plain : Type 0) where
         record { inv = k .0; grown = g .1; empties = k .1; equal = λ pl a. absurd a }
 
   -- the steps of a run that came to its ceiling, before a run from where it stopped
-  onto-facts : (Γ : Board) (σ : Solutions) (n : ℕ) (e : Entry) (L : Limits) (E : Env) → Fine σ → (o : Outcome) (again : State → Run) → Kept Plain (Explains Plain σ e) o → Grown Γ σ o
+  onto-facts : (Γ : Board) (σ : Solutions) (n : ℕ) (e : Entry) (L : Levels → Limits) (E : Env) → Fine σ → (o : Outcome) (again : State → Run) → Kept Plain (Explains Plain σ e) o → Grown Γ σ o
       → ((Γ₁ : Board) (σ₁ : Solutions) (n₁ : ℕ) → Inv Plain Γ₁ σ₁ n₁ → end (again (state Γ₁ σ₁ n₁)) ≡ ceiling → (R : Run) → FactsAt (final (again (state Γ₁ σ₁ n₁))) R → FactsOf Γ₁ σ₁ (onto (steps (again (state Γ₁ σ₁ n₁))) R))
       → (os : List Operation) → end (onward L E (state (e ∷ Γ) σ n) e os o again) ≡ ceiling → (R : Run) → FactsAt (final (onward L E (state (e ∷ Γ) σ n) e os o again)) R
       → FactsOf (e ∷ Γ) σ (onto (steps (onward L E (state (e ∷ Γ) σ n) e os o again)) R)
@@ -99,50 +100,50 @@ module _ (Plain : Type 0) where
       NotRefused ceiling = Unit {0}
       NotRefused (refusedBy r ts) = ⊥
 
-module _ (Plain : Type 0) (L : Limits) (E : Env) (hE : EnvOK Plain E) where
-  pub run-facts : (c : ℕ) (Γ : Board) (σ : Solutions) (n : ℕ) → Inv Plain Γ σ n → FactsOf Plain Γ σ (runFrom L E c (state Γ σ n))
+module _ (Plain : Type 0) (L : Levels → Limits) (E : Env) (hE : EnvOK Plain E) where
+  pub run-facts : (c : ℕ) (v : Levels) (Γ : Board) (σ : Solutions) (n : ℕ) → Inv Plain Γ σ n → FactsOf Plain Γ σ (runFrom L E c v (state Γ σ n))
   unfolding runFrom
-  run-facts zero [] σ n i = record { inv = i; grown = ([], sym (append-nil σ)); empties = refl; equal = λ pl a. (tt, tt) }
-  run-facts zero (e ∷ Γ) σ n i = record { inv = i; grown = ([], sym (append-nil σ)); empties = tt; equal = λ pl a. absurd a }
-  run-facts (suc c) [] σ n i = record { inv = i; grown = ([], sym (append-nil σ)); empties = refl; equal = λ pl a. (tt, tt) }
-  run-facts (suc c) (e ∷ Γ) σ n i =
+  run-facts zero v [] σ n i = record { inv = i; grown = ([], sym (append-nil σ)); empties = refl; equal = λ pl a. (tt, tt) }
+  run-facts zero v (e ∷ Γ) σ n i = record { inv = i; grown = ([], sym (append-nil σ)); empties = tt; equal = λ pl a. absurd a }
+  run-facts (suc c) v [] σ n i = record { inv = i; grown = ([], sym (append-nil σ)); empties = refl; equal = λ pl a. (tt, tt) }
+  run-facts (suc c) v (e ∷ Γ) σ n i =
       let j : Inv Plain Γ σ n = record { entries = i .entries .1; fine = i .fine; solutions = i .solutions } in
-      onward-facts Plain Γ σ n e (operations L (rule E e) Γ σ n) (i .fine) L E (perform L (rule E e) Γ σ n) (λ s. runFrom L E c s)
-      (perform-kept Plain L (Explains Plain σ e) (rule E e) Γ σ n j (rule-good Plain E hE Γ σ n j e (i .entries .0)))
-      (perform-grows L (rule E e) Γ σ n)
-      (λ Γ₁ σ₁ n₁ i₁. run-facts c Γ₁ σ₁ n₁ i₁)
+      onward-facts Plain Γ σ n e (operations (L v) (rule E e) Γ σ n) (i .fine) L E (perform (L v) (rule E e) Γ σ n) (λ s. runFrom L E c (levelsAfter (operations (L v) (rule E e) Γ σ n) v) s)
+      (perform-kept Plain (L v) (Explains Plain σ e) (rule E e) Γ σ n j (rule-good Plain E hE Γ σ n j e (i .entries .0)))
+      (perform-grows (L v) (rule E e) Γ σ n)
+      (λ Γ₁ σ₁ n₁ i₁. run-facts c (levelsAfter (operations (L v) (rule E e) Γ σ n) v) Γ₁ σ₁ n₁ i₁)
 
-  pub before-facts : (c : ℕ) (Γ : Board) (σ : Solutions) (n : ℕ) → Inv Plain Γ σ n → end (runFrom L E c (state Γ σ n)) ≡ ceiling → (R : Run) → FactsAt Plain (final (runFrom L E c (state Γ σ n))) R
-      → FactsOf Plain Γ σ (onto (steps (runFrom L E c (state Γ σ n))) R)
+  pub before-facts : (c : ℕ) (v : Levels) (Γ : Board) (σ : Solutions) (n : ℕ) → Inv Plain Γ σ n → end (runFrom L E c v (state Γ σ n)) ≡ ceiling → (R : Run) → FactsAt Plain (final (runFrom L E c v (state Γ σ n))) R
+      → FactsOf Plain Γ σ (onto (steps (runFrom L E c v (state Γ σ n))) R)
   unfolding runFrom
-  before-facts zero [] σ n i q R F = F
-  before-facts zero (e ∷ Γ) σ n i q R F = F
-  before-facts (suc c) [] σ n i q R F = F
-  before-facts (suc c) (e ∷ Γ) σ n i q R F =
+  before-facts zero v [] σ n i q R F = F
+  before-facts zero v (e ∷ Γ) σ n i q R F = F
+  before-facts (suc c) v [] σ n i q R F = F
+  before-facts (suc c) v (e ∷ Γ) σ n i q R F =
       let j : Inv Plain Γ σ n = record { entries = i .entries .1; fine = i .fine; solutions = i .solutions } in
-      onto-facts Plain Γ σ n e L E (i .fine) (perform L (rule E e) Γ σ n) (λ s. runFrom L E c s)
-      (perform-kept Plain L (Explains Plain σ e) (rule E e) Γ σ n j (rule-good Plain E hE Γ σ n j e (i .entries .0)))
-      (perform-grows L (rule E e) Γ σ n)
-      (λ Γ₁ σ₁ n₁ i₁. before-facts c Γ₁ σ₁ n₁ i₁) (operations L (rule E e) Γ σ n) q R F
+      onto-facts Plain Γ σ n e L E (i .fine) (perform (L v) (rule E e) Γ σ n) (λ s. runFrom L E c (levelsAfter (operations (L v) (rule E e) Γ σ n) v) s)
+      (perform-kept Plain (L v) (Explains Plain σ e) (rule E e) Γ σ n j (rule-good Plain E hE Γ σ n j e (i .entries .0)))
+      (perform-grows (L v) (rule E e) Γ σ n)
+      (λ Γ₁ σ₁ n₁ i₁. before-facts c (levelsAfter (operations (L v) (rule E e) Γ σ n) v) Γ₁ σ₁ n₁ i₁) (operations (L v) (rule E e) Γ σ n) q R F
 
 ---------------------------------------------------------------- the ceiling
 -- raising the ceiling changes no result but 21
 addStep-end : (t : Step) (R : Run) → end (addStep t R) ≡ end R
 addStep-end t (run ss e s) = refl
 
-onward-same : (L : Limits) (E : Env) (s : State) (e : Entry) (os : List Operation) (o : Outcome) (f g : State → Run)
+onward-same : (L : Levels → Limits) (E : Env) (s : State) (e : Entry) (os : List Operation) (o : Outcome) (f g : State → Run)
     → ((s : State) → end (f s) ≢ ceiling → g s ≡ f s) → end (onward L E s e os o f) ≢ ceiling → onward L E s e os o g ≡ onward L E s e os o f
 onward-same L E s e os (finished s′) f g h n =
     ap (addStep (step s e os (finished s′))) (h s′ (λ x. n (addStep-end (step s e os (finished s′)) (f s′) ∙ x)))
 onward-same L E s e os (refused r ts s′) f g h n = refl
 
-pub raise-ceiling : (L : Limits) (E : Env) (c d : ℕ) (s : State) → c ≤ d → end (runFrom L E c s) ≢ ceiling → runFrom L E d s ≡ runFrom L E c s
+pub raise-ceiling : (L : Levels → Limits) (E : Env) (c d : ℕ) (v : Levels) (s : State) → c ≤ d → end (runFrom L E c v s) ≢ ceiling → runFrom L E d v s ≡ runFrom L E c v s
 unfolding runFrom
-raise-ceiling L E zero zero (state [] σ n) l h = refl
-raise-ceiling L E zero (suc d) (state [] σ n) l h = refl
-raise-ceiling L E zero d (state (e ∷ Γ) σ n) l h = absurd (h refl)
-raise-ceiling L E (suc c) zero s l h = absurd (omega arith)
-raise-ceiling L E (suc c) (suc d) (state [] σ n) l h = refl
-raise-ceiling L E (suc c) (suc d) (state (e ∷ Γ) σ n) l h =
-    onward-same L E (state (e ∷ Γ) σ n) e (operations L (rule E e) Γ σ n) (perform L (rule E e) Γ σ n) (λ s. runFrom L E c s) (λ s. runFrom L E d s)
-    (λ s. raise-ceiling L E c d s (omega arith)) h
+raise-ceiling L E zero zero v (state [] σ n) l h = refl
+raise-ceiling L E zero (suc d) v (state [] σ n) l h = refl
+raise-ceiling L E zero d v (state (e ∷ Γ) σ n) l h = absurd (h refl)
+raise-ceiling L E (suc c) zero v s l h = absurd (omega arith)
+raise-ceiling L E (suc c) (suc d) v (state [] σ n) l h = refl
+raise-ceiling L E (suc c) (suc d) v (state (e ∷ Γ) σ n) l h =
+    onward-same L E (state (e ∷ Γ) σ n) e (operations (L v) (rule E e) Γ σ n) (perform (L v) (rule E e) Γ σ n) (λ s. runFrom L E c (levelsAfter (operations (L v) (rule E e) Γ σ n) v) s) (λ s. runFrom L E d (levelsAfter (operations (L v) (rule E e) Γ σ n) v) s)
+    (λ s. raise-ceiling L E c d (levelsAfter (operations (L v) (rule E e) Γ σ n) v) s (omega arith)) h

@@ -17,9 +17,10 @@ use Rattle.judgment.specs.Types.{view, occurs, isMonotype, substitute, r
 use Rattle.judgment.specs.Terms.{termView, lambdaOf}
 use Rattle.judgment.specs.Solutions.{_≔_, Solutions, find, links, anySolved, writeOutBy, writeOut, solutionNodes}
 use Rattle.judgment.specs.Board.{boardNodes, findVar, before, perform, operations}
+use Rattle.judgment.specs.Levels.{ownLevels}
 use Rattle.judgment.specs.Rules.{instantiateFrom, subtype, openNames, signatureFrom, insert, pushVars, checkPatterns, checkArms, inferApp}
 use Rattle.judgment.specs.Run.{runFrom, checkType}
-use Rattle.judgment.specs.Result.{numbers, resultOf, runOf, judge, limits, padded, placeFrom, pairsFrom, nodeWords, bookWords}
+use Rattle.judgment.specs.Result.{numbers, resultOf, runOf, judge, limits, padded, placeFrom, threesFrom, nodeWords, bookWords}
 
 abbrev pub l : ℕ → ℕ → ℕ → Triple
 l k v c = record { kind = k; negative = false; value = v; count = c }
@@ -70,12 +71,12 @@ pub on-the-wall : map (λ q. row (q .0) (q .1)) asked ≡ answered
 unfolding row judge resultOf runOf checkType runFrom perform operations boardNodes findVar before lookup instantiateFrom subtype openNames signatureFrom insert pushVars checkPatterns checkArms inferApp find links anySolved writeOutBy writeOut solutionNodes view termView lambdaOf occurs isMonotype substitute rename frontNames afterFront canUnify planOf declarations bindingsIn endFrom entriesEnd placesOf partLine isPlain names plainEntries plainPlan partsOf rowOf findRow table
 on-the-wall = refl
 
--- the book of the first plan: unknown 0's solution has one node, at word 2,000, and is Int
+-- the book of the first plan: unknown 0's solution has one node, at word 3,000, and is Int; its level is 0
 abbrev pub firstBook : List ℕ
-firstBook = bookWords (_≔_ 0 (node 12 1 ∷ []) ∷ [])
+firstBook = bookWords (_≔_ 0 (node 12 1 ∷ []) ∷ []) ownLevels 1
 
-pub first-book : take 2 firstBook ++ take 2 (drop 2000 firstBook) ≡ 2000 ∷ 1 ∷ 12 ∷ 1 ∷ []
-unfolding bookWords padded pairsFrom placeFrom nodeWords words
+pub first-book : take 3 firstBook ++ take 2 (drop 3000 firstBook) ≡ 3000 ∷ 1 ∷ 0 ∷ 12 ∷ 1 ∷ []
+unfolding bookWords padded threesFrom placeFrom nodeWords words
 first-book = refl
 
 -- the first plan from its bytes: the sheet that document 01 shows is taken, and has these lines

@@ -22,6 +22,7 @@ use Rattle.judgment.specs.Types.{unknown, eqTy, View, isArrow, isApp, is
 use Rattle.judgment.specs.Terms.{Term, part, afterParts, Lambda, lambdaOf, TermView, isVar, isLitInt, isLambda, isApply, isTypeLambda, isConstructor, isCase, isBinOp, isIf, isIntrinsic, isNone, termView, PatternView, isWildcard, isPatternVar, isPatternConstructor, patternView}
 use Rattle.judgment.specs.Solutions.{_≔_, Solutions, value, find, writeOut, solutionNodes}
 use Rattle.judgment.specs.Board.{below, within, Entry, tvar, var, sub, inf, chk, infApp, Board, varNamed, orElse, findVar, before, Limits, Rule, done, refuse, fresh, push, solve, zonk, look, State, state, Outcome, finished, refused, solving, roomFor, Operation, perform, operations}
+use Rattle.judgment.specs.Levels.{Levels, levelsAfter}
 use Rattle.judgment.specs.Rules.{Env, Side, left, right, onSide, offSide, openBody, solveMonotype, instantiateBy, instantiateFrom, mismatch, forallRight, forallLeft, unknownRight, unknownLeft, subtypeBy, subtype, openNames, instantiateConstructor, signatureBy, signatureFrom, insert, pushVars, patternParts, patternConstructor, patternBy, checkPatterns, checkArms, variable, constructor, inferBy, synthesize, checkArrow, checkBy, applyBy, inferApp, rule}
 use Rattle.judgment.specs.Run.{Step, step, Run, run, addStep, onward, runFrom}
 use Rattle.judgment.specs.Result.{envOf}
@@ -48,7 +49,7 @@ OutcomeWhole (refused r ts s) = StateWhole s
 abbrev pub WholeGood : Rule → Type 0
 WholeGood done = Unit {0}
 WholeGood (refuse r ts) = Unit {0}
-WholeGood (fresh f) = (n : ℕ) → WholeGood (f n)
+WholeGood (fresh o f) = (n : ℕ) → WholeGood (f n)
 WholeGood (push e p) = EntryWhole e × WholeGood p
 WholeGood (solve k s p) = IsTy s × WholeGood p
 WholeGood (zonk t f) = IsTy t × ((u : Ty) → IsTy u → WholeGood (f u))
@@ -63,14 +64,16 @@ pub perform-whole : (L : Limits) (p : Rule) (Γ : Board) (σ : Solutions) (n : �
 unfolding perform
 perform-whole L done Γ σ n hΓ hσ g = (hΓ, hσ)
 perform-whole L (refuse r ts) Γ σ n hΓ hσ g = (hΓ, hσ)
-perform-whole L (fresh f) Γ σ n hΓ hσ g =
+perform-whole L (fresh o f) Γ σ n hΓ hσ g =
     cond-ind OutcomeWhole (below n (L .numbers)) (λ _. perform-whole L (f n) Γ σ (suc n) hΓ hσ (g n)) (λ _. (hΓ, hσ))
 perform-whole L (push e p) Γ σ n hΓ hσ g =
     cond-ind OutcomeWhole (roomFor L e Γ) (λ _. perform-whole L p (e ∷ Γ) σ n (g .0, hΓ) hσ (g .1)) (λ _. (hΓ, hσ))
 perform-whole L (solve k s p) Γ σ n hΓ hσ g =
     solving-ind OutcomeWhole (find k σ) s
-    (cond-ind OutcomeWhole (within (solutionNodes σ + length s) (L .solved))
+    (cond-ind OutcomeWhole (L .scope k s)
+    (λ _. cond-ind OutcomeWhole (within (solutionNodes σ + length s) (L .solved))
     (λ _. perform-whole L p Γ (σ ++ (_≔_ k s ∷ [])) n hΓ (all-append (λ x. IsTy (value x)) σ (_≔_ k s ∷ []) hσ (g .0, tt)) (g .1))
+    (λ _. (hΓ, hσ)))
     (λ _. (hΓ, hσ)))
     (perform-whole L p Γ σ n hΓ hσ (g .1))
     (hΓ, hσ)
@@ -341,20 +344,21 @@ RunWhole (run ss d s) = All StepWhole ss × StateWhole s
 add-whole : (t : Step) (R : Run) → StepWhole t → RunWhole R → RunWhole (addStep t R)
 add-whole t (run ss d s) h g = ((h, g .0), g .1)
 
-module _ (L : Limits) (E : Env) (hE : EnvWhole E) where
+module _ (L : Levels → Limits) (E : Env) (hE : EnvWhole E) where
   onward-whole : (s : State) (e : Entry) (os : List Operation) (o : Outcome) (again : State → Run) → StateWhole s → EntryWhole e → OutcomeWhole o
       → ((s′ : State) → StateWhole s′ → RunWhole (again s′)) → RunWhole (onward L E s e os o again)
   onward-whole s e os (finished s′) again hs he ho c = add-whole (step s e os (finished s′)) (again s′) (hs, he, ho) (c s′ ho)
   onward-whole s e os (refused r ts s′) again hs he ho c = (((hs, he, ho), tt), ho)
 
-  pub run-whole : (c : ℕ) (s : State) → StateWhole s → RunWhole (runFrom L E c s)
+  pub run-whole : (c : ℕ) (v : Levels) (s : State) → StateWhole s → RunWhole (runFrom L E c v s)
   unfolding runFrom
-  run-whole zero (state [] σ n) h = (tt, h)
-  run-whole zero (state (e ∷ Γ) σ n) h = (tt, h)
-  run-whole (suc c) (state [] σ n) h = (tt, h)
-  run-whole (suc c) (state (e ∷ Γ) σ n) h =
-      onward-whole (state (e ∷ Γ) σ n) e (operations L (rule E e) Γ σ n) (perform L (rule E e) Γ σ n) (λ s. runFrom L E c s) h (h .0 .0)
-      (perform-whole L (rule E e) Γ σ n (h .0 .1) (h .1) (rule-whole E hE e (h .0 .0))) (λ s hs. run-whole c s hs)
+  run-whole zero v (state [] σ n) h = (tt, h)
+  run-whole zero v (state (e ∷ Γ) σ n) h = (tt, h)
+  run-whole (suc c) v (state [] σ n) h = (tt, h)
+  run-whole (suc c) v (state (e ∷ Γ) σ n) h =
+      let os = operations (L v) (rule E e) Γ σ n in
+      onward-whole (state (e ∷ Γ) σ n) e os (perform (L v) (rule E e) Γ σ n) (λ s. runFrom L E c (levelsAfter os v) s) h (h .0 .0)
+      (perform-whole (L v) (rule E e) Γ σ n (h .0 .1) (h .1) (rule-whole E hE e (h .0 .0))) (λ s hs. run-whole c (levelsAfter os v) s hs)
 
 ---------------------------------------------------------------- a plan
 bindings-whole : (k : ℕ) (ls : List Triple) (es : List Declaration) → Typed ls es → All BindingWhole (bindingsIn k ls es)

@@ -8,7 +8,7 @@ use lib.Dec.{eqb, leb, ltb}
 use lib.ListN.{length}
 use Rattle.nodes.specs.Nodes.{Node, Ty}
 use Rattle.judgment.specs.declared.TypeError.{TypeError}
-use Rattle.judgment.specs.declared.TypeError.the-variants.{TypeUnificationError, BoardFull, TypeTooLong, NoFreshNumber, SolutionsFull}
+use Rattle.judgment.specs.declared.TypeError.the-variants.{TypeUnificationError, BoardFull, TypeTooLong, NoFreshNumber, SolutionsFull, OutOfScope}
 use Rattle.judgment.specs.Types.{isNode, canUnify}
 use Rattle.judgment.specs.Terms.{Term}
 use Rattle.judgment.specs.Solutions.{_≔_, Solutions, find, writeOut, solutionNodes}
@@ -84,25 +84,31 @@ abbrev pub below : ℕ → Limit → Bool
 below n (upTo m) = ltb n m
 below n unlimited = true
 
--- document 01's limits: entries and type nodes on the board, nodes of one written-out type, fresh numbers, nodes of all solutions
+-- document 01's limits: entries and type nodes on the board, nodes of one written-out type, fresh numbers, nodes of all solutions; and document 02's scope: whether an unknown may have a solution
 pub record Limits : Type 0 where
   pub entries : Limit
   pub nodes : Limit
   pub written : Limit
   pub numbers : Limit
   pub solved : Limit
+  pub scope : ℕ → Ty → Bool
+
+-- What a fresh number is for: an unknown of its own, a universal, or one of the two that an unknown is split into.
+pub data Origin : Type 0 where
+  own universal : Origin
+  splits : ℕ → Origin
 
 -- What a rule does, operation by operation; each hands on what it read or made.
 pub data Rule : Type 0 where
   done : Rule
   refuse : TypeError → Ty → Rule  -- with the types that are reported
-  fresh : (ℕ → Rule) → Rule
+  fresh : Origin → (ℕ → Rule) → Rule
   push : Entry → Rule → Rule
   solve : ℕ → Ty → Rule → Rule
   zonk : Ty → (Ty → Rule) → Rule
   look : (Board → Rule) → Rule
 
--- `do` blocks of rules: `a ← fresh`, then the rest
+-- `do` blocks of rules: `a ← fresh own`, then the rest
 abbrev pub _>>=_ : {A : Type 0} → ((A → Rule) → Rule) → (A → Rule) → Rule
 _>>=_ m f = m f
 
@@ -119,12 +125,12 @@ pub data Outcome : Type 0 where
 
 -- An operation that a rule did: a number made, an entry pushed, a solution given; or a solve that met an unknown solved before.
 pub data Operation : Type 0 where
-  made : ℕ → Operation
+  made : Origin → ℕ → Operation
   pushed : Entry → Operation
   gave : ℕ → Ty → Operation
   met : ℕ → Operation
 
--- `solve_evar`: an unknown with a solution keeps it, if the new one can be unified with it
+-- `solve_evar`: an unknown with a solution keeps it, if the new one can be unified with it. For one without, scope is tested before size.
 abbrev pub solving : {A : Type 0} → Option Ty → Ty → A → A → A → A
 solving none s new same clash = new
 solving (some t) s new same clash = cond (canUnify s t) same clash
@@ -137,13 +143,15 @@ module _ (L : Limits) where
   unfoldable pub perform : Rule → Board → Solutions → ℕ → Outcome
   perform done Γ σ n = finished (state Γ σ n)
   perform (refuse r ts) Γ σ n = refused r ts (state Γ σ n)
-  perform (fresh f) Γ σ n =
+  perform (fresh g f) Γ σ n =
       cond (below n (L .numbers)) (perform (f n) Γ σ (suc n)) (refused NoFreshNumber [] (state Γ σ n))
   perform (push e p) Γ σ n =
       cond (roomFor e Γ) (perform p (e ∷ Γ) σ n) (refused BoardFull [] (state Γ σ n))
   perform (solve k s p) Γ σ n =
       solving (find k σ) s
+      (cond (L .scope k s)
       (cond (within (solutionNodes σ + length s) (L .solved)) (perform p Γ (σ ++ (_≔_ k s ∷ [])) n) (refused SolutionsFull [] (state Γ σ n)))
+      (refused OutOfScope [] (state Γ σ n)))
       (perform p Γ σ n)
       (refused TypeUnificationError [] (state Γ σ n))
   perform (zonk t f) Γ σ n =
@@ -154,11 +162,11 @@ module _ (L : Limits) where
   unfoldable pub operations : Rule → Board → Solutions → ℕ → List Operation
   operations done Γ σ n = []
   operations (refuse r ts) Γ σ n = []
-  operations (fresh f) Γ σ n = cond (below n (L .numbers)) (made n ∷ operations (f n) Γ σ (suc n)) []
+  operations (fresh g f) Γ σ n = cond (below n (L .numbers)) (made g n ∷ operations (f n) Γ σ (suc n)) []
   operations (push e p) Γ σ n = cond (roomFor e Γ) (pushed e ∷ operations p (e ∷ Γ) σ n) []
   operations (solve k s p) Γ σ n =
       solving (find k σ) s
-      (cond (within (solutionNodes σ + length s) (L .solved)) (gave k s ∷ operations p Γ (σ ++ (_≔_ k s ∷ [])) n) [])
+      (cond (L .scope k s) (cond (within (solutionNodes σ + length s) (L .solved)) (gave k s ∷ operations p Γ (σ ++ (_≔_ k s ∷ [])) n) []) [])
       (met k ∷ operations p Γ σ n)
       (met k ∷ [])
   operations (zonk t f) Γ σ n = cond (within (length (writeOut σ t)) (L .written)) (operations (f (writeOut σ t)) Γ σ n) []

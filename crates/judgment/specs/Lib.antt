@@ -2,6 +2,7 @@ pub mod Types
 pub mod Terms
 pub mod Solutions
 pub mod Board
+pub mod Levels
 pub mod Chain
 pub mod Rules
 pub mod Run

@@ -14,34 +14,31 @@ use Rattle.judgment.specs.Solutions.{_≔_, Solutions, value}
 pub use Rattle.judgment.specs.Solutions.{Distinct, solvedUnknowns}
 use Rattle.judgment.specs.Board.{Entry, tvar, var, sub, inf, chk, infApp, Board, Operation, made, pushed, gave, met, State, state}
 use Rattle.judgment.specs.Run.{Step, step, accepted, refusedBy, Run, steps, end, final}
+pub use Rattle.judgment.specs.Run.{events}
 
 -- ---- what the steps took and did
 abbrev pub taken : List Step → List Entry
 taken [] = []
 taken (step s e os o ∷ ss) = e ∷ taken ss
 
-abbrev pub events : List Step → List Operation
-events [] = []
-events (step s e os o ∷ ss) = os ++ events ss
-
 -- the entries pushed, and the solutions given, in order
 abbrev pub pushes : List Operation → List Entry
 pushes [] = []
-pushes (made n ∷ os) = pushes os
+pushes (made g n ∷ os) = pushes os
 pushes (pushed e ∷ os) = e ∷ pushes os
 pushes (gave k s ∷ os) = pushes os
 pushes (met k ∷ os) = pushes os
 
 abbrev pub given : List Operation → Solutions
 given [] = []
-given (made n ∷ os) = given os
+given (made g n ∷ os) = given os
 given (pushed e ∷ os) = given os
 given (gave k s ∷ os) = _≔_ k s ∷ given os
 given (met k ∷ os) = given os
 
 -- no solve that met an unknown solved before
 abbrev pub NotMet : Operation → Type 0
-NotMet (made n) = Unit {0}
+NotMet (made g n) = Unit {0}
 NotMet (pushed e) = Unit {0}
 NotMet (gave k s) = Unit {0}
 NotMet (met k) = ⊥

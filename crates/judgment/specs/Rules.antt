@@ -14,7 +14,7 @@ use Rattle.judgment.specs.declared.TypeError.{TypeError}
 use Rattle.judgment.specs.declared.TypeError.the-variants.{UnboundVariable, UnboundDataConstructor, NotAFunction, ArityMismatch, SubtypingError, InstantiationError, IntrinsicArityMismatch, UnknownIntrinsic}
 use Rattle.judgment.specs.Types.{unknown, con, arrow, app, forall, Int, BoolT, UnitT, eqTy, first, rest, View, isArrow, isApp, isForall, isUnknown, isOther, view, occurs, isMonotype, substitute, Renaming, rename, frontNames, afterFront}
 use Rattle.judgment.specs.Terms.{Term, part, afterParts, Lambda, lambdaOf, TermView, isVar, isLitInt, isLambda, isApply, isTypeLambda, isConstructor, isCase, isBinOp, isIf, isIntrinsic, isNone, termView, PatternView, isWildcard, isPatternVar, isPatternConstructor, patternView}
-use Rattle.judgment.specs.Board.{Entry, tvar, var, sub, inf, chk, infApp, Board, findVar, before, Rule, done, refuse, fresh, push, solve, zonk, look, _>>=_, _>>_}
+use Rattle.judgment.specs.Board.{Entry, tvar, var, sub, inf, chk, infApp, Board, findVar, before, Origin, own, universal, splits, Rule, done, refuse, fresh, push, solve, zonk, look, _>>=_, _>>_}
 
 -- data constructors and context variables
 pub record Env : Type 0 where
@@ -24,7 +24,7 @@ pub record Env : Type 0 where
 -- `fresh_evar` and the TVar of it
 abbrev pub freshUnknown : (ℕ → Rule) → Rule
 freshUnknown f = do
-  a ← fresh
+  a ← fresh own
   push (tvar (node 17 a))
   f a
 
@@ -44,16 +44,17 @@ offSide right u t = sub u t
 -- InstLAllR opens with a fresh universal, InstRAllL with a fresh unknown
 abbrev pub openBody : Side → ℕ → Ty → (Ty → Rule) → Rule
 openBody left x b f = do
-  u ← fresh
+  u ← fresh universal
   push (tvar (node 18 u))
   f (substitute x (node 18 u) b)
 openBody right x b f = do
-  a ← fresh
+  a ← fresh own
   push (tvar (node 17 a))  -- the marker
   push (tvar (node 17 a))
   f (substitute x (node 17 a) b)
 
--- InstLSolve, InstRSolve. DK asks that the solution be well formed to the left of the unknown; the Rust does not.
+-- InstLSolve, InstRSolve. DK asks that the solution be well formed to the left of the unknown; the Rust does not, and the strict call asks it of
+-- the universals in it, by levels.
 abbrev pub solveMonotype : ℕ → Ty → Rule
 solveMonotype k t = cond (isMonotype t) (solve k t done) (refuse (InstantiationError k (length t)) t)
 
@@ -64,8 +65,8 @@ instantiateBy d k t again (isUnknown b) = do
   cond (before k b Γ) (solve b (unknown k) done) (solveMonotype k t)
 -- InstLArr, InstRArr
 instantiateBy d k t again (isArrow t₁ t₂) = do
-  a ← fresh
-  b ← fresh
+  a ← fresh (splits k)
+  b ← fresh (splits k)
   solve k (arrow (unknown a) (unknown b))
   push (tvar (node 17 a))
   push (tvar (node 17 b))
@@ -74,8 +75,8 @@ instantiateBy d k t again (isArrow t₁ t₂) = do
   done
 -- papers silent
 instantiateBy d k t again (isApp t₁ t₂) = do
-  a ← fresh
-  b ← fresh
+  a ← fresh (splits k)
+  b ← fresh (splits k)
   solve k (app (unknown a) (unknown b))
   push (tvar (node 17 a))
   push (tvar (node 17 b))
@@ -101,7 +102,7 @@ module _ (l r : Ty) where
   -- <:∀R
   abbrev pub forallRight : ℕ → Ty → Rule
   forallRight x b = do
-    u ← fresh
+    u ← fresh universal
     push (tvar (node 18 u))
     push (sub l (substitute x (node 18 u) b))
     done
@@ -109,7 +110,7 @@ module _ (l r : Ty) where
   -- <:∀L
   abbrev pub forallLeft : ℕ → Ty → Rule
   forallLeft x a = do
-    u ← fresh
+    u ← fresh own
     push (tvar (node 17 u))  -- the marker
     push (tvar (node 17 u))
     push (sub (substitute x (node 17 u) a) r)
@@ -168,7 +169,7 @@ subtype s t = do
 unfoldable pub openNames : List ℕ → Renaming → (Renaming → Rule) → Rule
 openNames [] m f = f m
 openNames (x ∷ xs) m f = do
-  a ← fresh
+  a ← fresh own
   push (tvar (node 17 a))
   openNames xs ((x, a) ∷ m) f
 
@@ -312,7 +313,7 @@ module _ (E : Env) where
   checkBy e t (isArrow a b) = checkArrow e t a b (lambdaOf e)
   -- ∀I
   checkBy e t (isForall x b) = do
-    u ← fresh
+    u ← fresh universal
     push (tvar (node 18 u))
     push (chk e (substitute x (node 18 u) b))
     done
@@ -334,8 +335,8 @@ module _ (E : Env) where
     done
   -- ^αApp
   applyBy f e c (isUnknown k) = do
-    a ← fresh
-    b ← fresh
+    a ← fresh (splits k)
+    b ← fresh (splits k)
     push (tvar (node 17 a))
     push (tvar (node 17 b))
     solve k (arrow (unknown a) (unknown b))

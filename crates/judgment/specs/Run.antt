@@ -6,6 +6,7 @@ use Rattle.nodes.specs.Nodes.{Ty}
 use Rattle.judgment.specs.declared.TypeError.{TypeError}
 use Rattle.judgment.specs.Terms.{Term}
 use Rattle.judgment.specs.Board.{Entry, chk, Limits, Operation, State, state, Outcome, finished, refused, perform, operations}
+use Rattle.judgment.specs.Levels.{Levels, ownLevels, levelsAfter}
 use Rattle.judgment.specs.Rules.{Env, rule}
 
 -- one taken entry: the state that it was taken from, the entry, what its rule did, and what it came to
@@ -37,23 +38,30 @@ abbrev pub onto : List Step → Run → Run
 onto [] R = R
 onto (t ∷ ss) R = addStep t (onto ss R)
 
+-- the operations of the steps, in order
+abbrev pub events : List Step → List Operation
+events [] = []
+events (step s e os o ∷ ss) = os ++ events ss
+
 -- where `check_type` starts: one Chk on the board, no solution, the counter at 0
 abbrev pub startWith : Term → Ty → State
 startWith e t = state (chk e t ∷ []) [] 0
 
-module _ (L : Limits) (E : Env) where
+-- each step by the limits under the levels that it meets
+module _ (L : Levels → Limits) (E : Env) where
   abbrev pub onward : State → Entry → List Operation → Outcome → (State → Run) → Run
   onward s e os (finished s′) again = addStep (step s e os (finished s′)) (again s′)
   onward s e os (refused r ts s′) again = run (step s e os (refused r ts s′) ∷ []) (refusedBy r ts) s′
 
   -- `solve`, with at most so many entries taken
-  unfoldable pub runFrom : ℕ → State → Run
-  runFrom zero (state [] σ n) = run [] accepted (state [] σ n)
-  runFrom zero (state (e ∷ Γ) σ n) = run [] ceiling (state (e ∷ Γ) σ n)
-  runFrom (suc c) (state [] σ n) = run [] accepted (state [] σ n)
-  runFrom (suc c) (state (e ∷ Γ) σ n) =
-      onward (state (e ∷ Γ) σ n) e (operations L (rule E e) Γ σ n) (perform L (rule E e) Γ σ n) (λ s. runFrom c s)
+  unfoldable pub runFrom : ℕ → Levels → State → Run
+  runFrom zero v (state [] σ n) = run [] accepted (state [] σ n)
+  runFrom zero v (state (e ∷ Γ) σ n) = run [] ceiling (state (e ∷ Γ) σ n)
+  runFrom (suc c) v (state [] σ n) = run [] accepted (state [] σ n)
+  runFrom (suc c) v (state (e ∷ Γ) σ n) =
+      onward (state (e ∷ Γ) σ n) e (operations (L v) (rule E e) Γ σ n) (perform (L v) (rule E e) Γ σ n)
+      (λ s. runFrom c (levelsAfter (operations (L v) (rule E e) Γ σ n) v) s)
 
   -- `check_type`
   unfoldable pub checkType : ℕ → Term → Ty → Run
-  checkType c e t = runFrom c (startWith e t)
+  checkType c e t = runFrom c ownLevels (startWith e t)

@@ -2,7 +2,7 @@
 ghost use mathlib.Core.Path.{_≡_};
 ghost use Rattle.judgment.specs.Result.{errorNumber, errorDetails};
 
-// The errors that worklist.rs raises, and the limits. A type is here by its number of nodes; its nodes go into the report.
+// The errors that worklist.rs raises, the limits, and the strict call's scope. A type is here by its number of nodes; its nodes go into the report.
 pub enum TypeError {
     UnboundVariable(u32),
     UnboundDataConstructor(u32),
@@ -18,6 +18,7 @@ pub enum TypeError {
     TypeTooLong,
     NoFreshNumber,
     SolutionsFull,
+    OutOfScope,
 }
 
 // The seven numbers.
@@ -50,6 +51,7 @@ pub fn error_number(e: TypeError) -> u32
         TypeError::TypeTooLong => 23,
         TypeError::NoFreshNumber => 24,
         TypeError::SolutionsFull => 25,
+        TypeError::OutOfScope => 39,
     }
 }
 
@@ -70,5 +72,6 @@ pub fn error_details(e: TypeError) -> Details
         TypeError::TypeTooLong => Details(0, 0),
         TypeError::NoFreshNumber => Details(0, 0),
         TypeError::SolutionsFull => Details(0, 0),
+        TypeError::OutOfScope => Details(0, 0),
     }
 }

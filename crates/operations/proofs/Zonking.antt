@@ -46,7 +46,7 @@ module _ {k : List ℕ} {c : Run} {s : List ℕ} {at n : ℕ} {rep : List ℕ} {
     rw g refl,
     rw g refl,
     record {
-      does = λ ls b f. stays-does f w ls rep g (zonk t (λ _. done));
+      does = λ z ls b f. stays-does f (record { written = w; scope = z }) ls rep g (zonk t (λ _. done));
       nodes = λ e. absurd (true≢false (sym e ∙ g));
       within = let r = a .room in omega arith;
     },
@@ -74,10 +74,10 @@ module _ {k : List ℕ} {c : Run} {s : List ℕ} {at n : ℕ} {rep : List ℕ} {
           rw (g, sym p ∙ e) refl,
           rw g q,
           record {
-            does = λ ls b f. record {
+            does = λ z ls b f. record {
               kept = moved (c .halt) f;
               taken = refl;
-              outcome = came (rw (g, le-leb (length T) w few)) (rw (g, le-leb (length T) w few));
+              outcome = came (rw (g, le-leb (length T) w few)) (rw (g, le-leb (length T) w few)) refl;
             };
             nodes = λ _.
                 let r = a .room in
@@ -97,10 +97,10 @@ module _ {k : List ℕ} {c : Run} {s : List ℕ} {at n : ℕ} {rep : List ℕ} {
           rw (g, sym p ∙ e) refl,
           rw g q,
           record {
-            does = λ ls b f. record {
+            does = λ z ls b f. record {
               kept = moved (haltOf TypeTooLong) f;
               taken = refl;
-              outcome = came (refused-is TypeTooLong rep' (stateOf ls b k c) ∙ rw (g, lt-leb (length T) w many)) (rw (g, lt-leb (length T) w many));
+              outcome = came (refused-is TypeTooLong rep' (stateOf ls b k c) ∙ rw (g, lt-leb (length T) w many)) (rw (g, lt-leb (length T) w many)) refl;
             };
             nodes = λ z. absurd (true≢false (sym z));
             within = let r = a .room in omega (arith, same-length);

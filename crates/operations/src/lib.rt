@@ -6,13 +6,17 @@ ghost use Prim.Native.Nat.{_+_, _*_, _≤_, _<_};
 ghost use lib.ListN.{length};
 ghost use Rattle.nodes.specs.Nodes.{node, nodesAt};
 ghost use Rattle.judgment.specs.Solutions.{writeOut};
-ghost use Rattle.judgment.specs.Board.{refuse as refuseRule, fresh as freshRule, done, tvar, var, sub, inf, chk, infApp};
+ghost use Rattle.judgment.specs.Board.{refuse as refuseRule, own, universal, splits, fresh as freshRule, done, tvar, var, sub, inf, chk, infApp};
 ghost use Rattle.board.specs.Board.{termAt, entryOf, Stacked};
-ghost use Rattle.book.specs.Book.{sols};
-ghost use Rattle.operations.specs.State.{reported, noHalt, haltOf, errorOf, Performs, going, refusedRun, freshRun, Pushes, PushAsk, Gives, SolveAsk, zonkRun, zonkWords, ZonkAsk, Zonks};
+ghost use Rattle.sizes.specs.Sizes.{mostNumbers};
+ghost use Rattle.book.specs.Book.{sols, Booked};
+ghost use Rattle.operations.specs.State.{reported, noHalt, haltOf, errorOf, Performs, going, refusedRun, freshRun, makes, Makes, Pushes, PushAsk, Gives, SolveAsk, zonkRun, zonkWords, ZonkAsk, Zonks};
 use board::Board;
 use book::Book;
 use book::Wrote;
+use book::level;
+use book::lower;
+use book::set_level;
 use book::write_out;
 use judgment::TypeError;
 use judgment::error_details;
@@ -87,6 +91,7 @@ pub fn error_of(h: Halt) -> TypeError
         22 => TypeError::BoardFull,
         23 => TypeError::TypeTooLong,
         24 => TypeError::NoFreshNumber,
+        39 => TypeError::OutOfScope,
         _ => TypeError::SolutionsFull,
     }
 }
@@ -111,9 +116,9 @@ pub fn refuse(c: Run, e: TypeError) -> Run
     c
 }
 
-// Makes a fresh number: it is the counter before.
+// Makes a fresh number, of its own level: it is the counter before.
 pub fn fresh_evar(c: Run) -> Run
-    ensures { λ r. ⌜ (r ≡ freshRun c) × Performs c (λ rep. freshRule (λ n. done)) r ⌝ }
+    ensures { λ r. ⌜ (r ≡ freshRun c) × Performs c (λ rep. freshRule own (λ n. done)) r ⌝ }
 {
     let halt = c.halt;
     if is_going(halt) {
@@ -132,6 +137,38 @@ pub fn fresh_evar(c: Run) -> Run
         return refuse(c, TypeError::NoFreshNumber);
     }
     c
+}
+
+// Makes a fresh number of the level m.
+fn fresh_level(book: &mut [u32], c: Run, m: u32) -> Run
+    requires { ⌜ Booked (now book) (c .book) × (m < mostNumbers) ⌝ }
+    ensures { λ r. ⌜ (r ≡ freshRun c) × (now (book .exit) ≡ makes (now (book .entry)) c m) ⌝ }
+{
+    let n = c.fresh;
+    let r = fresh_evar(c);
+    let halt = r.halt;
+    if is_going(halt) {
+        set_level(book, n, m);
+        return r;
+    }
+    r
+}
+
+// Makes a fresh universal.
+pub fn fresh_universal(book: &mut [u32], c: Run) -> Run
+    requires { ⌜ Booked (now book) (c .book) ⌝ }
+    ensures { λ r. ⌜ Makes (now (book .entry)) c universal (now (book .exit)) r ⌝ }
+{
+    fresh_level(book, c, 0)
+}
+
+// Makes one of the two unknowns that x is split into: it has the level of x.
+pub fn fresh_part(book: &mut [u32], c: Run, x: u32) -> Run
+    requires { ⌜ Booked (now book) (c .book) × (x < mostNumbers) ⌝ }
+    ensures { λ r. ⌜ Makes (now (book .entry)) c (splits x) (now (book .exit)) r ⌝ }
+{
+    let m = level(book, x);
+    fresh_level(book, c, m)
 }
 
 // Pushes an entry whose types are ln nodes at word la of l and rn nodes at word ra of r.
@@ -169,7 +206,7 @@ pub fn push(
     c
 }
 
-// Gives the unsolved unknown x the n nodes at word `from` of src.
+// Gives the unsolved unknown x the n nodes at word `from` of src, which are in scope; no unknown in them keeps a higher level than that of x.
 pub fn solve_evar(book: &mut [u32], c: Run, x: u32, src: &[u32], from: usize, n: usize) -> Run
     requires { ⌜ SolveAsk (now book) c x (now src) from n ⌝ }
     ensures { λ r. ⌜ Gives (now (book .entry)) c x (nodesAt (now (src .entry)) from n) (now (book .exit)) r ⌝ }
@@ -178,7 +215,9 @@ pub fn solve_evar(book: &mut [u32], c: Run, x: u32, src: &[u32], from: usize, n:
     if is_going(halt) {
         let b = c.book;
         if b.fits(n) {
+            let m = level(book, x);
             let grown = book::solve(book, b, x, src, from, n);
+            lower(book, m, src, from, n);
             let board = c.board;
             return Run {
                 taken: c.taken,

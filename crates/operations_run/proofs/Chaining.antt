@@ -13,6 +13,7 @@ use Rattle.nodes.specs.Lists.{All}
 use Rattle.nodes.proofs.ListLaws.{all-append}
 use Rattle.judgment.specs.Types.{unknown, con}
 use Rattle.judgment.specs.Solutions.{_≔_, value}
+use Rattle.judgment.specs.Levels.{ownLevels}
 use Rattle.judgment.specs.Result.{bookWords}
 use Rattle.judgment.specs.Links.{risen, chained}
 use Rattle.judgment.proofs.Links.{next-free, last-free}
@@ -22,7 +23,7 @@ use Rattle.book.specs.Compared.{half, nodesFrom, partsFrom, MeetAsk}
 use Rattle.book.proofs.Words.{new-sols, new-booked}
 use Rattle.book.proofs.Links.{Holding, one-more}
 
-pub chain-starts : (w : List ℕ) → bookSize ≤ length w → Holding (sets w 0 (bookWords [])) 0 (risen 0)
+pub chain-starts : (w : List ℕ) → bookSize ≤ length w → Holding (sets w 0 (bookWords [] ownLevels 0)) 0 (risen 0)
 unfolding risen
 chain-starts w l = (new-booked w l, new-sols w l)
 

@@ -3,12 +3,12 @@ use mathlib.Core.List.{List, [], _∷_}
 use Prim.Native.Nat.{ℕ}
 use Rattle.nodes.specs.Nodes.{node, Ty}
 use Rattle.judgment.specs.Types.{unknown, arrow}
-use Rattle.judgment.specs.Board.{tvar, var, sub, Rule, done, fresh, push, solve, zonk, _>>=_, _>>_}
+use Rattle.judgment.specs.Board.{own, tvar, var, sub, Rule, done, fresh, push, solve, zonk, _>>=_, _>>_}
 
 abbrev pub script : Rule
 script = do
-  a ← fresh
-  b ← fresh
+  a ← fresh own
+  b ← fresh own
   push (tvar (node 17 a))
   push (sub (unknown a) (arrow (unknown b) (unknown b)))
   solve a (arrow (unknown b) (unknown b))

@@ -1,15 +1,16 @@
 // Every operation on real buffers, and the longest chain that a book holds, followed: what stands in them afterwards is written out, word by word.
 ghost use mathlib.Core.Path.{_≡_};
+ghost use mathlib.Core.Bool.{Bool};
 ghost use mathlib.Core.List.{List, [], _∷_};
 ghost use Rattle.spelling.specs.declared.Triple.{Triple};
 ghost use Rattle.sizes.specs.Sizes.{mostNodes, mostNumbers, usualLimit, boardSize, bookSize, usualReport};
-ghost use Prim.Native.Nat.{_*_, _≤_, _<_};
+ghost use Prim.Native.Nat.{ℕ, _*_, _≤_, _<_};
 ghost use lib.ListN.{length};
-ghost use Rattle.nodes.specs.Nodes.{node};
+ghost use Rattle.nodes.specs.Nodes.{Ty, node};
 ghost use Rattle.judgment.specs.Links.{chained};
 ghost use Rattle.book.specs.declared.Book.{Book as BookOf};
 ghost use Rattle.book.specs.Book.{sols, Booked, given, grown};
-ghost use Rattle.operations.specs.State.{WellFormed, Does};
+ghost use Rattle.operations.specs.State.{WellFormed, Does, Scoped};
 ghost use Rattle.operations_run.specs.Script.{script as scriptRule};
 use board::Board;
 use board::clear_board;
@@ -43,7 +44,7 @@ use sizes::USUAL_REPORT;
 
 fn script(board: &mut [u32], book: &mut [u32], report: &mut [u32], c: Run) -> Run
     requires { ⌜ WellFormed (now board) (now book) c × (2 * usualLimit ≤ length (now report)) ⌝ }
-    ensures { λ r. ⌜ ((ls : List Triple) → Does usualLimit ls (now (board .entry)) (now (book .entry)) (now (report .entry)) c scriptRule (now (board .exit)) (now (book .exit)) (now (report .exit)) r) ⌝ }
+    ensures { λ r. ⌜ ((f : ℕ → Ty → Bool) (ls : List Triple) → Scoped (record { written = usualLimit; scope = f }) → Does (record { written = usualLimit; scope = f }) ls (now (board .entry)) (now (book .entry)) (now (report .entry)) c scriptRule (now (board .exit)) (now (book .exit)) (now (report .exit)) r) ⌝ }
 {
     let a = c.fresh;
     let c1 = fresh_evar(c);

@@ -15,6 +15,7 @@ use Rattle.judgment.specs.declared.TypeError.the-variants.{ArityMismatch}
 use Rattle.judgment.specs.Types.{rename, frontNames}
 use Rattle.judgment.specs.Board.{sub, Rule, done, refuse, push}
 use Rattle.judgment.specs.Rules.{Env, signatureFrom, extractSignature, patternParts}
+use Rattle.operations.proofs.Then.{anyWay}
 use Rattle.operations.specs.declared.Run.{Run}
 use Rattle.operations.specs.State.{Came, cameTo, performC, PerformsOnBoard}
 use Rattle.constructors.specs.declared.Opened.{Opened}
@@ -108,7 +109,7 @@ module _ {b : List ℕ} {c : Run} (ls : List Triple) (first n count : ℕ) (want
     parts-turn E = record {
       ready = A .ready;
       taken = A .taken ∙ pushed ∙ O .named .taken;
-      kept = λ k z. A .kept k (P 0 ls k [] (O .named .kept k z) .kept);
+      kept = λ k z. A .kept k (P anyWay ls k [] (O .named .kept k z) .kept);
       outcome = λ w k rep z f.
           let d = P w ls k rep (O .named .kept k z) in
           let ps : List Ty = params (o .nodes) X in

@@ -13,12 +13,13 @@ use Rattle.spelling.specs.declared.Triple.{Triple}
 use Rattle.judgment.specs.declared.TypeError.{TypeError}
 use Rattle.judgment.specs.declared.TypeError.the-variants.{ArityMismatch}
 use Rattle.judgment.specs.Board.{Entry, sub, var, chk, entryNodes, Limits, Rule, done, refuse, push, Outcome, finished, refused}
+use Rattle.judgment.specs.Result.{Way}
 use Rattle.board.specs.Board.{termAt, entryOf}
 use Rattle.board.specs.Board.{fitting as fitsBoard}
 use Rattle.board.proofs.Stacks.{laid-stacked, fits-facts}
 use Rattle.operations.specs.declared.Run.{Run}
 use Rattle.operations.specs.State.{reported, cameTo, performC, WellFormed, Does, Performs, Pushes, going, refusedRun, pushRun, pushWords}
-use Rattle.operations.proofs.Then.{refusal-stays}
+use Rattle.operations.proofs.Then.{refusal-stays, anyWay}
 use Rattle.patterns.specs.Turns.{Ready, Turn}
 use Rattle.patterns.specs.Readings.{Arity}
 
@@ -63,7 +64,7 @@ unfolding nodesAt
 turn-refused {A} {ls} {b} {c} {r} {e} p q h z s d = record {
   ready = subst⁻¹ (Ready b) (d .0) (refused-ready b c e h);
   taken = ap (λ (x : Run). x .taken) (d .0) ∙ cond-ind (λ (x : Run). x .taken ≡ c .taken) (going (c .halt)) (λ _. refl) (λ _. refl);
-  kept = λ k y. d .1 0 ls b k [] y .kept;
+  kept = λ k y. d .1 anyWay ls b k [] y .kept;
   outcome = λ w k rep y f.
       ap (performC w ls (q f)) (d .1 w ls b k rep y .outcome)
       ∙ refusal-stays w ls (q f) e (nodesAt rep 0 (reported e)) b k rep c
@@ -93,12 +94,12 @@ turn-push {ls} {b} {c} kind number t u e {b'} {r} n h p = record {
   ready = pushed-ready kind number t u n h p;
   taken = ap (λ (x : Run). x .taken) (p .0)
       ∙ cond-ind (λ (x : Run). x .taken ≡ c .taken) (going (c .halt)) (λ _. cond-ind (λ (x : Run). x .taken ≡ c .taken) (fitsBoard (c .board) (length t + length u)) (λ _. refl) (λ _. refl)) (λ _. refl);
-  kept = λ k z. p .2 0 ls k [] z .kept;
+  kept = λ k z. p .2 anyWay ls k [] z .kept;
   outcome = λ w k rep z f. ap (performC w ls (f 0)) (p .2 w ls k rep z .outcome);
 }
 
 -- ---- the rule that a turn is
-pub turn-does : {w : ℕ} {ls : List Triple} {b k rep : List ℕ} {c : Run} {b' : List ℕ} {r : Run} {p : (ℕ → Rule) → Rule} → WellFormed b k c → Turn {A = ℕ} ls b c p b' r (λ f. f 0) → Does w ls b k rep c (p (λ _. done)) b' k rep r
+pub turn-does : {w : Way} {ls : List Triple} {b k rep : List ℕ} {c : Run} {b' : List ℕ} {r : Run} {p : (ℕ → Rule) → Rule} → WellFormed b k c → Turn {A = ℕ} ls b c p b' r (λ f. f 0) → Does w ls b k rep c (p (λ _. done)) b' k rep r
 turn-does {w} {ls} {b} {k} {rep} h x = record { kept = x .kept k h; taken = x .taken; outcome = x .outcome w k rep h (λ _. done) }
 
 pub sub-turn : {ls : List Triple} {b : List ℕ} {c : Run} (t u : Ty) {b' : List ℕ} {r : Run} → Ready b c → Pushes b c 3 0 t u (λ _. sub t u) b' r → Turn {A = ℕ} ls b c (λ f. push (sub t u) (f 0)) b' r (λ f. f 0)

@@ -5,6 +5,7 @@ use Prim.Native.Nat.{ℕ, _≤_}
 use Rattle.sizes.specs.Sizes.{mostNumbers}
 use Rattle.spelling.specs.declared.Triple.{Triple}
 use Rattle.judgment.specs.Board.{Rule}
+use Rattle.judgment.specs.Result.{Way}
 use Rattle.board.specs.Board.{Stacked}
 use Rattle.operations.specs.declared.Run.{Run}
 use Rattle.operations.specs.State.{cameTo, performC, WellFormed}
@@ -19,5 +20,5 @@ pub record Turn {A : Type 0} (ls : List Triple) (b : List ℕ) (c : Run) (p : (A
   pub ready : Ready b' r
   pub taken : r .taken ≡ c .taken
   pub kept : (k : List ℕ) → WellFormed b k c → WellFormed b' k r
-  pub outcome : (w : ℕ) (k rep : List ℕ) → WellFormed b k c → (f : A → Rule)
+  pub outcome : (w : Way) (k rep : List ℕ) → WellFormed b k c → (f : A → Rule)
       → performC w ls (q f) (cameTo ls b' k rep r) ≡ performC w ls (p f) (cameTo ls b k rep c)

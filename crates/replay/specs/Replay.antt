@@ -42,7 +42,7 @@ pub record Wanted (seven board book report want : List ℕ) : Type 0 where
 
 -- a sheet that was read has at most one line too many
 abbrev pub PlanIn : Plan → Type 0
-PlanIn (plan.Read c n) = n ≤ mostLines + 1
+PlanIn (plan.Read s c n) = n ≤ mostLines + 1
 PlanIn plan.Bad = Unit {0}
 
 -- the solutions have no more nodes than a book has room for

@@ -5,10 +5,13 @@ ghost use mathlib.Core.Bool.{true};
 ghost use Prim.Native.Nat.{ℕ, _+_, _*_, _≤_, _<_};
 ghost use lib.ListN.{length, getD, take, drop};
 ghost use lib.Seq.{sets};
-ghost use Rattle.sizes.specs.Sizes.{lineLength, mostNodes};
+ghost use Rattle.sizes.specs.Sizes.{lineLength, mostNodes, usualLimit};
 ghost use Rattle.judgment.specs.Result.{numbers};
+ghost use Rattle.operations.specs.State.{modeOf};
+ghost use Rattle.checker.specs.Answered.{Answered};
 ghost use Rattle.replay.specs.Replay.{wanted, Room, Wanted, PlanIn, SolvedIn, UnreadIn, StepIn, counted};
 use checker::check_type;
+use checker::check_type_strict;
 use columns::write_line;
 use input::Got;
 use input::fill;
@@ -22,9 +25,11 @@ use nodes::wide;
 use sizes::BOARD_SIZE;
 use sizes::BOOK_BASE;
 use sizes::BOOK_SIZE;
+use sizes::BOOK_STRIDE;
 use sizes::LINE_LENGTH;
 use sizes::MOST_LINES;
 use sizes::MOST_NODES;
+use sizes::MOST_NUMBERS;
 use sizes::USUAL_LIMIT;
 use sizes::USUAL_REPORT;
 use spelling::Triple;
@@ -210,15 +215,15 @@ fn read_solution(line: &[u8], at: usize, want: &mut [u32], nodes: usize) -> Solv
     };
     let k = wide(unknown);
     let n = wide(count);
-    if k > 999 {
+    if k >= MOST_NUMBERS {
         return Solved::Bad;
     }
     if n > MOST_NODES - nodes {
         return Solved::Bad;
     }
     let start = BOOK_BASE + 2 * nodes;
-    want[BOOK + 2 * k] = start as u32;
-    want[BOOK + 2 * k + 1] = count;
+    want[BOOK + BOOK_STRIDE * k] = start as u32;
+    want[BOOK + BOOK_STRIDE * k + 1] = count;
     let Next::At(p3) = read_words(line, p2, want, BOOK + start, 2 * n) else {
         return Solved::Bad;
     };
@@ -247,20 +252,44 @@ fn read_book(line: &[u8], at: usize, want: &mut [u32]) -> Next
     Next::At(next)
 }
 
-// What a run leaves: the board 0, the report's types and the book's solutions, then 0.
+// The levels of the numbers made, as many as the fourth of the seven numbers says.
+fn read_levels(line: &[u8], at: usize, want: &mut [u32]) -> Next
+    requires { ⌜ wanted ≤ length (now want) ⌝ }
+{
+    let n = wide(want[SEVEN + 3]);
+    if n > MOST_NUMBERS {
+        return Next::Bad;
+    }
+    let mut next = at;
+    let mut k = 0;
+    while k < n {
+        let Word::Here(level, p) = word_at(line, next) else {
+            return Next::Bad;
+        };
+        want[BOOK + BOOK_STRIDE * k + 2] = level;
+        next = p;
+        k += 1;
+    }
+    Next::At(next)
+}
+
+// What a run leaves: the board 0, the report's types, the book's solutions and levels, then 0.
 fn read_run(line: &[u8], at: usize, want: &mut [u32]) -> Next
     requires { ⌜ wanted ≤ length (now want) ⌝ }
 {
     clear_words(want, 0, BOARD_SIZE);
     clear_words(want, BOOK, BOOK_SIZE);
     clear_words(want, REPORT, USUAL_REPORT);
-    let Next::At(next) = read_report(line, at, want) else {
+    let Next::At(p1) = read_report(line, at, want) else {
         return Next::Bad;
     };
-    read_book(line, next, want)
+    let Next::At(p2) = read_book(line, p1, want) else {
+        return Next::Bad;
+    };
+    read_levels(line, p2, want)
 }
 
-// A plan that comes to no run has no types and no solutions, and its words stay as they are.
+// A plan that comes to no run has no types, solutions and levels, and its words stay as they are.
 fn read_no_run(line: &[u8], at: usize) -> Next {
     let Word::Here(types, p1) = word_at(line, at) else {
         return Next::Bad;
@@ -277,25 +306,47 @@ fn read_no_run(line: &[u8], at: usize) -> Next {
     Next::At(p2)
 }
 
+// Whether an answer of this number is a run's.
+fn is_run(number: u32) -> bool {
+    match number {
+        1..=5 | 32 => false,
+        _ => true,
+    }
+}
+
 fn read_answer(line: &[u8], at: usize, want: &mut [u32]) -> Next
     requires { ⌜ wanted ≤ length (now want) ⌝ }
 {
     let Next::At(next) = read_words(line, at, want, SEVEN, 7) else {
         return Next::Bad;
     };
-    let number = want[SEVEN];
-    if number == 0 {
-        return read_run(line, next, want);
-    }
-    if number > 5 {
+    if is_run(want[SEVEN]) {
         return read_run(line, next, want);
     }
     read_no_run(line, next)
 }
 
-// The ceiling and the number of lines.
+// Whether the call is the strict one, and where the next number starts.
+enum Call {
+    Here(bool, usize),
+    Bad,
+}
+
+// 1 is the first call, 2 the strict one.
+fn call_at(line: &[u8], at: usize) -> Call {
+    let Word::Here(call, next) = word_at(line, at) else {
+        return Call::Bad;
+    };
+    match call {
+        1 => Call::Here(false, next),
+        2 => Call::Here(true, next),
+        _ => Call::Bad,
+    }
+}
+
+// Whether the call is the strict one, the ceiling and the number of lines.
 enum Plan {
-    Read(u32, usize),
+    Read(bool, u32, usize),
     Bad,
 }
 
@@ -304,7 +355,10 @@ fn read_record(line: &[u8], sheet: &mut [u8], want: &mut [u32]) -> Plan
     requires { ⌜ Room (now sheet) (now want) ⌝ }
     ensures { λ r. ⌜ PlanIn r ⌝ }
 {
-    let Word::Here(ceiling, p1) = word_at(line, 0) else {
+    let Call::Here(strict, p0) = call_at(line, 0) else {
+        return Plan::Bad;
+    };
+    let Word::Here(ceiling, p1) = word_at(line, p0) else {
         return Plan::Bad;
     };
     let Word::Here(count, p2) = word_at(line, p1) else {
@@ -323,7 +377,7 @@ fn read_record(line: &[u8], sheet: &mut [u8], want: &mut [u32]) -> Plan
     if end < line.len() {
         return Plan::Bad;
     }
-    Plan::Read(ceiling, n)
+    Plan::Read(strict, ceiling, n)
 }
 
 // Puts DIRT into every word.
@@ -401,8 +455,26 @@ fn soil_all(board: &mut [u32], book: &mut [u32], report: &mut [u32], want: &mut 
     soil(want);
 }
 
+// The call that a record names.
+fn check(
+    sheet: &[u8],
+    strict: bool,
+    ceiling: u32,
+    board: &mut [u32],
+    book: &mut [u32],
+    report: &mut [u32],
+) -> Answer
+    ensures { λ r. ⌜ Answered (modeOf strict) (now (sheet .entry)) ceiling usualLimit (record { board = now (board .entry); book = now (book .entry); report = now (report .entry) }) r (record { board = now (board .exit); book = now (book .exit); report = now (report .exit) }) ⌝ }
+{
+    if strict {
+        return check_type_strict(sheet, ceiling, USUAL_LIMIT, board, book, report);
+    }
+    check_type(sheet, ceiling, USUAL_LIMIT, board, book, report)
+}
+
 fn is_same(
     sheet: &[u8],
+    strict: bool,
     ceiling: u32,
     board: &mut [u32],
     book: &mut [u32],
@@ -411,7 +483,7 @@ fn is_same(
 ) -> bool
     requires { ⌜ wanted ≤ length (now want) ⌝ }
 {
-    let answer = check_type(sheet, ceiling, USUAL_LIMIT, board, book, report);
+    let answer = check(sheet, strict, ceiling, board, book, report);
     let seven = seven_of(answer);
     is_wanted(&seven, board, book, report, want)
 }
@@ -427,11 +499,11 @@ fn replay_record(
     requires { ⌜ Room (now sheet) (now want) ⌝ }
 {
     soil_all(board, book, report, want);
-    let Plan::Read(ceiling, lines) = read_record(line, sheet, want) else {
+    let Plan::Read(strict, ceiling, lines) = read_record(line, sheet, want) else {
         return Verdict::Malformed;
     };
     let end = LINE_LENGTH * lines;
-    if is_same(&sheet[..end], ceiling, board, book, report, want) {
+    if is_same(&sheet[..end], strict, ceiling, board, book, report, want) {
         Verdict::Same
     } else {
         Verdict::Differs

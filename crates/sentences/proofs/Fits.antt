@@ -68,7 +68,8 @@ module _ (ws : List ℕ) where
       (cond-within (eqb (a .number) 23) _ _ most (ended-within "The plan is not decided: a type written out would have more nodes than the limit. " (a .taken) (a .fresh) most (omega arith) (omega arith))
       (cond-within (eqb (a .number) 24) _ _ most (ended-within "The plan is not decided: a 1,001st fresh number would be needed. " (a .taken) (a .fresh) most (omega arith) (omega arith))
       (cond-within (eqb (a .number) 25) _ _ most (ended-within "The plan is not decided: the solutions would pass 4,096 nodes. " (a .taken) (a .fresh) most (omega arith) (omega arith))
-      (cond-within (eqb (a .number) 32) _ _ most (omega arith) (numbered-within "The result " " has no meaning here.\n" (a .number) most (omega arith)))))))
+      (cond-within (eqb (a .number) 39) _ _ most (ended-within "The plan is refused by the strict call: a solution has a fresh universal that is out of its unknown's scope. " (a .taken) (a .fresh) most (omega arith) (omega arith))
+      (cond-within (eqb (a .number) 32) _ _ most (omega arith) (numbered-within "The result " " has no meaning here.\n" (a .number) most (omega arith))))))))
 
   plan-within : (a : Answer) → length (ofPlan a ws) ≤ most
   unfolding most ofPlan

@@ -103,6 +103,10 @@ noFreshNumber = ended "The plan is not decided: a 1,001st fresh number would be 
 abbrev pub solutionsFull : ℕ → ℕ → List ℕ
 solutionsFull = ended "The plan is not decided: the solutions would pass 4,096 nodes. "
 
+-- ---- the strict call: 39
+abbrev pub outOfScope : ℕ → ℕ → List ℕ
+outOfScope = ended "The plan is refused by the strict call: a solution has a fresh universal that is out of its unknown's scope. "
+
 -- ---- what a call may not ask for: 32
 abbrev pub limitOutOfRange : List ℕ
 limitOutOfRange = bytes "The plan was not checked: the limit for a type written out is 0 or above 4,096.\n"
@@ -120,7 +124,8 @@ ofLimit a =
     (cond (eqb (a .number) 22) (boardFull (a .taken) (a .fresh))
     (cond (eqb (a .number) 23) (typeTooLong (a .taken) (a .fresh))
     (cond (eqb (a .number) 24) (noFreshNumber (a .taken) (a .fresh))
-    (cond (eqb (a .number) 25) (solutionsFull (a .taken) (a .fresh)) (ofCall (a .number))))))
+    (cond (eqb (a .number) 25) (solutionsFull (a .taken) (a .fresh))
+    (cond (eqb (a .number) 39) (outOfScope (a .taken) (a .fresh)) (ofCall (a .number)))))))
 
 unfoldable pub ofPlan : Answer → List ℕ → List ℕ
 ofPlan a ws =

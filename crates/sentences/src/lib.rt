@@ -5,7 +5,7 @@ ghost use Prim.Native.Nat.{_≤_};
 ghost use lib.Dec.{eqb};
 ghost use lib.ListN.{length};
 ghost use Rattle.wording.specs.Texts.{bytes, numberText, nameText, Wrote};
-ghost use Rattle.sentences.specs.Explained.{counts, accepted, ceilingTooHigh, bufferTooShort, badLength, misspelt, unfit, unboundVariable, unboundConstructor, notFunction, arity, subtyping, unification, instantiation, intrinsicArity, unknownIntrinsic, ceilingReached, boardFull, typeTooLong, noFreshNumber, solutionsFull, limitOutOfRange, otherNumber, ofCall, ofLimit, ofPlan, explained};
+ghost use Rattle.sentences.specs.Explained.{counts, accepted, ceilingTooHigh, bufferTooShort, badLength, misspelt, unfit, unboundVariable, unboundConstructor, notFunction, arity, subtyping, unification, instantiation, intrinsicArity, unknownIntrinsic, ceilingReached, boardFull, typeTooLong, noFreshNumber, solutionsFull, outOfScope, limitOutOfRange, otherNumber, ofCall, ofLimit, ofPlan, explained};
 use judgment::Answer;
 use wording::put;
 use wording::put_either;
@@ -300,6 +300,17 @@ fn say_solutions_full(out: &mut [u8], taken: u32, fresh: u32) -> usize
     )
 }
 
+fn say_out_of_scope(out: &mut [u8], taken: u32, fresh: u32) -> usize
+    ensures { λ r. ⌜ Wrote (now (out .entry)) 0 (outOfScope taken fresh) (now (out .exit)) r ⌝ }
+{
+    put_ended(
+        out,
+        b"The plan is refused by the strict call: a solution has a fresh universal that is out of its unknown's scope. ",
+        taken,
+        fresh,
+    )
+}
+
 fn say_other(out: &mut [u8], number: u32) -> usize
     ensures { λ r. ⌜ Wrote (now (out .entry)) 0 (otherNumber number) (now (out .exit)) r ⌝ }
 {
@@ -342,6 +353,9 @@ fn explain_limit(out: &mut [u8], a: Answer) -> usize
     }
     if a.number == 25 {
         return say_solutions_full(out, a.taken, a.fresh);
+    }
+    if a.number == 39 {
+        return say_out_of_scope(out, a.taken, a.fresh);
     }
     explain_call(out, a.number)
 }

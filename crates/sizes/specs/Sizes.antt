@@ -54,7 +54,7 @@ boardSize = boardBase + typeWords
 
 -- ---- the book: so many words a number, and the nodes from the base on
 abbrev pub bookStride : ℕ
-bookStride = 2
+bookStride = 3
 
 abbrev pub bookBase : ℕ
 bookBase = bookStride * mostNumbers

@@ -38,7 +38,7 @@ pub const BOARD_BASE: usize = BOARD_STRIDE * MOST_ENTRIES;
 pub const BOARD_SIZE: usize = BOARD_BASE + TYPE_WORDS;
 
 // The book: so many words a number, and the nodes from the base on.
-pub const BOOK_STRIDE: usize = 2;
+pub const BOOK_STRIDE: usize = 3;
 
 pub const BOOK_BASE: usize = BOOK_STRIDE * MOST_NUMBERS;
 

@@ -22,6 +22,7 @@ use Rattle.judgment.specs.Terms.{termView, lambdaOf}
 use Rattle.judgment.specs.Solutions.{writeOut}
 use Rattle.judgment.specs.Board.{tvar, var, sub, inf, chk, infApp, done}
 use Rattle.judgment.specs.Rules.{Env, inferBy, checkBy, rule}
+use Rattle.judgment.specs.Result.{Way}
 use Rattle.board.specs.declared.Top.{Top}
 use Rattle.board.specs.Board.{termAt, entryOf}
 use Rattle.book.specs.Book.{sols}
@@ -158,7 +159,7 @@ module _ {m : ℕ} {s b k rep : List ℕ} {c : Run} {o : Top} {t l r w v : List 
     same-type : nodesAt t' 0 (o .left) ≡ nodesAt b (o .at) (o .left)
     same-type = copied t (nodesAt b (o .at) (o .left)) (o .left) (length-nodesAt b (o .at) (o .left)) (let x = copy-asks .0 in omega arith) e
 
-    pub inferred : (E : Env) {b' k' rep' : List ℕ} {q : Run} → o .kind ≡ 4 → Does m ls b k rep c (inferBy E (nodesAt t' 0 (o .left)) (termView (termAt ls (o .number)))) b' k' rep' q → Does m ls b k rep c (rule E (topEntry ls b o)) b' k' rep' q
+    pub inferred : (E : Env) {x : Way} {b' k' rep' : List ℕ} {q : Run} → o .kind ≡ 4 → Does x ls b k rep c (inferBy E (nodesAt t' 0 (o .left)) (termView (termAt ls (o .number)))) b' k' rep' q → Does x ls b k rep c (rule E (topEntry ls b o)) b' k' rep' q
     inferred E h = does-as (λ _. ap (λ (X : Ty). inferBy E X (termView (termAt ls (o .number)))) same-type ∙ ap (rule E) (sym (is-inf ls (o .number) _ _ (o .kind) h)))
 
     pub inferred-room : o .kind ≡ 4 → {l' r' w' v' : List ℕ} → scratch l' r' w' v' ≡ inferScratch b c s (o .number) (nodesAt t' 0 (o .left)) (scratch l r w v)
@@ -173,5 +174,5 @@ module _ {m : ℕ} {s b k rep : List ℕ} {c : Run} {o : Top} {t l r w v : List 
         (p ∙ ap₂ (λ (y : List ℕ) (X : Ty). checkedType y (c .fresh) (view X)) e same-type)
         (q ∙ ap (λ (X : Ty). checkedOut l (lambdaOf (termAt ls (o .number))) (view X)) same-type))
 
-    pub checked : (E : Env) {b' k' rep' : List ℕ} {q : Run} → o .kind ≡ 5 → Does m ls b k rep c (checkBy E (termAt ls (o .number)) (nodesAt t' 0 (o .left)) (view (nodesAt t' 0 (o .left)))) b' k' rep' q → Does m ls b k rep c (rule E (topEntry ls b o)) b' k' rep' q
+    pub checked : (E : Env) {x : Way} {b' k' rep' : List ℕ} {q : Run} → o .kind ≡ 5 → Does x ls b k rep c (checkBy E (termAt ls (o .number)) (nodesAt t' 0 (o .left)) (view (nodesAt t' 0 (o .left)))) b' k' rep' q → Does x ls b k rep c (rule E (topEntry ls b o)) b' k' rep' q
     checked E h = does-as (λ _. ap (λ (X : Ty). checkBy E (termAt ls (o .number)) X (view X)) same-type ∙ ap (rule E) (sym (is-chk ls (o .number) _ _ (o .kind) h)))

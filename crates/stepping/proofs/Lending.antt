@@ -63,7 +63,7 @@ Ask n k x = StepAsk (k .limit) (x .1 .1 .1 .0 .now) (x .0 .now) (x .1 .0 .now) (
 
 abbrev pub Says : Counters → Kept → Slices → Counters → Kept → Lists → Type 0
 Says n k x c d ws =
-    Stepping (k .limit) (x .1 .1 .1 .0 .now) (x .0 .now) (x .1 .0 .now) (joined n k)
+    Stepping (k .strict) (k .limit) (x .1 .1 .1 .0 .now) (x .0 .now) (x .1 .0 .now) (joined n k)
     (room (x .1 .1 .0 .now) (x .1 .1 .1 .1 .0 .now) (x .1 .1 .1 .1 .1 .0 .now) (x .1 .1 .1 .1 .1 .1 .0 .now) (x .1 .1 .1 .1 .1 .1 .1 .0 .now) (x .1 .1 .1 .1 .1 .1 .1 .1 .0 .now))
     (ws .0) (ws .1 .0) (joined c d)
     (room (ws .1 .1 .0) (ws .1 .1 .1 .1 .0) (ws .1 .1 .1 .1 .1 .0) (ws .1 .1 .1 .1 .1 .1 .0) (ws .1 .1 .1 .1 .1 .1 .1 .0) (ws .1 .1 .1 .1 .1 .1 .1 .1 .0))

@@ -13,7 +13,6 @@ use Rattle.judgment.specs.Board.{Entry, tvar, var, sub, inf, chk, infApp, Limit
 use Rattle.judgment.specs.Board.{Board as Entries}
 use Rattle.judgment.specs.Rules.{Env, rule}
 use Rattle.judgment.specs.Chain.{stepO}
-use Rattle.judgment.specs.Result.{limitsWith}
 use Rattle.judgment.specs.Good.{IsTy, EntryWhole, OK, EntryOK, SolutionOK, Inv, StateOK}
 use Rattle.judgment.proofs.Invariant.{Kept, perform-kept}
 use Rattle.judgment.proofs.RuleLaws.{EnvOK, Explains, rule-good}
@@ -23,8 +22,8 @@ use Rattle.board.specs.Board.{entriesOf}
 use Rattle.book.specs.Book.{sols}
 use Rattle.operations.specs.declared.Halt.{Halt}
 use Rattle.operations.specs.declared.Run.{Run}
-use Rattle.operations.specs.State.{reported, errorOf, going, outcomeBy, outcomeOf, WellFormed}
-use Rattle.subtyping.specs.Subtyping.{Made, Sound}
+use Rattle.operations.specs.State.{reported, errorOf, going, outcomeBy, outcomeOf, WellFormed, Made}
+use Rattle.subtyping.specs.Subtyping.{Sound}
 use Rattle.applying.specs.Applying.{envOn}
 use Rattle.stepping.specs.Stepping.{EntrySound, Standing}
 use Rattle.stepping.proofs.Reading.{read-good, read-whole}
@@ -78,10 +77,10 @@ module _ (Plain : Type 0) where
   solutions-sound n (x ∷ σ) h w = (sound-of n (value x) (h .0 .1) (w .0), solutions-sound n σ (h .1) (w .1))
 
 -- what a step leaves is standing
-pub stands : (m : ℕ) {s b k : List ℕ} (rep : List ℕ) {c : Run} {b' k' : List ℕ} (rep' : List ℕ) {q : Run} → Standing s b k c → WellFormed b' k' q → outcomeOf (rows s) b' k' rep' q ≡ stepO (limitsWith m) (envOn s) (outcomeOf (rows s) b k rep c) → Standing s b' k' q
-stands m {s} {b} {k} rep {c} {b'} {k'} rep' {q} h f e =
+pub stands : (L : Limits) {s b k : List ℕ} (rep : List ℕ) {c : Run} {b' k' : List ℕ} (rep' : List ℕ) {q : Run} → Standing s b k c → WellFormed b' k' q → outcomeOf (rows s) b' k' rep' q ≡ stepO L (envOn s) (outcomeOf (rows s) b k rep c) → Standing s b' k' q
+stands L {s} {b} {k} rep {c} {b'} {k'} rep' {q} h f e =
     let p = planOf (rows s) in
     let w = read-whole (h .plan) in
     let o = of-outcome ⊥ (q .halt) rep' (entriesOf (rows s) b' (q .board .entries)) (sols k') (q .fresh)
-    (subst⁻¹ (OutcomeOK ⊥) e (step-ok ⊥ (limitsWith m) (envOn s) (plan-env p (read-good (h .plan))) (w .0) (outcomeOf (rows s) b k rep c) (to-outcome ⊥ (c .halt) rep _ _ _ (h .good)))) in
+    (subst⁻¹ (OutcomeOK ⊥) e (step-ok ⊥ L (envOn s) (plan-env p (read-good (h .plan))) (w .0) (outcomeOf (rows s) b k rep c) (to-outcome ⊥ (c .halt) rep _ _ _ (h .good)))) in
     record { plan = h .plan; formed = f; good = o }

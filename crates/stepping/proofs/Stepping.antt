@@ -10,17 +10,18 @@ use Rattle.sheet.specs.Rows.{rows}
 use Rattle.judgment.specs.Board.{Entry, state}
 use Rattle.judgment.specs.Board.{Board as Entries}
 use Rattle.judgment.specs.Rules.{rule}
-use Rattle.judgment.specs.Chain.{stepO, performO}
-use Rattle.judgment.proofs.Chained.{performs}
-use Rattle.judgment.specs.Result.{limitsWith}
+use Rattle.judgment.specs.Chain.{stepO, performO, stepL, performL}
+use Rattle.judgment.proofs.Chained.{performs, levels-performed}
+use Rattle.judgment.specs.Result.{limitsIn}
 use Rattle.judgment.specs.Good.{EntryWhole, EntryOK}
+use mathlib.Core.Bool.{Bool}
 use Rattle.board.specs.declared.Board.{Board}
 use Rattle.board.specs.declared.Top.{Top}
 use Rattle.board.specs.Board.{entriesOf, Stacked, topOf}
 use Rattle.board.proofs.Stacks.{top-size, top-entries, top-stacked, top-within}
-use Rattle.book.specs.Book.{sols}
+use Rattle.book.specs.Book.{sols, levelsOf}
 use Rattle.operations.specs.declared.Run.{Run}
-use Rattle.operations.specs.State.{Words, Came, performW, outcomeBy, outcomeOf, stateOf, WellFormed, Does}
+use Rattle.operations.specs.State.{Words, Came, performW, outcomeBy, outcomeOf, stateOf, WellFormed, Does, wayIn}
 use Rattle.applying.specs.Applying.{envOn}
 use Rattle.stepping.specs.Rooms.{Room, room, judgedRoom}
 use Rattle.stepping.specs.Stepping.{topEntry, taking, JudgeAsk, Stepping, StepAsk}
@@ -30,7 +31,7 @@ top-few : {b : List ℕ} {d : Board} → Stacked b d → 0 < d .entries → topO
 unfolding topOf
 top-few h l = let x = top-size h l in let y = h .fewNodes in omega arith
 
-module _ {m : ℕ} {s b k rep : List ℕ} {c : Run} {t l r w v : List ℕ} (a : StepAsk m s b k rep c t l r w v) (o : Top) (e : o ≡ topOf b (c .board)) where
+module _ {m : ℕ} {s b k rep : List ℕ} {c : Run} {t l r w v : List ℕ} (a : StepAsk m s b k rep c t l r w v) (strict : Bool) (o : Top) (e : o ≡ topOf b (c .board)) where
   abbrev ls : List Triple
   ls = rows s
 
@@ -69,8 +70,8 @@ module _ {m : ℕ} {s b k rep : List ℕ} {c : Run} {t l r w v : List ℕ} (a : 
         solutions = solutions-sound ⊥ (c .fresh) (sols k) (q .inv .solutions) (q .solutions);
       }
 
-  pub step-reached : {b' k' : List ℕ} {q : Run} {x' : Room} → Does m ls b k rep (taking c o) (rule (envOn s) (topEntry ls b o)) b' k' (x' .report) q × (x' ≡ judgedRoom m s b k (taking c o) o (room rep t l r w v))
-      → Stepping m s b k c (room rep t l r w v) b' k' q x'
+  pub step-reached : {b' k' : List ℕ} {q : Run} {x' : Room} → Does (wayIn strict m k) ls b k rep (taking c o) (rule (envOn s) (topEntry ls b o)) b' k' (x' .report) q × (x' ≡ judgedRoom m s b k (taking c o) o (room rep t l r w v))
+      → Stepping strict m s b k c (room rep t l r w v) b' k' q x'
   step-reached {b'} {k'} {q} {x'} p =
       let d = p .0 in
       let rep' = x' .report in
@@ -78,13 +79,16 @@ module _ {m : ℕ} {s b k rep : List ℕ} {c : Run} {t l r w v : List ℕ} (a : 
       let g = a .goes in
       let n : Entry = topEntry ls b o in
       let σ = sols k in
-      let one : performO (limitsWith m) (rule E n) (outcomeBy (c .halt) rep (state below σ (c .fresh))) ≡ stepO (limitsWith m) E (outcomeBy (c .halt) rep (stateOf ls b k c))
-      = rw (g, entries-are) (performs (limitsWith m) (rule E n) below σ (c .fresh)) in
-      let f : outcomeOf ls b' k' rep' q ≡ stepO (limitsWith m) E (outcomeOf ls b k rep c) = ap (λ (x : Came). x .outcome) (d .outcome) ∙ one in
+      let one : performO (limitsIn (wayIn strict m k)) (rule E n) (outcomeBy (c .halt) rep (state below σ (c .fresh))) ≡ stepO (limitsIn (wayIn strict m k)) E (outcomeBy (c .halt) rep (stateOf ls b k c))
+      = rw (g, entries-are) (performs (limitsIn (wayIn strict m k)) (rule E n) below σ (c .fresh)) in
+      let two : performL (limitsIn (wayIn strict m k)) (rule E n) (outcomeBy (c .halt) rep (state below σ (c .fresh))) (levelsOf k) ≡ stepL (limitsIn (wayIn strict m k)) E (outcomeBy (c .halt) rep (stateOf ls b k c)) (levelsOf k)
+      = rw (g, entries-are) (levels-performed (limitsIn (wayIn strict m k)) (rule E n) below σ (c .fresh) (levelsOf k)) in
+      let f : outcomeOf ls b' k' rep' q ≡ stepO (limitsIn (wayIn strict m k)) E (outcomeOf ls b k rep c) = ap (λ (x : Came). x .outcome) (d .outcome) ∙ one in
       record {
-        standing = stands m rep rep' (a .standing) (d .kept) f;
+        standing = stands (limitsIn (wayIn strict m k)) rep rep' (a .standing) (d .kept) f;
         outcome = f;
+        levels = ap (λ (x : Came). x .levels) (d .outcome) ∙ two;
         taken = d .taken;
-        words = subst (λ (y : Top). _≡_ {A = Words} (record { board = b'; book = k'; run = q }) (performW m ls (rule E (topEntry ls b y)) (record { board = b; book = k; run = taking c y }))) e (ap (λ (y : Came). y .words) (d .outcome));
+        words = subst (λ (y : Top). _≡_ {A = Words} (record { board = b'; book = k'; run = q }) (performW (wayIn strict m k) ls (rule E (topEntry ls b y)) (record { board = b; book = k; run = taking c y }))) e (ap (λ (y : Came). y .words) (d .outcome));
         room = subst (λ (y : Top). x' ≡ judgedRoom m s b k (taking c y) y (room rep t l r w v)) e (p .1);
       }

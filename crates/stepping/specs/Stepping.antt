@@ -1,6 +1,6 @@
 -- One step: which outcome of the definition's run stands in the words before and after it, and what it asks. Assumes nothing: these are definitions.
 use mathlib.Core.Path.{_≡_}
-use mathlib.Core.Bool.{true}
+use mathlib.Core.Bool.{Bool, true}
 use mathlib.Core.List.{List, [], _∷_}
 use Prim.Native.Nat.{ℕ, _+_, _*_, _≤_, _<_}
 use lib.ListN.{length}
@@ -16,15 +16,15 @@ use Rattle.sheet.specs.Rows.{rows, Ended}
 use Rattle.sheet.specs.Form.{IsPart}
 use Rattle.judgment.specs.Solutions.{value}
 use Rattle.judgment.specs.Board.{Entry, tvar, var, sub, inf, chk, infApp}
-use Rattle.judgment.specs.Chain.{stepO}
+use Rattle.judgment.specs.Chain.{stepO, stepL}
 use Rattle.judgment.specs.Rules.{rule}
-use Rattle.judgment.specs.Result.{limitsWith}
+use Rattle.judgment.specs.Result.{limitsIn}
 use Rattle.judgment.specs.Good.{StateOK}
 use Rattle.board.specs.declared.Top.{Top}
 use Rattle.board.specs.Board.{entryOf, entriesOf, topOf}
-use Rattle.book.specs.Book.{sols}
+use Rattle.book.specs.Book.{sols, levelsOf}
 use Rattle.operations.specs.declared.Run.{Run}
-use Rattle.operations.specs.State.{outcomeOf, WellFormed, going, performW}
+use Rattle.operations.specs.State.{outcomeOf, WellFormed, going, performW, wayIn}
 use Rattle.stepping.specs.declared.Counters.{Counters}
 use Rattle.stepping.specs.declared.Kept.{Kept}
 use Rattle.subtyping.specs.Subtyping.{Sound}
@@ -45,8 +45,8 @@ joined n k = record {
 abbrev pub countersOf : Run → Counters
 countersOf r = record { taken = r .taken; fresh = r .fresh; entries = r .board .entries; nodes = r .board .nodes }
 
-abbrev pub keptOf : Run → ℕ → Kept
-keptOf r m = record { book = r .book; halt = r .halt; limit = m }
+abbrev pub keptOf : Run → ℕ → Bool → Kept
+keptOf r m strict = record { book = r .book; halt = r .halt; limit = m; strict = strict }
 
 -- ---- what a step asks
 -- the rows of a sheet that is taken
@@ -96,13 +96,14 @@ pub record Standing (s b k : List ℕ) (c : Run) : Type 0 where
 abbrev pub taking : Run → Top → Run
 taking c o = record { taken = c .taken + 1; fresh = c .fresh; board = o .rest; book = c .book; halt = c .halt }
 
--- One step of the definition, from the words before to those after; and every word after it: of board and book as the rule's operations leave them, of the report and the room
+-- One step of the definition, by the strict call or the first, from the words before to those after; and every word after it: of board and book as the rule's operations leave them, of the report and the room
 -- (x and x' hold them before and after) as the taken entry has it.
-pub record Stepping (m : ℕ) (s b k : List ℕ) (c : Run) (x : Room) (b' k' : List ℕ) (q : Run) (x' : Room) : Type 0 where
+pub record Stepping (strict : Bool) (m : ℕ) (s b k : List ℕ) (c : Run) (x : Room) (b' k' : List ℕ) (q : Run) (x' : Room) : Type 0 where
   pub standing : Standing s b' k' q
-  pub outcome : outcomeOf (rows s) b' k' (x' .report) q ≡ stepO (limitsWith m) (envOn s) (outcomeOf (rows s) b k (x .report) c)
+  pub outcome : outcomeOf (rows s) b' k' (x' .report) q ≡ stepO (limitsIn (wayIn strict m k)) (envOn s) (outcomeOf (rows s) b k (x .report) c)
+  pub levels : levelsOf k' ≡ stepL (limitsIn (wayIn strict m k)) (envOn s) (outcomeOf (rows s) b k (x .report) c) (levelsOf k)
   pub taken : q .taken ≡ c .taken + 1
-  pub words : record { board = b'; book = k'; run = q } ≡ performW m (rows s) (rule (envOn s) (topEntry (rows s) b (topOf b (c .board)))) (record { board = b; book = k; run = taking c (topOf b (c .board)) })
+  pub words : record { board = b'; book = k'; run = q } ≡ performW (wayIn strict m k) (rows s) (rule (envOn s) (topEntry (rows s) b (topOf b (c .board)))) (record { board = b; book = k; run = taking c (topOf b (c .board)) })
   pub room : x' ≡ judgedRoom m s b k (taking c (topOf b (c .board))) (topOf b (c .board)) x
 
 pub record StepAsk (m : ℕ) (s b k rep : List ℕ) (c : Run) (t l r w v : List ℕ) : Type 0 where

@@ -2,7 +2,7 @@
 ghost use mathlib.Core.Path.{_≡_};
 ghost use Rattle.sheet.specs.Rows.{rows};
 ghost use Rattle.judgment.specs.Rules.{rule};
-ghost use Rattle.operations.specs.State.{Does};
+ghost use Rattle.operations.specs.State.{Does, wayIn};
 ghost use Rattle.applying.specs.Applying.{envOn};
 ghost use Rattle.stepping.specs.Rooms.{room, judgedRoom};
 ghost use Rattle.stepping.specs.Stepping.{topEntry, JudgeAsk, Stepping, StepAsk, joined, countersOf, keptOf};
@@ -26,11 +26,12 @@ pub struct Counters {
     pub nodes: usize,
 }
 
-// What a run has beside its counters, and the nodes that it writes out at most.
+// What a run has beside its counters, the nodes that it writes out at most, and whether the strict call began it.
 struct Kept {
     book: Book,
     halt: Halt,
     limit: usize,
+    strict: bool,
 }
 
 struct Stepped {
@@ -47,6 +48,7 @@ fn solve_judgment(
     o: Top,
     s: &[u64],
     limit: usize,
+    strict: bool,
     t: &mut [u32],
     l: &mut [u32],
     r: &mut [u32],
@@ -54,14 +56,14 @@ fn solve_judgment(
     v: &mut [usize],
 ) -> Run
     requires { ⌜ JudgeAsk limit (now s) (now board) (now book) (now report) c o (now t) (now l) (now r) (now w) (now v) ⌝ }
-    ensures { λ q. ⌜ Does limit (rows (now (s .entry))) (now (board .entry)) (now (book .entry)) (now (report .entry)) c (rule (envOn (now (s .entry))) (topEntry (rows (now (s .entry))) (now (board .entry)) o)) (now (board .exit)) (now (book .exit)) (now (report .exit)) q × (room (now (report .exit)) (now (t .exit)) (now (l .exit)) (now (r .exit)) (now (w .exit)) (now (v .exit)) ≡ judgedRoom limit (now (s .entry)) (now (board .entry)) (now (book .entry)) c o (room (now (report .entry)) (now (t .entry)) (now (l .entry)) (now (r .entry)) (now (w .entry)) (now (v .entry)))) ⌝ }
+    ensures { λ q. ⌜ Does (wayIn strict limit (now (book .entry))) (rows (now (s .entry))) (now (board .entry)) (now (book .entry)) (now (report .entry)) c (rule (envOn (now (s .entry))) (topEntry (rows (now (s .entry))) (now (board .entry)) o)) (now (board .exit)) (now (book .exit)) (now (report .exit)) q × (room (now (report .exit)) (now (t .exit)) (now (l .exit)) (now (r .exit)) (now (w .exit)) (now (v .exit)) ≡ judgedRoom limit (now (s .entry)) (now (board .entry)) (now (book .entry)) c o (room (now (report .entry)) (now (t .entry)) (now (l .entry)) (now (r .entry)) (now (w .entry)) (now (v .entry)))) ⌝ }
 {
     let kind = o.kind;
     let line = o.number;
     let at = o.at;
     let n = o.left;
     if kind == 3 {
-        return solve_subtype(board, book, report, c, at, n, o.right, limit);
+        return solve_subtype(board, book, report, c, at, n, o.right, limit, strict);
     }
     if kind == 4 {
         copy_nodes(t, 0, board, at, n);
@@ -69,7 +71,7 @@ fn solve_judgment(
     }
     if kind == 5 {
         copy_nodes(t, 0, board, at, n);
-        return solve_checking(board, c, s, line, t, n, l);
+        return solve_checking(board, book, c, s, line, t, n, l);
     }
     if kind == 6 {
         return solve_inf_app(board, book, report, c, line, at, n, o.right, limit);
@@ -107,12 +109,17 @@ fn counters_of(run: Run) -> Counters
     }
 }
 
-fn kept_of(run: Run, limit: usize) -> Kept
-    ensures { λ r. ⌜ r ≡ keptOf run limit ⌝ }
+fn kept_of(run: Run, limit: usize, strict: bool) -> Kept
+    ensures { λ r. ⌜ r ≡ keptOf run limit strict ⌝ }
 {
     let book = run.book;
     let halt = run.halt;
-    Kept { book, halt, limit }
+    Kept {
+        book,
+        halt,
+        limit,
+        strict,
+    }
 }
 
 // One step: takes the newest entry. The slices have one lifetime here and in the two functions below, so that a proof by hand has one token for them all.
@@ -130,7 +137,7 @@ fn step_apart<'a>(
     v: &'a mut [usize],
 ) -> Stepped
     requires { ⌜ StepAsk (kept .limit) (now s) (now board) (now book) (now report) (joined c kept) (now t) (now l) (now r) (now w) (now v) ⌝ }
-    ensures { λ q. ⌜ Stepping (kept .limit) (now (s .entry)) (now (board .entry)) (now (book .entry)) (joined c kept) (room (now (report .entry)) (now (t .entry)) (now (l .entry)) (now (r .entry)) (now (w .entry)) (now (v .entry))) (now (board .exit)) (now (book .exit)) (joined (q .counters) (q .kept)) (room (now (report .exit)) (now (t .exit)) (now (l .exit)) (now (r .exit)) (now (w .exit)) (now (v .exit))) ⌝ }
+    ensures { λ q. ⌜ Stepping (kept .strict) (kept .limit) (now (s .entry)) (now (board .entry)) (now (book .entry)) (joined c kept) (room (now (report .entry)) (now (t .entry)) (now (l .entry)) (now (r .entry)) (now (w .entry)) (now (v .entry))) (now (board .exit)) (now (book .exit)) (joined (q .counters) (q .kept)) (room (now (report .exit)) (now (t .exit)) (now (l .exit)) (now (r .exit)) (now (w .exit)) (now (v .exit))) ⌝ }
 {
     let b = Board {
         entries: c.entries,
@@ -147,10 +154,24 @@ fn step_apart<'a>(
         book: solved,
         halt,
     };
-    let q = solve_judgment(board, book, report, taken, o, s, kept.limit, t, l, r, w, v);
+    let q = solve_judgment(
+        board,
+        book,
+        report,
+        taken,
+        o,
+        s,
+        kept.limit,
+        kept.strict,
+        t,
+        l,
+        r,
+        w,
+        v,
+    );
     Stepped {
         counters: counters_of(q),
-        kept: kept_of(q, kept.limit),
+        kept: kept_of(q, kept.limit, kept.strict),
     }
 }
 
@@ -169,7 +190,7 @@ fn step_lent<'c, 'a>(
     v: &'a mut [usize],
 ) -> Kept
     requires { ⌜ StepAsk (kept .limit) (now s) (now board) (now book) (now report) (joined (now c) kept) (now t) (now l) (now r) (now w) (now v) ⌝ }
-    ensures { λ q. ⌜ Stepping (kept .limit) (now (s .entry)) (now (board .entry)) (now (book .entry)) (joined (now (c .entry)) kept) (room (now (report .entry)) (now (t .entry)) (now (l .entry)) (now (r .entry)) (now (w .entry)) (now (v .entry))) (now (board .exit)) (now (book .exit)) (joined (now (c .exit)) q) (room (now (report .exit)) (now (t .exit)) (now (l .exit)) (now (r .exit)) (now (w .exit)) (now (v .exit))) ⌝ }
+    ensures { λ q. ⌜ Stepping (kept .strict) (kept .limit) (now (s .entry)) (now (board .entry)) (now (book .entry)) (joined (now (c .entry)) kept) (room (now (report .entry)) (now (t .entry)) (now (l .entry)) (now (r .entry)) (now (w .entry)) (now (v .entry))) (now (board .exit)) (now (book .exit)) (joined (now (c .exit)) q) (room (now (report .exit)) (now (t .exit)) (now (l .exit)) (now (r .exit)) (now (w .exit)) (now (v .exit))) ⌝ }
 {
     let q = step_apart(*c, kept, board, book, report, s, t, l, r, w, v);
     *c = q.counters;
@@ -191,7 +212,7 @@ fn lend_step<'a>(
     v: &'a mut [usize],
 ) -> Stepped
     requires { ⌜ StepAsk (kept .limit) (now s) (now board) (now book) (now report) (joined c kept) (now t) (now l) (now r) (now w) (now v) ⌝ }
-    ensures { λ q. ⌜ Stepping (kept .limit) (now (s .entry)) (now (board .entry)) (now (book .entry)) (joined c kept) (room (now (report .entry)) (now (t .entry)) (now (l .entry)) (now (r .entry)) (now (w .entry)) (now (v .entry))) (now (board .exit)) (now (book .exit)) (joined (q .counters) (q .kept)) (room (now (report .exit)) (now (t .exit)) (now (l .exit)) (now (r .exit)) (now (w .exit)) (now (v .exit))) ⌝ }
+    ensures { λ q. ⌜ Stepping (kept .strict) (kept .limit) (now (s .entry)) (now (board .entry)) (now (book .entry)) (joined c kept) (room (now (report .entry)) (now (t .entry)) (now (l .entry)) (now (r .entry)) (now (w .entry)) (now (v .entry))) (now (board .exit)) (now (book .exit)) (joined (q .counters) (q .kept)) (room (now (report .exit)) (now (t .exit)) (now (l .exit)) (now (r .exit)) (now (w .exit)) (now (v .exit))) ⌝ }
 {
     let mut mine = c;
     let k = step_lent(&mut mine, kept, board, book, report, s, t, l, r, w, v);
@@ -201,7 +222,7 @@ fn lend_step<'a>(
     }
 }
 
-// One step of a run, its counters lent.
+// One step of a run, by the strict call or the first, its counters lent.
 pub fn solve_step(
     board: &mut [u32],
     book: &mut [u32],
@@ -209,6 +230,7 @@ pub fn solve_step(
     c: Run,
     s: &[u64],
     limit: usize,
+    strict: bool,
     t: &mut [u32],
     l: &mut [u32],
     r: &mut [u32],
@@ -216,10 +238,10 @@ pub fn solve_step(
     v: &mut [usize],
 ) -> Run
     requires { ⌜ StepAsk limit (now s) (now board) (now book) (now report) c (now t) (now l) (now r) (now w) (now v) ⌝ }
-    ensures { λ q. ⌜ Stepping limit (now (s .entry)) (now (board .entry)) (now (book .entry)) c (room (now (report .entry)) (now (t .entry)) (now (l .entry)) (now (r .entry)) (now (w .entry)) (now (v .entry))) (now (board .exit)) (now (book .exit)) q (room (now (report .exit)) (now (t .exit)) (now (l .exit)) (now (r .exit)) (now (w .exit)) (now (v .exit))) ⌝ }
+    ensures { λ q. ⌜ Stepping strict limit (now (s .entry)) (now (board .entry)) (now (book .entry)) c (room (now (report .entry)) (now (t .entry)) (now (l .entry)) (now (r .entry)) (now (w .entry)) (now (v .entry))) (now (board .exit)) (now (book .exit)) q (room (now (report .exit)) (now (t .exit)) (now (l .exit)) (now (r .exit)) (now (w .exit)) (now (v .exit))) ⌝ }
 {
     let counters = counters_of(c);
-    let kept = kept_of(c, limit);
+    let kept = kept_of(c, limit, strict);
     let q = lend_step(counters, kept, board, book, report, s, t, l, r, w, v);
     let n = q.counters;
     let k = q.kept;

@@ -15,12 +15,13 @@ use Rattle.judgment.specs.declared.TypeError.the-variants.{TypeTooLong}
 use Rattle.judgment.specs.Types.{eqTy}
 use Rattle.judgment.specs.Solutions.{Solutions, writeOut}
 use Rattle.judgment.specs.Board.{Board as Entries, Rule, done, zonk, state}
-use Rattle.judgment.specs.Chain.{performO, zonkO}
-use Rattle.judgment.specs.Result.{limitsWith}
+use Rattle.judgment.specs.Chain.{performO, zonkO, performL}
+use Rattle.judgment.specs.Result.{Way, limitsIn}
 use Rattle.judgment.specs.Rules.{subtype}
 use Rattle.judgment.proofs.TypeLaws.{eqTy-same, eqTy-not}
+use Rattle.judgment.specs.Levels.{Levels}
 use Rattle.board.specs.Board.{entriesOf}
-use Rattle.book.specs.Book.{sols}
+use Rattle.book.specs.Book.{sols, levelsOf}
 use Rattle.operations.specs.declared.Halt.{Halt}
 use Rattle.operations.specs.declared.Run.{Run}
 use Rattle.operations.specs.State.{outcomeBy, stateOf, zonkW, performW, Does, going, stopped, refusedRun, Zonks}
@@ -35,23 +36,29 @@ use Rattle.subtyping.specs.Subtyping.{differReport, subtypeReport, Subty
 use Rattle.subtyping.proofs.Outs.{writtenSub, same-done}
 
 -- ---- a write-out that is judged and not made
-fits-out : (w : ℕ) (h : Halt) → going h ≡ true → (rep : List ℕ) (Γ : Entries) (σ : Solutions) (n : ℕ) (t : Ty) (f : Ty → Rule) → length (writeOut σ t) ≤ w
-    → performO (limitsWith w) (f (writeOut σ t)) (outcomeBy h rep (state Γ σ n)) ≡ performO (limitsWith w) (zonk t f) (outcomeBy h rep (state Γ σ n))
+fits-out : (w : Way) (h : Halt) → going h ≡ true → (rep : List ℕ) (Γ : Entries) (σ : Solutions) (n : ℕ) (t : Ty) (f : Ty → Rule) → length (writeOut σ t) ≤ w .written
+    → performO (limitsIn w) (f (writeOut σ t)) (outcomeBy h rep (state Γ σ n)) ≡ performO (limitsIn w) (zonk t f) (outcomeBy h rep (state Γ σ n))
 unfolding zonkO
-fits-out w h g rep Γ σ n t f few = rw (g, le-leb (length (writeOut σ t)) w few) refl
+fits-out w h g rep Γ σ n t f few = rw (g, le-leb (length (writeOut σ t)) (w .written) few) refl
 
-fits-words : (w : ℕ) (ls : List Triple) (b k : List ℕ) (c : Run) → going (c .halt) ≡ true → (t : Ty) (f : Ty → Rule) → length (writeOut (sols k) t) ≤ w
+fits-levels : (w : Way) (h : Halt) → going h ≡ true → (rep : List ℕ) (Γ : Entries) (σ : Solutions) (n : ℕ) (t : Ty) (f : Ty → Rule) (v : Levels) → length (writeOut σ t) ≤ w .written
+    → performL (limitsIn w) (f (writeOut σ t)) (outcomeBy h rep (state Γ σ n)) v ≡ performL (limitsIn w) (zonk t f) (outcomeBy h rep (state Γ σ n)) v
+unfolding zonkO
+fits-levels w h g rep Γ σ n t f v few = rw (g, le-leb (length (writeOut σ t)) (w .written) few) refl
+
+fits-words : (w : Way) (ls : List Triple) (b k : List ℕ) (c : Run) → going (c .halt) ≡ true → (t : Ty) (f : Ty → Rule) → length (writeOut (sols k) t) ≤ w .written
     → performW w ls (f (writeOut (sols k) t)) (record { board = b; book = k; run = c }) ≡ performW w ls (zonk t f) (record { board = b; book = k; run = c })
 unfolding zonkW
-fits-words w ls b k c g t f few = rw (g, le-leb (length (writeOut (sols k) t)) w few) refl
+fits-words w ls b k c g t f few = rw (g, le-leb (length (writeOut (sols k) t)) (w .written) few) refl
 
 -- one that fits, and then the rest with what it would have written
-zonk-fits : {w : ℕ} {ls : List Triple} {b k rep : List ℕ} {c : Run} {b' k' rep' : List ℕ} {d : Run} {t : Ty} {f : Ty → Rule} → going (c .halt) ≡ true → length (writeOut (sols k) t) ≤ w
+zonk-fits : {w : Way} {ls : List Triple} {b k rep : List ℕ} {c : Run} {b' k' rep' : List ℕ} {d : Run} {t : Ty} {f : Ty → Rule} → going (c .halt) ≡ true → length (writeOut (sols k) t) ≤ w .written
     → Does w ls b k rep c (f (writeOut (sols k) t)) b' k' rep' d → Does w ls b k rep c (zonk t f) b' k' rep' d
 zonk-fits {w} {ls} {b} {k} {rep} {c} {t = t} {f = f} g few h = record {
   kept = h .kept;
   taken = h .taken;
-  outcome = h .outcome ∙ came (fits-out w (c .halt) g rep (entriesOf ls b (c .board .entries)) (sols k) (c .fresh) t f few) (fits-words w ls b k c g t f few);
+  outcome = h .outcome ∙ came (fits-out w (c .halt) g rep (entriesOf ls b (c .board .entries)) (sols k) (c .fresh) t f few) (fits-words w ls b k c g t f few)
+      (fits-levels w (c .halt) g rep (entriesOf ls b (c .board .entries)) (sols k) (c .fresh) t f (levelsOf k) few);
 }
 
 module _ {b k rep : List ℕ} {c : Run} {at ln rn w : ℕ} (p : SubtypeAsk b k rep c at ln rn w) where
@@ -66,6 +73,9 @@ module _ {b k rep : List ℕ} {c : Run} {at ln rn w : ℕ} (p : SubtypeAsk b k r
 
   abbrev R : Ty
   R = writeOut (sols k) r
+
+  abbrev way : (ℕ → Ty → Bool) → Way
+  way z = record { written = w; scope = z }
 
   -- what is compared
   abbrev sides : Rest
@@ -90,36 +100,36 @@ module _ {b k rep : List ℕ} {c : Run} {at ln rn w : ℕ} (p : SubtypeAsk b k r
 
   -- what Sub leaves: the rule done, and every word of the report
   abbrev Leaves : List ℕ → List ℕ → List ℕ → Run → Type 0
-  Leaves b' k' rep' o = ((ls : List Triple) → Does w ls b k rep c (subtype l r) b' k' rep' o) × (rep' ≡ subtypeReport rep c L R w)
+  Leaves b' k' rep' o = ((z : ℕ → Ty → Bool) (ls : List Triple) → Does (way z) ls b k rep c (subtype l r) b' k' rep' o) × (rep' ≡ subtypeReport rep c L R w)
 
   -- the same, and not more nodes than the limit: the rule is done
-  same-does : L ≡ R → length L ≤ w → (ls : List Triple) (g : Bool) → going (c .halt) ≡ g → Does w ls b k rep c (subtype l r) b k rep c
+  same-does : L ≡ R → length L ≤ w → (z : ℕ → Ty → Bool) (ls : List Triple) (g : Bool) → going (c .halt) ≡ g → Does (way z) ls b k rep c (subtype l r) b k rep c
   unfolding subtype
-  same-does same few ls true g =
+  same-does same few z ls true g =
       let few₂ : length R ≤ w = omega (arith, ap {B = ℕ} length same) in
       zonk-fits {t = l} {f = λ (x : Ty). zonk r (writtenSub x)} g few (zonk-fits {t = r} {f = writtenSub L} g few₂ (does-as (λ _. sym (same-done L R (ap (eqTy L) (sym same) ∙ eqTy-same L))) (done-does (p .formed))))
-  same-does same few ls false g = stays-does (p .formed) w ls rep g (subtype l r)
+  same-does same few z ls false g = stays-does (p .formed) (way z) ls rep g (subtype l r)
 
   -- more nodes than the limit
   stops : w < length L → going (c .halt) ≡ true → Zonks k rep c l 0 w rep (record { run = stopped c TypeTooLong; nodes = 0 })
   unfolding zonkO zonkW nodesAt
   stops many g = record {
-    does = λ ls b f. record {
+    does = λ z ls b f. record {
       kept = record { board = f .board; book = f .book; numbers = f .numbers; unmade = f .unmade };
       taken = refl;
-      outcome = came (refused-is TypeTooLong rep (stateOf ls b k c) ∙ rw (g, lt-leb (length L) w many)) (rw (g, lt-leb (length L) w many));
+      outcome = came (refused-is TypeTooLong rep (stateOf ls b k c) ∙ rw (g, lt-leb (length L) w many)) (rw (g, lt-leb (length L) w many)) refl;
     };
     nodes = λ z. absurd (true≢false (sym z));
     within = omega arith;
   }
 
-  over-does : {d : Run} → w < length L → d ≡ refusedRun c TypeTooLong → (ls : List Triple) (g : Bool) → going (c .halt) ≡ g → Does w ls b k rep c (subtype l r) b k rep d
+  over-does : {d : Run} → w < length L → d ≡ refusedRun c TypeTooLong → (z : ℕ → Ty → Bool) (ls : List Triple) (g : Bool) → going (c .halt) ≡ g → Does (way z) ls b k rep c (subtype l r) b k rep d
   unfolding subtype
-  over-does {d} many u ls true g =
+  over-does {d} many u z ls true g =
       let v : d ≡ stopped c TypeTooLong = u ∙ rw g in
       let Z = stops many g in
-      rw v (zonk-then {f = λ (x : Ty). zonk r (writtenSub x)} (p .formed) Z (stays-does (Z .does ls b (p .formed) .kept) w ls rep refl (zonk r (writtenSub (nodesAt rep (2 * 0) 0)))))
-  over-does {d} many u ls false g = let v : d ≡ c = u ∙ rw g in rw v (stays-does (p .formed) w ls rep g (subtype l r))
+      rw v (zonk-then {f = λ (x : Ty). zonk r (writtenSub x)} (p .formed) Z (stays-does (Z .does z ls b (p .formed) .kept) (way z) ls rep refl (zonk r (writtenSub (nodesAt rep (2 * 0) 0)))))
+  over-does {d} many u z ls false g = let v : d ≡ c = u ∙ rw g in rw v (stays-does (p .formed) (way z) ls rep g (subtype l r))
 
   -- no node differs, up to one more than the limit: nothing is written
   nothing-written : take (suc w) L ≡ take (suc w) R → rep ≡ subtypeReport rep c L R w
@@ -132,10 +142,10 @@ module _ {b k rep : List ℕ} {c : Run} {at ln rn w : ℕ} (p : SubtypeAsk b k r
         (ap₂ (λ (s t : Ty). verdict (writeOut (sols k) s) (writeOut (sols k) t) w (passed b b k sides)) (sym left-is) (sym right-is) ∙ sym (q ∙ ap (compared b b k) e) ∙ u)
 
     pub same-leaves : {d : Rest} → o ≡ Same d → Leaves b k rep c
-    same-leaves u = let s = said u in (λ ls. same-does (s .0) (s .1) ls (going (c .halt)) refl, nothing-written (ap (λ (t : Ty). take (suc w) t) (s .0)))
+    same-leaves u = let s = said u in (λ z ls. same-does (s .0) (s .1) z ls (going (c .halt)) refl, nothing-written (ap (λ (t : Ty). take (suc w) t) (s .0)))
 
     pub over-leaves : {d : Run} → o ≡ Over → d ≡ refusedRun c TypeTooLong → Leaves b k rep d
-    over-leaves u v = let s = said u in (λ ls. over-does (s .1) v ls (going (c .halt)) refl, nothing-written (s .0))
+    over-leaves u v = let s = said u in (λ z ls. over-does (s .1) v z ls (going (c .halt)) refl, nothing-written (s .0))
 
     -- a node differs: the types do
     pub differ-asks : o ≡ Differ → L ≢ R

@@ -17,12 +17,13 @@ use Rattle.judgment.specs.Board.{Rule, done, solve, look, before}
 use Rattle.judgment.specs.Board.{Board as Entries}
 use Rattle.judgment.specs.Rules.{solveMonotype, instantiateBy, instantiateFrom, instantiate}
 use Rattle.judgment.specs.Good.{Free}
+use Rattle.judgment.specs.Result.{Way}
 use Rattle.board.specs.Board.{entriesOf}
 use Rattle.book.specs.Book.{sols}
 use Rattle.operations.specs.declared.Run.{Run}
-use Rattle.operations.specs.State.{Does, Solves}
+use Rattle.operations.specs.State.{Does, Made, Solves}
 use Rattle.operations.proofs.Then.{does-as, look-then}
-use Rattle.subtyping.specs.Subtyping.{shapeOf, sideOf, Made, splitBy, monoReport, instReport, SplitAsk, MonoAsk, InstAsk}
+use Rattle.subtyping.specs.Subtyping.{shapeOf, sideOf, splitBy, monoReport, instReport, SplitAsk, MonoAsk, InstAsk}
 use Rattle.subtyping.proofs.Shapes.{arrow-view, app-view, unknown-view, other-view, unknown-is}
 
 -- ---- the rule by its view
@@ -59,7 +60,7 @@ module _ {b k rep : List ℕ} {c : Run} {x at n : ℕ} (a : InstAsk b k rep c x 
   pub mono-asks : MonoAsk k rep c x at n
   mono-asks = record { book = a .formed .book; numbers = a .formed .numbers; goes = a .goes; within = a .within; some = a .some; few = a .few; solves = a .solves }
 
-  pub split-asks : (kind : ℕ) → (kind ≡ 17 → ⊥) → SplitAsk b k c kind x rep (at + 2) (n - 1)
+  pub split-asks : (kind : ℕ) → (kind ≢ 17) × (kind ≢ 18) → SplitAsk b k c kind x rep (at + 2) (n - 1)
   split-asks kind p = record {
     formed = a .formed;
     pair = p;
@@ -74,10 +75,10 @@ module _ {b k rep : List ℕ} {c : Run} {x at n : ℕ} (a : InstAsk b k rep c x 
   reach-solves e =
       let y : ℕ = getD rep (at + 1) 0 in
       let q = unknown-is rep at n (a .some) e in
-      let m = subst (All (Made (c .fresh))) q (a .made) in
+      let m = subst (All (Made (c .fresh))) q (a .solves .older) in
       let f = subst (All (Free (x ∷ solvedUnknowns (sols k)))) q (a .solves .free) in
       let z : eqb y x ≡ false = ne-eqb y x (λ i. eqb-false x y (f .0 .0) (sym i)) in
-      record { made = m .0 refl; unsolved = f .0 .1; free = ((z, a .solves .unsolved), tt) }
+      record { made = m .0 refl; unsolved = f .0 .1; free = ((z, a .solves .unsolved), tt); older = (λ _. a .solves .made, tt) }
 
   -- ---- the branches of the code, by the shape that it has read
   abbrev T : Ty
@@ -96,7 +97,7 @@ module _ {b k rep : List ℕ} {c : Run} {x at n : ℕ} (a : InstAsk b k rep c x 
     pub by-app : s ≡ 2 → splitBy 15 x (sideOf d) (sideOf d) body ≡ instantiate (sideOf d) x T
     by-app h = inst-app d x T body (app-view rep at n (sym e ∙ h))
 
-    pub by-unknown : s ≡ 4 → {w : ℕ} {ls : List Triple} {b₁ k₁ rep₁ : List ℕ} {c₁ : Run} {o p : Bool} → o ≡ before x y (entriesOf ls b (c .board .entries)) → o ≡ p
+    pub by-unknown : s ≡ 4 → {w : Way} {ls : List Triple} {b₁ k₁ rep₁ : List ℕ} {c₁ : Run} {o p : Bool} → o ≡ before x y (entriesOf ls b (c .board .entries)) → o ≡ p
         → Does w ls b k rep c (cond p (solve y (unknown x) done) (solveMonotype x T)) b₁ k₁ rep₁ c₁ → Does w ls b k rep c (instantiate (sideOf d) x T) b₁ k₁ rep₁ c₁
     by-unknown h f q D =
         does-as (λ _. inst-unknown d x T y (unknown-view rep at n (sym e ∙ h)))

@@ -21,14 +21,15 @@ use Rattle.judgment.specs.Solutions.{Solution, value, writeOut}
 use Rattle.judgment.proofs.TypeLaws.{eqTy-not}
 use Rattle.judgment.proofs.SolutionLaws.{all-written, written-is-free}
 use Rattle.judgment.proofs.WholeTypes.{written-whole}
+use Rattle.judgment.specs.Result.{Way}
 use Rattle.book.specs.Book.{sols}
 use Rattle.operations.specs.declared.Run.{Run}
 use Rattle.operations.specs.declared.Zonked.{Zonked}
-use Rattle.operations.specs.State.{WellFormed, Does, going, zonkRun, zonkWords, ZonkAsk, Zonks}
+use Rattle.operations.specs.State.{WellFormed, Made, Does, going, zonkRun, zonkWords, ZonkAsk, Zonks}
 use Rattle.operations.proofs.Latch.{stays-does}
 use Rattle.operations.proofs.Zonking.{zonk-few, zonk-fresh, zonk-below}
 use Rattle.operations.proofs.Then.{does-as, zonk-then, alive, grows}
-use Rattle.subtyping.specs.Subtyping.{Made, shapesReport, twiceReport, Written, Sound, SubAsk, SubtypeAsk}
+use Rattle.subtyping.specs.Subtyping.{shapesReport, twiceReport, Written, Sound, SubAsk, SubtypeAsk}
 
 some-node : (t : Ty) → Whole nodeParts t 1 → 0 < length t
 some-node [] h = absurd (let z : 1 ≡ 0 = h in omega arith)
@@ -55,6 +56,13 @@ module _ {b k rep : List ℕ} {c : Run} {at fn tn w : ℕ} (p : SubtypeAsk b k r
   abbrev t : Ty
   t = nodesAt b (at + 2 * fn) tn
 
+  -- whatever is in scope
+  abbrev way : (ℕ → Ty → Bool) → Way
+  way g = record { written = w; scope = g }
+
+  abbrev all : ℕ → Ty → Bool
+  all = λ x s. true
+
   -- both write-outs fit
   pub first-asks : ZonkAsk k c b at fn rep 0 w
   first-asks =
@@ -63,8 +71,8 @@ module _ {b k rep : List ℕ} {c : Run} {at fn tn w : ℕ} (p : SubtypeAsk b k r
       record { book = p .formed .book; within = omega arith; room = omega arith }
 
   module _ {rep₁ : List ℕ} {z : Zonked} (e₁ : z ≡ zonkRun c (writeOut (sols k) f) 0 w) (Z₁ : Zonks k rep c f 0 w rep₁ z) where
-    D₁ : (ls : List Triple) → Does w ls b k rep c (zonk f (λ _. done)) b k rep₁ (z .run)
-    D₁ ls = Z₁ .does ls b (p .formed)
+    D₁ : (g : ℕ → Ty → Bool) (ls : List Triple) → Does (way g) ls b k rep c (zonk f (λ _. done)) b k rep₁ (z .run)
+    D₁ g ls = Z₁ .does g ls b (p .formed)
 
     pub few₁ : z .nodes ≤ w
     few₁ = zonk-few c (writeOut (sols k) f) 0 w e₁
@@ -74,7 +82,7 @@ module _ {b k rep : List ℕ} {c : Run} {at fn tn w : ℕ} (p : SubtypeAsk b k r
         let x = p .within in
         let r = p .report in
         let s = few₁ in
-        record { book = D₁ [] .kept .book; within = omega arith; room = omega arith }
+        record { book = D₁ all [] .kept .book; within = omega arith; room = omega arith }
 
     module _ {rep₂ : List ℕ} {y : Zonked} (e₂ : y ≡ zonkRun (z .run) (writeOut (sols k) t) (z .nodes) w)
         (q : rep₂ ≡ zonkWords rep₁ (z .run) (writeOut (sols k) t) (z .nodes) w) (Z₂ : Zonks k rep₁ (z .run) t (z .nodes) w rep₂ y) where
@@ -84,8 +92,8 @@ module _ {b k rep : List ℕ} {c : Run} {at fn tn w : ℕ} (p : SubtypeAsk b k r
       abbrev T : Ty
       T = nodesAt rep₂ (2 * z .nodes) (y .nodes)
 
-      D₂ : (ls : List Triple) → Does w ls b k rep₁ (z .run) (zonk t (λ _. done)) b k rep₂ (y .run)
-      D₂ ls = Z₂ .does ls b (D₁ ls .kept)
+      D₂ : (g : ℕ → Ty → Bool) (ls : List Triple) → Does (way g) ls b k rep₁ (z .run) (zonk t (λ _. done)) b k rep₂ (y .run)
+      D₂ g ls = Z₂ .does g ls b (D₁ g ls .kept)
 
       -- the second write-out leaves the first type
       first-stays : F ≡ nodesAt rep₁ 0 (z .nodes)
@@ -93,20 +101,20 @@ module _ {b k rep : List ℕ} {c : Run} {at fn tn w : ℕ} (p : SubtypeAsk b k r
 
       -- where the run goes on, both types are written out
       outs : going (y .run .halt) ≡ true → (F ≡ writeOut (sols k) f) × (T ≡ writeOut (sols k) t)
-      outs g = (first-stays ∙ Z₁ .nodes (alive (D₂ []) g), Z₂ .nodes g)
+      outs g = (first-stays ∙ Z₁ .nodes (alive (D₂ all []) g), Z₂ .nodes g)
 
       pub both-asks : going (y .run .halt) ≡ true → SubAsk b k rep₂ (y .run) (z .nodes) (y .nodes)
       both-asks g =
-          let later : c .fresh ≤ y .run .fresh = let m = grows (D₁ []) in let n = grows (D₂ []) in omega arith in
+          let later : c .fresh ≤ y .run .fresh = let m = grows (D₁ all []) in let n = grows (D₂ all []) in omega arith in
           let lim = p .limit in
           let l₁ : length F ≤ mostNodes = let s = few₁ in omega (arith, length-nodesAt rep₂ 0 (z .nodes)) in
           let l₂ : length T ≤ mostNodes = let s = zonk-few (z .run) (writeOut (sols k) t) (z .nodes) w e₂ in omega (arith, length-nodesAt rep₂ (2 * z .nodes) (y .nodes)) in
           record {
-            formed = D₂ [] .kept;
+            formed = D₂ all [] .kept;
             goes = g;
             within = Z₂ .within;
-            left = written-out (D₂ [] .kept) (c .fresh) later (p .solutions) f F (p .left) (outs g .0) l₁;
-            right = written-out (D₂ [] .kept) (c .fresh) later (p .solutions) t T (p .right) (outs g .1) l₂;
+            left = written-out (D₂ all [] .kept) (c .fresh) later (p .solutions) f F (p .left) (outs g .0) l₁;
+            right = written-out (D₂ all [] .kept) (c .fresh) later (p .solutions) t T (p .right) (outs g .1) l₂;
           }
 
       -- types that differ stand in the report as types that differ
@@ -114,14 +122,14 @@ module _ {b k rep : List ℕ} {c : Run} {at fn tn w : ℕ} (p : SubtypeAsk b k r
       out-differ g h = eqTy-not F T (λ e. h (sym (outs g .0) ∙ e ∙ outs g .1))
 
       -- the rest of the rule, with the two types as they stand in the report
-      pub twice-then : (ls : List Triple) (G : Ty → Ty → Rule) {b' k' rep' : List ℕ} {r : Run} → Does w ls b k rep₂ (y .run) (G F T) b' k' rep' r
-          → Does w ls b k rep c (zonk f (λ (x : Ty). zonk t (G x))) b' k' rep' r
-      twice-then ls G d =
-          zonk-then {f = λ (x : Ty). zonk t (G x)} (p .formed) Z₁ (zonk-then {f = G (nodesAt rep₁ 0 (z .nodes))} (D₁ ls .kept) Z₂ (does-as (λ _. ap (λ (x : Ty). G x T) first-stays) d))
+      pub twice-then : (g : ℕ → Ty → Bool) (ls : List Triple) (G : Ty → Ty → Rule) {b' k' rep' : List ℕ} {r : Run} → Does (way g) ls b k rep₂ (y .run) (G F T) b' k' rep' r
+          → Does (way g) ls b k rep c (zonk f (λ (x : Ty). zonk t (G x))) b' k' rep' r
+      twice-then g ls G d =
+          zonk-then {f = λ (x : Ty). zonk t (G x)} (p .formed) Z₁ (zonk-then {f = G (nodesAt rep₁ 0 (z .nodes))} (D₁ g ls .kept) Z₂ (does-as (λ _. ap (λ (x : Ty). G x T) first-stays) d))
 
       -- a run that is refused stays
-      pub twice-stays : (ls : List Triple) (G : Ty → Ty → Rule) → going (y .run .halt) ≡ false → Does w ls b k rep c (zonk f (λ (x : Ty). zonk t (G x))) b k rep₂ (y .run)
-      twice-stays ls G g = twice-then ls G (stays-does (D₂ ls .kept) w ls rep₂ g (G F T))
+      pub twice-stays : (v : ℕ → Ty → Bool) (ls : List Triple) (G : Ty → Ty → Rule) → going (y .run .halt) ≡ false → Does (way v) ls b k rep c (zonk f (λ (x : Ty). zonk t (G x))) b k rep₂ (y .run)
+      twice-stays v ls G g = twice-then v ls G (stays-does (D₂ v ls .kept) (way v) ls rep₂ g (G F T))
 
       -- every word of the report: the write-outs', and then what G makes of them, with the two types as they stand there
       module _ (q₁ : rep₁ ≡ zonkWords rep c (writeOut (sols k) f) 0 w) where

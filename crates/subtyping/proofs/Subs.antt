@@ -92,8 +92,8 @@ module _ {b k rep : List ℕ} {c : Run} (f : WellFormed b k c) (g : going (c .ha
       made = u .made .0 refl;
       unsolved = u .free .0;
       free = both-free x (solvedUnknowns (sols k)) (nodesAt rep at n) (occurs-false x (nodesAt rep at n) o) (w .free);
+      older = w .made;
     };
-    made = w .made;
   }
 
 module _ {b k rep : List ℕ} {c : Run} {l r : ℕ} (a : SubAsk b k rep c l r) where

@@ -12,12 +12,12 @@ use Rattle.nodes.specs.Parts.{Whole}
 use Rattle.nodes.specs.Lists.{All}
 use Rattle.judgment.specs.Types.{unknown, first, rest, View, isArrow, isApp, isForall, isUnknown, isOther, view, eqTy, occurs, isMonotype, substitute}
 use Rattle.judgment.specs.Solutions.{value, solvedUnknowns}
-use Rattle.judgment.specs.Board.{tvar, sub, Rule, done, fresh, push, solve, _>>=_, _>>_}
+use Rattle.judgment.specs.Board.{tvar, sub, splits, Rule, done, fresh, push, solve, _>>=_, _>>_}
 use Rattle.judgment.specs.Rules.{Side, left, right, onSide, mismatch, unknownRight}
 use Rattle.judgment.specs.Good.{Free}
 use Rattle.book.specs.Book.{sols, Booked}
 use Rattle.operations.specs.declared.Run.{Run}
-use Rattle.operations.specs.State.{WellFormed, going, Solves, zonkRun, zonkWords}
+use Rattle.operations.specs.State.{WellFormed, going, Made, Solves, zonkRun, zonkWords}
 
 -- a view as a number: the constants of the code
 abbrev pub shapeOf : View → ℕ
@@ -31,15 +31,11 @@ abbrev pub sideOf : Bool → Side
 sideOf true = left
 sideOf false = right
 
--- every unknown of a type was made
-abbrev pub Made : ℕ → Node → Type 0
-Made n x = kind x ≡ 17 → number x < n
-
--- k solved by a pair of two fresh unknowns, and these compared with the two parts of t
+-- k split: solved by a pair of two fresh unknowns, and these compared with the two parts of t
 abbrev pub splitBy : ℕ → ℕ → Side → Side → Ty → Rule
 splitBy kind k d e t = do
-  a ← fresh
-  b ← fresh
+  a ← fresh (splits k)
+  b ← fresh (splits k)
   solve k (node kind 0 ∷ (unknown a ++ unknown b))
   push (tvar (node 17 a))
   push (tvar (node 17 b))
@@ -130,7 +126,7 @@ subtypeReport rep c l r w = cond (eqTy (take (suc w) l) (take (suc w) r)) rep (d
 -- A pair of kind 13 or 15 for the unsolved x, and a type whose parts are compared.
 pub record SplitAsk (b k : List ℕ) (c : Run) (kind x : ℕ) (t : List ℕ) (at n : ℕ) : Type 0 where
   pub formed : WellFormed b k c
-  pub pair : kind ≢ 17
+  pub pair : (kind ≢ 17) × (kind ≢ 18)
   pub within : at + 2 * n ≤ length t
   pub few : n ≤ mostNodes
   pub known : x < c .fresh
@@ -155,7 +151,6 @@ pub record InstAsk (b k rep : List ℕ) (c : Run) (x at n : ℕ) : Type 0 where
   pub few : n ≤ mostNodes
   pub flat : shapeOf (view (nodesAt rep at n)) ≢ 3
   pub solves : Solves k c x (nodesAt rep at n)
-  pub made : All (Made (c .fresh)) (nodesAt rep at n)
 
 -- A type of a comparison, written out.
 pub record Written (k : List ℕ) (c : Run) (t : Ty) : Type 0 where

@@ -11,22 +11,29 @@ ghost use Rattle.judgment.specs.Types.{view};
 ghost use Rattle.judgment.specs.Solutions.{writeOut};
 ghost use Rattle.judgment.specs.Board.{push as pushRule, done};
 ghost use Rattle.judgment.specs.Rules.{left as leftSide, right as rightSide, onSide, solveMonotype, instantiate as instantiateRule, forallRight, forallLeft, unknownLeft, subtypeBy, subtype as subtypeRule};
+ghost use Rattle.judgment.specs.Result.{Way};
+ghost use Rattle.judgment.specs.Levels.{scopeOf};
+ghost use Rattle.sizes.specs.Sizes.{mostNumbers, bookSize};
 ghost use Rattle.board.specs.Board.{Stacked};
-ghost use Rattle.book.specs.Book.{sols};
-ghost use Rattle.operations.specs.State.{WellFormed, Does, PerformsOnBoard, going};
+ghost use Rattle.book.specs.Book.{sols, levelsOf};
+ghost use Rattle.operations.specs.State.{WellFormed, Does, PerformsOnBoard, going, wayIn, modeOf, Scoped};
 ghost use Rattle.subtyping.specs.Subtyping.{shapeOf, sideOf, splitBy, rightBy, partsBy, openedAt, monoReport, instReport, rightReport, unknownReport, shapesReport, differReport, subtypeReport, SplitAsk, MonoAsk, InstAsk, PartsAsk, OpenAsk, SubAsk, SubtypeAsk};
 use board::before;
 use book::Met;
 use book::Rest;
 use book::compare;
+use book::level;
 use core_types::first_part;
 use core_types::is_monotype;
+use core_types::none_above;
 use core_types::occurs_check;
 use core_types::substitute_type;
 use judgment::TypeError;
 use nodes::move_to_front;
 use operations::Run;
 use operations::fresh_evar;
+use operations::fresh_part;
+use operations::fresh_universal;
 use operations::is_going;
 use operations::push_sub;
 use operations::push_tvar;
@@ -88,7 +95,7 @@ fn push_on(board: &mut [u32], c: Run, left: bool, u: &[u32], t: &[u32], at: usiz
     push_sub(board, c, t, at, n, u, 0, 1)
 }
 
-// Solves x with a pair of two fresh unknowns, and compares these with the parts of a type: the n nodes at word `at` of t.
+// Splits x: solves it with a pair of two fresh unknowns of its level, and compares these with the parts of a type: the n nodes at word `at` of t.
 fn split(
     board: &mut [u32],
     book: &mut [u32],
@@ -102,15 +109,15 @@ fn split(
     n: usize,
 ) -> Run
     requires { ⌜ SplitAsk (now board) (now book) c kind x (now t) at n ⌝ }
-    ensures { λ r. ⌜ ((w : ℕ) (ls : List Triple) (rep : List ℕ) → Does w ls (now (board .entry)) (now (book .entry)) rep c (splitBy kind x (sideOf first) (sideOf second) (nodesAt (now (t .entry)) at n)) (now (board .exit)) (now (book .exit)) rep r) ⌝ }
+    ensures { λ r. ⌜ ((w : Way) (ls : List Triple) (rep : List ℕ) → Scoped w → Does w ls (now (board .entry)) (now (book .entry)) rep c (splitBy kind x (sideOf first) (sideOf second) (nodesAt (now (t .entry)) at n)) (now (board .exit)) (now (book .exit)) rep r) ⌝ }
 {
     let m = first_part(t, at, n);
     let next = at + 2 * m;
     let more = n - m;
     let a = c.fresh;
-    let c1 = fresh_evar(c);
+    let c1 = fresh_part(book, c, x);
     let b = c1.fresh;
-    let c2 = fresh_evar(c1);
+    let c2 = fresh_part(book, c1, x);
     let pair = [kind, 0, 17, a, 17, b];
     let c3 = solve_evar(book, c2, x, &pair, 0, 3);
     let c4 = push_tvar(board, c3, 17, a);
@@ -121,13 +128,36 @@ fn split(
     push_on(board, c6, second, &ub, t, next, more)
 }
 
-// Solves x with the n nodes at word `at` of the report, or refuses if there is a quantifier in them.
-fn solve_monotype(book: &mut [u32], report: &mut [u32], c: Run, x: u32, at: usize, n: usize) -> Run
+// Whether x may have the n nodes at word `at` of the report for its solution: by the strict call no universal in them is numbered above the level of x.
+fn in_scope(book: &[u32], report: &[u32], strict: bool, x: u32, at: usize, n: usize) -> bool
+    requires { ⌜ (bookSize ≤ length (now book)) × (x < mostNumbers) × (at + 2 * n ≤ length (now report)) ⌝ }
+    ensures { λ r. ⌜ r ≡ scopeOf (modeOf strict) (levelsOf (now (book .entry))) x (nodesAt (now (report .entry)) at n) ⌝ }
+{
+    if strict {
+        let m = level(book, x);
+        return none_above(report, at, n, m);
+    }
+    true
+}
+
+// Solves x with the n nodes at word `at` of the report, or refuses if there is a quantifier in them or they are out of scope.
+fn solve_monotype(
+    book: &mut [u32],
+    report: &mut [u32],
+    c: Run,
+    strict: bool,
+    x: u32,
+    at: usize,
+    n: usize,
+) -> Run
     requires { ⌜ MonoAsk (now book) (now report) c x at n ⌝ }
-    ensures { λ r. ⌜ ((w : ℕ) (ls : List Triple) (b : List ℕ) → WellFormed b (now (book .entry)) c → Does w ls b (now (book .entry)) (now (report .entry)) c (solveMonotype x (nodesAt (now (report .entry)) at n)) b (now (book .exit)) (now (report .exit)) r) × (now (report .exit) ≡ monoReport (now (report .entry)) (nodesAt (now (report .entry)) at n)) ⌝ }
+    ensures { λ r. ⌜ ((m : ℕ) (ls : List Triple) (b : List ℕ) → WellFormed b (now (book .entry)) c → Does (wayIn strict m (now (book .entry))) ls b (now (book .entry)) (now (report .entry)) c (solveMonotype x (nodesAt (now (report .entry)) at n)) b (now (book .exit)) (now (report .exit)) r) × (now (report .exit) ≡ monoReport (now (report .entry)) (nodesAt (now (report .entry)) at n)) ⌝ }
 {
     if is_monotype(report, at, n) {
-        return solve_evar(book, c, x, report, at, n);
+        if in_scope(book, report, strict, x, at, n) {
+            return solve_evar(book, c, x, report, at, n);
+        }
+        return refuse(c, TypeError::OutOfScope);
     }
     move_to_front(report, at, n);
     refuse(c, TypeError::InstantiationError(x, n as u32))
@@ -139,13 +169,14 @@ fn instantiate(
     book: &mut [u32],
     report: &mut [u32],
     c: Run,
+    strict: bool,
     left: bool,
     x: u32,
     at: usize,
     n: usize,
 ) -> Run
     requires { ⌜ InstAsk (now board) (now book) (now report) c x at n ⌝ }
-    ensures { λ r. ⌜ ((w : ℕ) (ls : List Triple) → Does w ls (now (board .entry)) (now (book .entry)) (now (report .entry)) c (instantiateRule (sideOf left) x (nodesAt (now (report .entry)) at n)) (now (board .exit)) (now (book .exit)) (now (report .exit)) r) × (now (report .exit) ≡ instReport (now (report .entry)) (nodesAt (now (report .entry)) at n) (view (nodesAt (now (report .entry)) at n))) ⌝ }
+    ensures { λ r. ⌜ ((m : ℕ) (ls : List Triple) → Does (wayIn strict m (now (book .entry))) ls (now (board .entry)) (now (book .entry)) (now (report .entry)) c (instantiateRule (sideOf left) x (nodesAt (now (report .entry)) at n)) (now (board .exit)) (now (book .exit)) (now (report .exit)) r) × (now (report .exit) ≡ instReport (now (report .entry)) (nodesAt (now (report .entry)) at n) (view (nodesAt (now (report .entry)) at n))) ⌝ }
 {
     let s = shape(report, at, n);
     let body = at + 2;
@@ -162,9 +193,9 @@ fn instantiate(
             let key = [17u32, x];
             return solve_evar(book, c, y, &key, 0, 1);
         }
-        return solve_monotype(book, report, c, x, at, n);
+        return solve_monotype(book, report, c, strict, x, at, n);
     }
-    solve_monotype(book, report, c, x, at, n)
+    solve_monotype(book, report, c, strict, x, at, n)
 }
 
 pub fn instantiate_left(
@@ -172,14 +203,15 @@ pub fn instantiate_left(
     book: &mut [u32],
     report: &mut [u32],
     c: Run,
+    strict: bool,
     x: u32,
     at: usize,
     n: usize,
 ) -> Run
     requires { ⌜ InstAsk (now board) (now book) (now report) c x at n ⌝ }
-    ensures { λ r. ⌜ ((w : ℕ) (ls : List Triple) → Does w ls (now (board .entry)) (now (book .entry)) (now (report .entry)) c (instantiateRule leftSide x (nodesAt (now (report .entry)) at n)) (now (board .exit)) (now (book .exit)) (now (report .exit)) r) × (now (report .exit) ≡ instReport (now (report .entry)) (nodesAt (now (report .entry)) at n) (view (nodesAt (now (report .entry)) at n))) ⌝ }
+    ensures { λ r. ⌜ ((m : ℕ) (ls : List Triple) → Does (wayIn strict m (now (book .entry))) ls (now (board .entry)) (now (book .entry)) (now (report .entry)) c (instantiateRule leftSide x (nodesAt (now (report .entry)) at n)) (now (board .exit)) (now (book .exit)) (now (report .exit)) r) × (now (report .exit) ≡ instReport (now (report .entry)) (nodesAt (now (report .entry)) at n) (view (nodesAt (now (report .entry)) at n))) ⌝ }
 {
-    instantiate(board, book, report, c, true, x, at, n)
+    instantiate(board, book, report, c, strict, true, x, at, n)
 }
 
 pub fn instantiate_right(
@@ -187,14 +219,15 @@ pub fn instantiate_right(
     book: &mut [u32],
     report: &mut [u32],
     c: Run,
+    strict: bool,
     x: u32,
     at: usize,
     n: usize,
 ) -> Run
     requires { ⌜ InstAsk (now board) (now book) (now report) c x at n ⌝ }
-    ensures { λ r. ⌜ ((w : ℕ) (ls : List Triple) → Does w ls (now (board .entry)) (now (book .entry)) (now (report .entry)) c (instantiateRule rightSide x (nodesAt (now (report .entry)) at n)) (now (board .exit)) (now (book .exit)) (now (report .exit)) r) × (now (report .exit) ≡ instReport (now (report .entry)) (nodesAt (now (report .entry)) at n) (view (nodesAt (now (report .entry)) at n))) ⌝ }
+    ensures { λ r. ⌜ ((m : ℕ) (ls : List Triple) → Does (wayIn strict m (now (book .entry))) ls (now (board .entry)) (now (book .entry)) (now (report .entry)) c (instantiateRule rightSide x (nodesAt (now (report .entry)) at n)) (now (board .exit)) (now (book .exit)) (now (report .exit)) r) × (now (report .exit) ≡ instReport (now (report .entry)) (nodesAt (now (report .entry)) at n) (view (nodesAt (now (report .entry)) at n))) ⌝ }
 {
-    instantiate(board, book, report, c, false, x, at, n)
+    instantiate(board, book, report, c, strict, false, x, at, n)
 }
 
 // Compares the parts of two Arrows, crossed, or of two Apps: the ln nodes at word la of t and the rn nodes at word ra.
@@ -226,9 +259,16 @@ fn push_parts(
 }
 
 // A quantifier on the right: its name is replaced by a fresh universal.
-fn open_right(board: &mut [u32], report: &mut [u32], c: Run, l: usize, r: usize) -> Run
-    requires { ⌜ OpenAsk (now board) (now report) c l r × (0 < r) ⌝ }
-    ensures { λ o. ⌜ ((w : ℕ) (ls : List Triple) (k : List ℕ) → WellFormed (now (board .entry)) k c → Does w ls (now (board .entry)) k (now (report .entry)) c (forallRight (nodesAt (now (report .entry)) 0 l) (nodesAt (now (report .entry)) (2 * l) r) (getD (now (report .entry)) (2 * l + 1) 0) (nodesAt (now (report .entry)) (2 * l + 2) (r - 1))) (now (board .exit)) k (now (report .exit)) o) × (now (report .exit) ≡ openedAt (now (report .entry)) (2 * l + 2) (getD (now (report .entry)) (2 * l + 1) 0) (node 18 (c .fresh)) (nodesAt (now (report .entry)) (2 * l + 2) (r - 1))) ⌝ }
+fn open_right(
+    board: &mut [u32],
+    book: &mut [u32],
+    report: &mut [u32],
+    c: Run,
+    l: usize,
+    r: usize,
+) -> Run
+    requires { ⌜ OpenAsk (now board) (now report) c l r × WellFormed (now board) (now book) c × (0 < r) ⌝ }
+    ensures { λ o. ⌜ ((w : Way) (ls : List Triple) → Does w ls (now (board .entry)) (now (book .entry)) (now (report .entry)) c (forallRight (nodesAt (now (report .entry)) 0 l) (nodesAt (now (report .entry)) (2 * l) r) (getD (now (report .entry)) (2 * l + 1) 0) (nodesAt (now (report .entry)) (2 * l + 2) (r - 1))) (now (board .exit)) (now (book .exit)) (now (report .exit)) o) × (now (report .exit) ≡ openedAt (now (report .entry)) (2 * l + 2) (getD (now (report .entry)) (2 * l + 1) 0) (node 18 (c .fresh)) (nodesAt (now (report .entry)) (2 * l + 2) (r - 1))) ⌝ }
 {
     let head = 2 * l;
     let at = head + 2;
@@ -236,7 +276,7 @@ fn open_right(board: &mut [u32], report: &mut [u32], c: Run, l: usize, r: usize)
     let m = r - 1;
     let u = c.fresh;
     substitute_type(report, at, m, name, 18, u);
-    let c1 = fresh_evar(c);
+    let c1 = fresh_universal(book, c);
     let c2 = push_tvar(board, c1, 18, u);
     push_sub(board, c2, report, 0, l, report, at, m)
 }
@@ -244,7 +284,7 @@ fn open_right(board: &mut [u32], report: &mut [u32], c: Run, l: usize, r: usize)
 // A quantifier on the left: its name is replaced by a fresh unknown, after its marker.
 fn open_left(board: &mut [u32], report: &mut [u32], c: Run, l: usize, r: usize) -> Run
     requires { ⌜ OpenAsk (now board) (now report) c l r × (0 < l) ⌝ }
-    ensures { λ o. ⌜ ((w : ℕ) (ls : List Triple) (k : List ℕ) → WellFormed (now (board .entry)) k c → Does w ls (now (board .entry)) k (now (report .entry)) c (forallLeft (nodesAt (now (report .entry)) 0 l) (nodesAt (now (report .entry)) (2 * l) r) (getD (now (report .entry)) 1 0) (nodesAt (now (report .entry)) 2 (l - 1))) (now (board .exit)) k (now (report .exit)) o) × (now (report .exit) ≡ openedAt (now (report .entry)) 2 (getD (now (report .entry)) 1 0) (node 17 (c .fresh)) (nodesAt (now (report .entry)) 2 (l - 1))) ⌝ }
+    ensures { λ o. ⌜ ((w : Way) (ls : List Triple) (k : List ℕ) → WellFormed (now (board .entry)) k c → Does w ls (now (board .entry)) k (now (report .entry)) c (forallLeft (nodesAt (now (report .entry)) 0 l) (nodesAt (now (report .entry)) (2 * l) r) (getD (now (report .entry)) 1 0) (nodesAt (now (report .entry)) 2 (l - 1))) (now (board .exit)) k (now (report .exit)) o) × (now (report .exit) ≡ openedAt (now (report .entry)) 2 (getD (now (report .entry)) 1 0) (node 17 (c .fresh)) (nodesAt (now (report .entry)) 2 (l - 1))) ⌝ }
 {
     let name = report[1];
     let m = l - 1;
@@ -263,11 +303,12 @@ fn unknown_right(
     book: &mut [u32],
     report: &mut [u32],
     c: Run,
+    strict: bool,
     l: usize,
     r: usize,
 ) -> Run
     requires { ⌜ SubAsk (now board) (now book) (now report) c l r × (shapeOf (view (nodesAt (now report) 0 l)) ≢ 3) ⌝ }
-    ensures { λ o. ⌜ ((w : ℕ) (ls : List Triple) → Does w ls (now (board .entry)) (now (book .entry)) (now (report .entry)) c (rightBy (nodesAt (now (report .entry)) 0 l) (nodesAt (now (report .entry)) (2 * l) r) (view (nodesAt (now (report .entry)) (2 * l) r))) (now (board .exit)) (now (book .exit)) (now (report .exit)) o) × (now (report .exit) ≡ rightReport (now (report .entry)) (nodesAt (now (report .entry)) 0 l) (view (nodesAt (now (report .entry)) (2 * l) r))) ⌝ }
+    ensures { λ o. ⌜ ((m : ℕ) (ls : List Triple) → Does (wayIn strict m (now (book .entry))) ls (now (board .entry)) (now (book .entry)) (now (report .entry)) c (rightBy (nodesAt (now (report .entry)) 0 l) (nodesAt (now (report .entry)) (2 * l) r) (view (nodesAt (now (report .entry)) (2 * l) r))) (now (board .exit)) (now (book .exit)) (now (report .exit)) o) × (now (report .exit) ≡ rightReport (now (report .entry)) (nodesAt (now (report .entry)) 0 l) (view (nodesAt (now (report .entry)) (2 * l) r))) ⌝ }
 {
     let right = 2 * l;
     if shape(report, right, r) == UNKNOWN {
@@ -275,7 +316,7 @@ fn unknown_right(
         if occurs_check(report, 0, l, x) {
             return refuse(c, TypeError::SubtypingError(l as u32, r as u32));
         }
-        return instantiate_right(board, book, report, c, x, 0, l);
+        return instantiate_right(board, book, report, c, strict, x, 0, l);
     }
     refuse(c, TypeError::SubtypingError(l as u32, r as u32))
 }
@@ -286,18 +327,19 @@ fn unknown_left(
     book: &mut [u32],
     report: &mut [u32],
     c: Run,
+    strict: bool,
     l: usize,
     r: usize,
 ) -> Run
     requires { ⌜ SubAsk (now board) (now book) (now report) c l r × (shapeOf (view (nodesAt (now report) 0 l)) ≡ 4) × (shapeOf (view (nodesAt (now report) (2 * l) r)) ≢ 3) ⌝ }
-    ensures { λ o. ⌜ ((w : ℕ) (ls : List Triple) → Does w ls (now (board .entry)) (now (book .entry)) (now (report .entry)) c (unknownLeft (nodesAt (now (report .entry)) 0 l) (nodesAt (now (report .entry)) (2 * l) r) (getD (now (report .entry)) 1 0) (rightBy (nodesAt (now (report .entry)) 0 l) (nodesAt (now (report .entry)) (2 * l) r) (view (nodesAt (now (report .entry)) (2 * l) r)))) (now (board .exit)) (now (book .exit)) (now (report .exit)) o) × (now (report .exit) ≡ unknownReport (now (report .entry)) (getD (now (report .entry)) 1 0) (nodesAt (now (report .entry)) 0 l) (nodesAt (now (report .entry)) (2 * l) r)) ⌝ }
+    ensures { λ o. ⌜ ((m : ℕ) (ls : List Triple) → Does (wayIn strict m (now (book .entry))) ls (now (board .entry)) (now (book .entry)) (now (report .entry)) c (unknownLeft (nodesAt (now (report .entry)) 0 l) (nodesAt (now (report .entry)) (2 * l) r) (getD (now (report .entry)) 1 0) (rightBy (nodesAt (now (report .entry)) 0 l) (nodesAt (now (report .entry)) (2 * l) r) (view (nodesAt (now (report .entry)) (2 * l) r)))) (now (board .exit)) (now (book .exit)) (now (report .exit)) o) × (now (report .exit) ≡ unknownReport (now (report .entry)) (getD (now (report .entry)) 1 0) (nodesAt (now (report .entry)) 0 l) (nodesAt (now (report .entry)) (2 * l) r)) ⌝ }
 {
     let right = 2 * l;
     let x = report[1];
     if occurs_check(report, right, r, x) {
-        return unknown_right(board, book, report, c, l, r);
+        return unknown_right(board, book, report, c, strict, l, r);
     }
-    instantiate_left(board, book, report, c, x, right, r)
+    instantiate_left(board, book, report, c, strict, x, right, r)
 }
 
 // Two written-out types that are not the same.
@@ -306,38 +348,39 @@ fn subtype_shapes(
     book: &mut [u32],
     report: &mut [u32],
     c: Run,
+    strict: bool,
     l: usize,
     r: usize,
 ) -> Run
     requires { ⌜ SubAsk (now board) (now book) (now report) c l r ⌝ }
-    ensures { λ o. ⌜ ((w : ℕ) (ls : List Triple) → Does w ls (now (board .entry)) (now (book .entry)) (now (report .entry)) c (subtypeBy (nodesAt (now (report .entry)) 0 l) (nodesAt (now (report .entry)) (2 * l) r) (view (nodesAt (now (report .entry)) 0 l)) (view (nodesAt (now (report .entry)) (2 * l) r))) (now (board .exit)) (now (book .exit)) (now (report .exit)) o) × (now (report .exit) ≡ shapesReport (now (report .entry)) (c .fresh) (nodesAt (now (report .entry)) 0 l) (nodesAt (now (report .entry)) (2 * l) r) (view (nodesAt (now (report .entry)) (2 * l) r))) ⌝ }
+    ensures { λ o. ⌜ ((m : ℕ) (ls : List Triple) → Does (wayIn strict m (now (book .entry))) ls (now (board .entry)) (now (book .entry)) (now (report .entry)) c (subtypeBy (nodesAt (now (report .entry)) 0 l) (nodesAt (now (report .entry)) (2 * l) r) (view (nodesAt (now (report .entry)) 0 l)) (view (nodesAt (now (report .entry)) (2 * l) r))) (now (board .exit)) (now (book .exit)) (now (report .exit)) o) × (now (report .exit) ≡ shapesReport (now (report .entry)) (c .fresh) (nodesAt (now (report .entry)) 0 l) (nodesAt (now (report .entry)) (2 * l) r) (view (nodesAt (now (report .entry)) (2 * l) r))) ⌝ }
 {
     let right = 2 * l;
     let body = right + 2;
     let sl = shape(report, 0, l);
     let sr = shape(report, right, r);
     if sr == FORALL {
-        return open_right(board, report, c, l, r);
+        return open_right(board, book, report, c, l, r);
     }
     if sl == FORALL {
         return open_left(board, report, c, l, r);
     }
     if sl == UNKNOWN {
-        return unknown_left(board, book, report, c, l, r);
+        return unknown_left(board, book, report, c, strict, l, r);
     }
     if sl == ARROW {
         if sr == ARROW {
             return push_parts(board, c, true, report, 2, l - 1, body, r - 1);
         }
-        return unknown_right(board, book, report, c, l, r);
+        return unknown_right(board, book, report, c, strict, l, r);
     }
     if sl == APP {
         if sr == APP {
             return push_parts(board, c, false, report, 2, l - 1, body, r - 1);
         }
-        return unknown_right(board, book, report, c, l, r);
+        return unknown_right(board, book, report, c, strict, l, r);
     }
-    unknown_right(board, book, report, c, l, r)
+    unknown_right(board, book, report, c, strict, l, r)
 }
 
 // Sub of types that differ when written out: they stand one after the other from word `at` of the board on, and are written out, left and then right.
@@ -350,9 +393,10 @@ fn subtype_out(
     ln: usize,
     rn: usize,
     w: usize,
+    strict: bool,
 ) -> Run
     requires { ⌜ SubtypeAsk (now board) (now book) (now report) c at ln rn w × (writeOut (sols (now book)) (nodesAt (now board) at ln) ≢ writeOut (sols (now book)) (nodesAt (now board) (at + 2 * ln) rn)) ⌝ }
-    ensures { λ o. ⌜ ((ls : List Triple) → Does w ls (now (board .entry)) (now (book .entry)) (now (report .entry)) c (subtypeRule (nodesAt (now (board .entry)) at ln) (nodesAt (now (board .entry)) (at + 2 * ln) rn)) (now (board .exit)) (now (book .exit)) (now (report .exit)) o) × (now (report .exit) ≡ differReport (now (report .entry)) c (writeOut (sols (now (book .entry))) (nodesAt (now (board .entry)) at ln)) (writeOut (sols (now (book .entry))) (nodesAt (now (board .entry)) (at + 2 * ln) rn)) w) ⌝ }
+    ensures { λ o. ⌜ ((ls : List Triple) → Does (wayIn strict w (now (book .entry))) ls (now (board .entry)) (now (book .entry)) (now (report .entry)) c (subtypeRule (nodesAt (now (board .entry)) at ln) (nodesAt (now (board .entry)) (at + 2 * ln) rn)) (now (board .exit)) (now (book .exit)) (now (report .exit)) o) × (now (report .exit) ≡ differReport (now (report .entry)) c (writeOut (sols (now (book .entry))) (nodesAt (now (board .entry)) at ln)) (writeOut (sols (now (book .entry))) (nodesAt (now (board .entry)) (at + 2 * ln) rn)) w) ⌝ }
 {
     let z = zonk(book, c, board, at, ln, report, 0, w);
     let c1 = z.run;
@@ -363,7 +407,7 @@ fn subtype_out(
     let r = y.nodes;
     let halt = c2.halt;
     if is_going(halt) {
-        return subtype_shapes(board, book, report, c2, l, r);
+        return subtype_shapes(board, book, report, c2, strict, l, r);
     }
     c2
 }
@@ -378,14 +422,15 @@ pub fn solve_subtype(
     ln: usize,
     rn: usize,
     w: usize,
+    strict: bool,
 ) -> Run
     requires { ⌜ SubtypeAsk (now board) (now book) (now report) c at ln rn w ⌝ }
-    ensures { λ o. ⌜ ((ls : List Triple) → Does w ls (now (board .entry)) (now (book .entry)) (now (report .entry)) c (subtypeRule (nodesAt (now (board .entry)) at ln) (nodesAt (now (board .entry)) (at + 2 * ln) rn)) (now (board .exit)) (now (book .exit)) (now (report .exit)) o) × (now (report .exit) ≡ subtypeReport (now (report .entry)) c (writeOut (sols (now (book .entry))) (nodesAt (now (board .entry)) at ln)) (writeOut (sols (now (book .entry))) (nodesAt (now (board .entry)) (at + 2 * ln) rn)) w) ⌝ }
+    ensures { λ o. ⌜ ((ls : List Triple) → Does (wayIn strict w (now (book .entry))) ls (now (board .entry)) (now (book .entry)) (now (report .entry)) c (subtypeRule (nodesAt (now (board .entry)) at ln) (nodesAt (now (board .entry)) (at + 2 * ln) rn)) (now (board .exit)) (now (book .exit)) (now (report .exit)) o) × (now (report .exit) ≡ subtypeReport (now (report .entry)) c (writeOut (sols (now (book .entry))) (nodesAt (now (board .entry)) at ln)) (writeOut (sols (now (book .entry))) (nodesAt (now (board .entry)) (at + 2 * ln) rn)) w) ⌝ }
 {
     let next = at + 2 * ln;
     match compare(board, board, book, Rest::new(at, next, 1, w)) {
         Met::Same(_) => c,
-        Met::Differ => subtype_out(board, book, report, c, at, ln, rn, w),
+        Met::Differ => subtype_out(board, book, report, c, at, ln, rn, w, strict),
         Met::Over => refuse(c, TypeError::TypeTooLong),
     }
 }

@@ -3,6 +3,7 @@
 //! has changed anything.
 
 use crate::core::CoreType;
+use crate::levels::{self, number_after};
 use rust_std::borrow::ToOwned;
 use rust_std::boxed::Box;
 use rust_std::collections::BTreeMap;
@@ -10,13 +11,13 @@ use rust_std::ops::Deref;
 use rust_std::string::String;
 use rust_std::vec::Vec as Items;
 
-/// A limit that an operation would have passed.
+/// A limit that an operation would have passed, or the scope of an unknown.
 #[derive(Debug, Clone, Copy, PartialEq, Eq)]
 pub struct Passed {
-    /// 22 to 25.
+    /// 22 to 25, or 39.
     pub number: u32,
     /// What the operation would have brought the limited number to; for 23 no
-    /// more than a little past the limit.
+    /// more than a little past the limit, for 39 the universal's number.
     pub reached: usize,
 }
 
@@ -26,11 +27,22 @@ fn refuse(number: u32, reached: usize) -> ! {
     rust_std::panic::resume_unwind(Box::new(Passed { number, reached }))
 }
 
-pub fn fresh(prefix: &str, number: usize) -> String {
+pub fn fresh_universal(number: usize) -> String {
+    granted(number);
+    levels::made_universal(number);
+    rust_std::format!("α{number}")
+}
+
+pub fn fresh_unknown(number: usize) -> String {
+    granted(number);
+    levels::made_unknown(number);
+    rust_std::format!("^α{number}")
+}
+
+fn granted(number: usize) {
     if number >= crate::limit(3) {
         refuse(24, number + 1);
     }
-    rust_std::format!("{prefix}{number}")
 }
 
 /// A type's constructors: the length of its list of nodes.
@@ -138,15 +150,24 @@ impl<K, V> HashMap<K, V> {
 
 impl HashMap<String, CoreType> {
     pub fn insert(&mut self, name: String, ty: CoreType) -> Option<CoreType> {
-        if name.starts_with('^') {
-            let solved = self.solved + node_count(&ty);
-            if solved > crate::limit(4) {
-                refuse(25, solved);
-            }
-            self.solved = solved;
-            self.order.push(name.to_owned());
+        if let Some(unknown) = number_after("^α", &name) {
+            self.solve(unknown, &name, &ty);
         }
         self.map.insert(name, ty)
+    }
+
+    /// Scope is tested before size.
+    fn solve(&mut self, unknown: usize, name: &str, ty: &CoreType) {
+        if let Some(universal) = levels::out_of_scope(unknown, ty) {
+            refuse(39, universal);
+        }
+        let solved = self.solved + node_count(ty);
+        if solved > crate::limit(4) {
+            refuse(25, solved);
+        }
+        levels::given(unknown, ty, |other| self.map.contains_key(other));
+        self.solved = solved;
+        self.order.push(name.to_owned());
     }
 
     pub fn get(&self, name: &str) -> Option<&CoreType> {

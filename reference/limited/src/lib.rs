@@ -12,9 +12,19 @@ use rust_std::cell::Cell;
 pub use plain::{core, errors};
 
 mod hooks;
+mod levels;
 
 pub use hooks::Passed;
 pub use worklist::{Limited, Peaks, Step};
+
+/// The two entry calls of W12.
+#[derive(Debug, Clone, Copy, Default, PartialEq, Eq, PartialOrd, Ord)]
+pub enum Door {
+    #[default]
+    First,
+    /// Refuses a solution with a universal numbered above the unknown's level.
+    Strict,
+}
 
 /// Entries on the board.
 pub const ENTRIES: usize = 512;
@@ -39,8 +49,17 @@ pub fn set_limits(limits: [usize; 5]) {
 
 /// The limit on one written-out type alone; gives the one before.
 pub fn set_written(limit: usize) -> usize {
+    set_limit(2, limit)
+}
+
+/// The same for the nodes of all solutions.
+pub fn set_solved(limit: usize) -> usize {
+    set_limit(4, limit)
+}
+
+fn set_limit(at: usize, limit: usize) -> usize {
     let mut limits = LIMITS.get();
-    let before = rust_std::mem::replace(&mut limits[2], limit);
+    let before = rust_std::mem::replace(&mut limits[at], limit);
     LIMITS.set(limits);
     before
 }
@@ -52,6 +71,8 @@ fn limit(at: usize) -> usize {
 #[allow(dead_code)]
 mod worklist {
     use crate::hooks::{node_count, Element, Passed, Vec};
+    use crate::levels::{number_after, Levels};
+    use crate::Door;
     use rust_std::boxed::Box;
     use rust_std::panic::{catch_unwind, resume_unwind, AssertUnwindSafe};
     use rust_std::string::{String, ToString};
@@ -66,10 +87,10 @@ mod worklist {
     /// Fresh numbers are tested as they are spelt; the trace stays empty.
     macro_rules! format {
         ("α{}", $number:expr) => {
-            crate::hooks::fresh("α", $number)
+            crate::hooks::fresh_universal($number)
         };
         ("^α{}", $number:expr) => {
-            crate::hooks::fresh("^α", $number)
+            crate::hooks::fresh_unknown($number)
         };
         ($($trace:tt)*) => {
             String::new()
@@ -117,10 +138,12 @@ mod worklist {
     pub struct Limited {
         inference: DKInference,
         written: usize,
+        levels: Levels,
     }
 
     impl Limited {
         pub fn start(
+            door: Door,
             data_constructors: impl Iterator<Item = (String, CoreType)>,
             var_context: impl Iterator<Item = (String, CoreType)>,
             term: CoreTerm,
@@ -133,6 +156,7 @@ mod worklist {
             Limited {
                 inference,
                 written: 0,
+                levels: Levels::new(door),
             }
         }
 
@@ -146,8 +170,10 @@ mod worklist {
             if let Err(passed) = self.write_out(&judgment) {
                 return Some(Step::Passed(passed));
             }
+            let splits = self.split_by(&judgment);
             let inference = &mut self.inference;
-            let result = catch_unwind(AssertUnwindSafe(|| inference.solve_judgment(judgment)));
+            let rule = AssertUnwindSafe(|| inference.solve_judgment(judgment));
+            let result = self.levels.during(splits, || catch_unwind(rule));
             Some(match result {
                 Ok(Ok(())) => Step::Went,
                 Ok(Err(error)) => Step::Refused(error),
@@ -156,6 +182,33 @@ mod worklist {
                     Err(other) => resume_unwind(other),
                 },
             })
+        }
+
+        /// The unknown that a rule splits, if it comes to making numbers: known
+        /// before the rule runs, since it can be refused amid the split.
+        fn split_by(&self, judgment: &Judgment) -> Option<usize> {
+            use CoreType::{App, Arrow, ETVar};
+            let split = match judgment {
+                Judgment::Sub { left, right } => match (self.head(left), self.head(right)) {
+                    (ETVar(name), Arrow(..) | App(..)) | (Arrow(..) | App(..), ETVar(name)) => name,
+                    _ => return None,
+                },
+                Judgment::InfApp { func_ty, .. } => match self.head(func_ty) {
+                    ETVar(name) => name,
+                    _ => return None,
+                },
+                Judgment::Inf { .. } | Judgment::Chk { .. } => return None,
+            };
+            number_after("^α", split)
+        }
+
+        /// A type at its top, as `zonk` writes it.
+        fn head<'a>(&'a self, ty: &'a CoreType) -> &'a CoreType {
+            let CoreType::ETVar(name) = ty else {
+                return ty;
+            };
+            let solution = self.inference.worklist.find_evar_solution(name);
+            solution.map_or(ty, |solution| self.head(solution))
         }
 
         /// `zonk` is what a Sub and an InfApp begin with, so its limit can be
@@ -226,6 +279,17 @@ mod worklist {
         /// The solutions in order of solving.
         pub fn solutions(&self) -> impl Iterator<Item = (&str, &CoreType)> {
             self.inference.worklist.solved_evars.in_order()
+        }
+
+        /// The levels of the numbers made, in their order.
+        pub fn levels(&self) -> &[usize] {
+            assert_eq!(self.levels.of().len(), self.fresh());
+            self.levels.of()
+        }
+
+        /// The unknown whose split the last judgment has begun.
+        pub fn split(&self) -> Option<usize> {
+            self.levels.split()
         }
 
         pub fn peaks(&self) -> Peaks {

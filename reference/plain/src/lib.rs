@@ -39,6 +39,19 @@ pub mod worklist {
             self.worklist.next_var
         }
 
+        /// Whether a number that the last step made is a universal's, by the
+        /// TVar that it put on the board.
+        pub fn is_universal(&self, number: usize) -> bool {
+            let (universal, unknown) = (format!("α{number}"), format!("^α{number}"));
+            let mut entries = self.worklist.entries.iter().rev();
+            let kind = entries.find_map(|entry| match entry {
+                WorklistEntry::TVar(name, _) if *name == universal => Some(true),
+                WorklistEntry::TVar(name, _) if *name == unknown => Some(false),
+                _ => None,
+            });
+            kind.expect("a TVar for every number")
+        }
+
         pub fn solved(&self) -> &HashMap<String, CoreType> {
             &self.worklist.solved_evars
         }

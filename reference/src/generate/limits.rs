@@ -3,7 +3,7 @@
 
 use super::types::{app, arrow, forall, sized, Ty, INT};
 use super::Made;
-use crate::oracle::{run_limited, under_limit, Run, LIMIT, MOST_LIMIT, MOST_STEPS};
+use crate::oracle::{run_limited, under_limit, Door, Run, LIMIT, MOST_LIMIT, MOST_STEPS};
 use crate::sheet::{line, read_plan, Line};
 use std::collections::BTreeMap;
 
@@ -52,9 +52,9 @@ pub fn highest() -> Vec<Found> {
     })
 }
 
-fn run(lines: &[Line]) -> Run {
+pub(super) fn run(lines: &[Line]) -> Run {
     let plan = read_plan(lines).expect("a plan");
-    run_limited(&plan, MOST_STEPS)
+    run_limited(Door::First, &plan, MOST_STEPS)
 }
 
 fn found(title: impl Into<String>, lines: Lines) -> Found {
@@ -96,18 +96,23 @@ fn edge(
     panic!("{title}: the family does not meet its limit and pass it by one, {met:?} {passed:?}")
 }
 
-fn sheet(constructors: &[(u32, Ty)], context: &[(u32, Ty)], expected: Ty, term: Lines) -> Lines {
+pub(super) fn sheet(
+    constructors: &[(u32, Ty)],
+    context: &[(u32, Ty)],
+    expected: Ty,
+    term: Lines,
+) -> Lines {
     let constructors = constructors.iter().cloned().collect::<BTreeMap<_, _>>();
     let context = context.iter().cloned().collect::<BTreeMap<_, _>>();
     super::sheet(&constructors, &context, &expected, &term)
 }
 
-fn seven() -> Line {
+pub(super) fn seven() -> Line {
     line(22, 7, 0)
 }
 
 /// `n30` with parameters before it.
-fn making_n30(params: &[Ty]) -> Ty {
+pub(super) fn making_n30(params: &[Ty]) -> Ty {
     params
         .iter()
         .rev()
@@ -391,8 +396,8 @@ fn solved_at_full_board() -> Vec<Found> {
 /// Whether the refused step gave a solution before it was refused.
 fn splits_last(lines: &Lines) -> bool {
     let plan = read_plan(lines).expect("a plan");
-    let whole = run_limited(&plan, MOST_STEPS).answer;
-    let before = run_limited(&plan, whole.taken - 1).answer;
+    let whole = run_limited(Door::First, &plan, MOST_STEPS).answer;
+    let before = run_limited(Door::First, &plan, whole.taken - 1).answer;
     whole.solutions.len() > before.solutions.len()
 }
 

@@ -4,7 +4,11 @@ pub mod catalogue;
 pub mod compared;
 mod directed;
 pub mod limits;
+mod open;
+mod related;
+pub mod scoped;
 pub mod small;
+mod splits;
 pub mod types;
 mod wild;
 

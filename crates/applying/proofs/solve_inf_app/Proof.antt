@@ -1,9 +1,13 @@
 use mathlib.Core.Path.{sym, _∙_}
+use mathlib.Core.Bool.{Bool}
 use mathlib.Core.List.{List}
+use Prim.Native.Nat.{ℕ}
 use native.Mathlib.Omega.{arith}
+use Rattle.nodes.specs.Nodes.{Ty}
 use Rattle.spelling.specs.declared.Triple.{Triple}
 use Rattle.judgment.specs.Rules.{Env, inferApp}
 use Rattle.board.specs.Board.{termAt}
+use Rattle.operations.specs.State.{Scoped}
 use Rattle.subtyping.proofs.Outs.{first-asks, second-asks, both-asks, twice-then, twice-stays, report-then, report-stays}
 use Rattle.applying.proofs.Outs.{applied, appliedReport}
 use borrow.Author.Needs.{needs}
@@ -37,7 +41,7 @@ returns c =
     let Y = c .before .before .before .before .before .before .before .before .before .before .before .before .before .before .before .before .zonk2 .ensures in
     let S = c .before .before .before .before .before .before .apply-shapes .ensures in
     let g = sym (c .before .before .before .before .before .before .before .before .before .before .before .is-going .ensures) ∙ c .before .before .before .before .before .before .before .before .before .before .if1 .taken in
-    (λ (ls : List Triple) (E : Env). twice-then p (Z .0) (Z .2) (Y .0) (Y .1) (Y .2) ls (applied E (termAt ls (a .line))) (S .0 (a .w) ls E), report-then p (Z .0) (Z .2) (Y .0) (Y .1) (Y .2) (Z .1) appliedReport g (S .1))
+    (λ (f : ℕ → Ty → Bool) (ls : List Triple) (E : Env) (sc : Scoped (record { written = a .w; scope = f })). twice-then p (Z .0) (Z .2) (Y .0) (Y .1) (Y .2) f ls (applied E (termAt ls (a .line))) (S .0 (record { written = a .w; scope = f }) ls E sc), report-then p (Z .0) (Z .2) (Y .0) (Y .1) (Y .2) (Z .1) appliedReport g (S .1))
 
 returns-2 : tie.Need-returns-2
 unfolding inferApp
@@ -46,7 +50,7 @@ returns-2 c =
     let Z = c .before .before .before .before .before .before .before .before .before .before .before .before .before .zonk .ensures in
     let Y = c .before .before .before .before .before .before .zonk2 .ensures in
     let g = sym (c .before .is-going .ensures) ∙ c .if1 .left in
-    (λ (ls : List Triple) (E : Env). twice-stays p (Z .0) (Z .2) (Y .0) (Y .1) (Y .2) ls (applied E (termAt ls (c .before .before .before .before .before .before .before .before .before .before .before .before .before .before .before .before .before .before .before .before .args .line))) g, report-stays p (Z .0) (Z .2) (Y .0) (Y .1) (Y .2) (Z .1) appliedReport g)
+    (λ (f : ℕ → Ty → Bool) (ls : List Triple) (E : Env) (sc : Scoped (record { written = c .before .before .before .before .before .before .before .before .before .before .before .before .before .before .before .before .before .before .before .before .args .w; scope = f })). twice-stays p (Z .0) (Z .2) (Y .0) (Y .1) (Y .2) f ls (applied E (termAt ls (c .before .before .before .before .before .before .before .before .before .before .before .before .before .before .before .before .before .before .before .before .args .line))) g, report-stays p (Z .0) (Z .2) (Y .0) (Y .1) (Y .2) (Z .1) appliedReport g)
 
 pub solve-inf-app-spec : {M : Type 1} → statement M
 solve-inf-app-spec =

@@ -4,7 +4,8 @@ use denote.Ref.{now}
 use lib.Seq.{length-take-le, length-front}
 use Rattle.sizes.specs.Sizes.{boardSize, bookSize, reportStride}
 use Rattle.sheet.specs.Plan.{triples}
-use Rattle.judgment.specs.Result.{limitsWith, judge}
+use Rattle.judgment.specs.Result.{limitsFor, judge}
+use Rattle.operations.specs.State.{modeOf}
 use Rattle.checker.proofs.Answering.{fronted}
 use borrow.Author.Needs.{needs}
 use Rattle.checker.proofs.run_front.Statement.{statement}
@@ -44,19 +45,19 @@ run-plan-requires c κs =
 
 same-length : tie.Need-same-length
 same-length c =
-    length-front (now (c .before .before .before .before .before .before .before .before .before .before .before .before .before .before .args .board)) (c .before .before .before .before .before .before .run-plan .last .1 .1 .1 .0) boardSize (c .before .before .before .before .before .before .run-plan .kept .1 .1 .1 .0)
+    length-front (now (c .before .before .before .before .before .before .before .before .before .before .before .before .before .before .args .board)) (c .before .before .before .before .before .before .run-plan .last .1 .1 .1 .1 .0) boardSize (c .before .before .before .before .before .before .run-plan .kept .1 .1 .1 .1 .0)
 
 same-length-2 : tie.Need-same-length-2
 same-length-2 c =
-    length-front (now (c .before .before .before .before .before .before .before .before .before .before .before .before .before .before .args .book)) (c .before .before .before .before .before .before .run-plan .last .1 .1 .1 .1 .0) bookSize (c .before .before .before .before .before .before .run-plan .kept .1 .1 .1 .1 .0)
+    length-front (now (c .before .before .before .before .before .before .before .before .before .before .before .before .before .before .args .book)) (c .before .before .before .before .before .before .run-plan .last .1 .1 .1 .1 .1 .0) bookSize (c .before .before .before .before .before .before .run-plan .kept .1 .1 .1 .1 .1 .0)
 
 same-length-3 : tie.Need-same-length-3
 same-length-3 c =
-    length-front (now (c .before .before .before .before .before .before .before .before .before .before .before .before .before .before .args .report)) (c .before .before .before .before .before .before .run-plan .last .1 .1 .1 .1 .1 .0) (reportStride * c .before .before .before .before .before .before .before .before .before .before .before .before .before .before .args .limit) (c .before .before .before .before .before .before .run-plan .kept .1 .1 .1 .1 .1 .0)
+    length-front (now (c .before .before .before .before .before .before .before .before .before .before .before .before .before .before .args .report)) (c .before .before .before .before .before .before .run-plan .last .1 .1 .1 .1 .1 .1 .0) (reportStride * c .before .before .before .before .before .before .before .before .before .before .before .before .before .before .args .limit) (c .before .before .before .before .before .before .run-plan .kept .1 .1 .1 .1 .1 .1 .0)
 
 returns : tie.Need-returns
 returns c =
-    fronted (c .before .before .before .before .before .before .before .before .before .before .before .before .before .before .pre) (judge (limitsWith (c .before .before .before .before .before .before .before .before .before .before .before .before .before .before .args .limit)) (c .before .before .before .before .before .before .before .before .before .before .before .before .before .before .args .ceiling) (triples (now (c .before .before .before .before .before .before .before .before .before .before .before .before .before .before .args .s)))) (c .before .before .before .before .before .before .run-plan .ensures)
+    fronted (c .before .before .before .before .before .before .before .before .before .before .before .before .before .before .pre) (judge (limitsFor (modeOf (c .before .before .before .before .before .before .before .before .before .before .before .before .before .before .args .strict)) (c .before .before .before .before .before .before .before .before .before .before .before .before .before .before .args .limit)) (c .before .before .before .before .before .before .before .before .before .before .before .before .before .before .args .ceiling) (triples (now (c .before .before .before .before .before .before .before .before .before .before .before .before .before .before .args .s)))) (c .before .before .before .before .before .before .run-plan .ensures)
 
 pub run-front-spec : {M : Type 1} → statement M
 run-front-spec =

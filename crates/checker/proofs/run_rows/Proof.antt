@@ -3,6 +3,7 @@ use Prim.Native.Nat.{_+_, _*_, _≤_, _<_}
 use denote.Ref.{now}
 use Rattle.stepping.proofs.Reading.{plan-lines}
 use Rattle.checker.proofs.Reading.{was-read, case-room, ran-as}
+use Rattle.operations.specs.State.{modeOf}
 use borrow.Author.Needs.{needs}
 use Rattle.checker.proofs.run_rows.Statement.{statement}
 use Rattle.checker.proofs.run_rows.Tie as tie
@@ -24,7 +25,7 @@ check-plan-requires c κs =
     }
 
 returns : tie.Need-returns
-returns c = ran-as (c .before .before .before .before .before .before .before .before .before .before .before .before .before .before .before .before .before .before .before .before .before .before .before .before .before .before .before .before .before .before .before .before .before .before .before .before .args .ceiling) (c .before .before .before .before .before .before .before .before .before .before .before .before .before .before .before .before .before .before .before .before .before .before .before .before .before .before .before .before .before .before .before .before .before .before .before .before .args .limit) (c .before .before .before .before .before .before .before .before .before .before .before .before .before .before .before .before .before .before .before .before .before .before .before .before .before .before .read-rows .ensures .0) (c .before .before .before .before .before .before .before .before .before .before .before .before .before .before .check-plan .ensures)
+returns c = ran-as (modeOf (c .before .before .before .before .before .before .before .before .before .before .before .before .before .before .before .before .before .before .before .before .before .before .before .before .before .before .before .before .before .before .before .before .before .before .before .before .args .strict)) (c .before .before .before .before .before .before .before .before .before .before .before .before .before .before .before .before .before .before .before .before .before .before .before .before .before .before .before .before .before .before .before .before .before .before .before .before .args .ceiling) (c .before .before .before .before .before .before .before .before .before .before .before .before .before .before .before .before .before .before .before .before .before .before .before .before .before .before .before .before .before .before .before .before .before .before .before .before .args .limit) (c .before .before .before .before .before .before .before .before .before .before .before .before .before .before .before .before .before .before .before .before .before .before .before .before .before .before .read-rows .ensures .0) (c .before .before .before .before .before .before .before .before .before .before .before .before .before .before .check-plan .ensures)
 
 pub run-rows-spec : {M : Type 1} → statement M
 run-rows-spec =

@@ -8,10 +8,10 @@ use Rattle.checker.proofs.solve.Statement.{statement}
 use Rattle.checker.proofs.solve.Tie as tie
 
 abbrev Inv-loop : tie.InvT-loop
-Inv-loop board₀ book₀ report₀ s ceiling limit t₀ l₀ r₀ w₀ v₀ run₀ board book report t l r w v run = Loop limit s ceiling (wholeRun limit s ceiling board₀ book₀ run₀) board book report run × (length board ≡ length board₀) × (length book ≡ length book₀) × (length report ≡ length report₀) × (length t ≡ length t₀) × (length l ≡ length l₀) × (length r ≡ length r₀) × (length w ≡ length w₀) × (length v ≡ length v₀)
+Inv-loop board₀ book₀ report₀ s ceiling limit strict t₀ l₀ r₀ w₀ v₀ run₀ board book report t l r w v run = Loop strict limit s ceiling (wholeRun strict limit s ceiling board₀ book₀ run₀) board book report run × (length board ≡ length board₀) × (length book ≡ length book₀) × (length report ≡ length report₀) × (length t ≡ length t₀) × (length l ≡ length l₀) × (length r ≡ length r₀) × (length w ≡ length w₀) × (length v ≡ length v₀)
 
 abbrev μ-loop : tie.MeasureT-loop
-μ-loop board₀ book₀ report₀ s ceiling limit t₀ l₀ r₀ w₀ v₀ run₀ board book report t l r w v run = ceiling - run .taken
+μ-loop board₀ book₀ report₀ s ceiling limit strict t₀ l₀ r₀ w₀ v₀ run₀ board book report t l r w v run = ceiling - run .taken
 
 loop-holds : tie.Need-loop-holds Inv-loop μ-loop
 loop-holds c = (loop-start (c .before .before .before .before .before .before .before .before .before .args .ceiling) (c .before .before .before .before .before .before .before .before .before .pre .0) (c .before .before .before .before .before .before .before .before .before .pre .1), refl, refl, refl, refl, refl, refl, refl, refl)
@@ -58,7 +58,7 @@ loop-again c =
     let p = c .before .before .before .before .before .before .before .before .before .before .before .before .before .before .before .before .before .before .before .before .before .before .before .before .before .before .before .before .before .before .before .before .before .before .before .before .before .pre in
     let f = more-facts (L .run) (c .before .before .before .before .before .before .before .before .before .before .before .before .before .before .before .before .before .before .before .before .before .before .before .before .before .before .before .before .before .before .before .before .before .before .before .before .before .args .ceiling) (sym (c .before .before .before .before .before .before .before .before .before .before .before .before .before .before .before .before .before .before .before .before .before .before .before .before .before .before .takes-more .ensures) ∙ c .before .before .before .before .before .before .before .before .before .before .before .before .before .before .before .before .before .before .before .before .before .before .before .before .before .if1 .taken) in
     let K = c .before .before .before .before .before .before .before .before .before .before .before .before .before .before .before .before .solve-step .kept in
-    (loop-turn f (h .0) (c .before .before .before .before .before .before .before .before .before .before .before .before .before .before .before .before .solve-step .ensures), K .0 ∙ h .1, K .1 .0 ∙ h .2, K .1 .1 .0 ∙ h .3, K .1 .1 .1 .1 .1 .1 .0 ∙ h .4, K .1 .1 .1 .1 .1 .1 .1 .0 ∙ h .5, K .1 .1 .1 .1 .1 .1 .1 .1 .0 ∙ h .6, K .1 .1 .1 .1 .1 .1 .1 .1 .1 .0 ∙ h .7, K .1 .1 .1 .1 .1 .1 .1 .1 .1 .1 .0 ∙ h .8)
+    (loop-turn f (h .0) (c .before .before .before .before .before .before .before .before .before .before .before .before .before .before .before .before .solve-step .ensures), K .0 ∙ h .1, K .1 .0 ∙ h .2, K .1 .1 .0 ∙ h .3, K .1 .1 .1 .1 .1 .1 .1 .0 ∙ h .4, K .1 .1 .1 .1 .1 .1 .1 .1 .0 ∙ h .5, K .1 .1 .1 .1 .1 .1 .1 .1 .1 .0 ∙ h .6, K .1 .1 .1 .1 .1 .1 .1 .1 .1 .1 .0 ∙ h .7, K .1 .1 .1 .1 .1 .1 .1 .1 .1 .1 .1 .0 ∙ h .8)
 
 same-length : tie.Need-same-length Inv-loop μ-loop
 same-length c = c .before .before .loop .inv .1

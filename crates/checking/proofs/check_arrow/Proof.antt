@@ -11,6 +11,7 @@ use Rattle.judgment.specs.Types.{first, rest}
 use Rattle.judgment.specs.Terms.{Term, Lambda, lambdaOf}
 use Rattle.judgment.specs.Board.{Rule}
 use Rattle.judgment.specs.Rules.{Env, checkArrow}
+use Rattle.judgment.specs.Result.{Way}
 use Rattle.board.specs.Board.{termAt}
 use Rattle.board.proofs.Terms.{lineOf}
 use Rattle.sheet.specs.Plan.{partLine}
@@ -90,7 +91,7 @@ returns c =
     let e1 = first-nodes (now (a .t)) 2 (a .tn - 1) (c .before .before .before .before .before .before .before .first-part .result) (c .before .before .before .before .before .before .before .first-part .ensures) in
     let e2 = rest-nodes (now (a .t)) 2 (a .tn - 1) (c .before .before .before .before .before .before .before .first-part .result) (c .before .before .before .before .before .before .before .first-part .ensures) in
     let e3 = lambda-read (now (a .s)) (a .line) (c .before .before .before .before .before .before .before .before .before .before .before .before .before .wide .result) (c .before .before .before .before .before .before .before .before .part-line .result) (c .before .before .before .before .before .before .before .before .before .before .before .before .triple-at .result) (p .stands) W e (c .before .before .before .before .before .before .before .before .part-line .ensures) (c .before .before .before .before .before .before .before .before .before .before .if1 .taken) in
-    (λ (w : ℕ) (E : Env) (k rep : List ℕ) (f : WellFormed (now (c .before .before .before .before .before .before .before .before .before .before .before .before .before .before .before .before .before .before .args .board)) k (c .before .before .before .before .before .before .before .before .before .before .before .before .before .before .before .before .before .before .args .c)). does-as (λ _. ap₂ (λ (x : Ty × Ty) (y : Option Lambda). checkArrow E (termAt ls (a .line)) T (x .0) (x .1) y) (ap₂ (λ (x y : Ty). (x, y)) e1 e2) e3) (c .before .before .before .before .check-lambda .ensures .1 w E (termAt ls (a .line)) T k rep f), c .before .before .before .before .check-lambda .ensures .0 ∙ ap (lambdaOut (now (a .out))) e3)
+    (λ (w : Way) (E : Env) (k rep : List ℕ) (f : WellFormed (now (c .before .before .before .before .before .before .before .before .before .before .before .before .before .before .before .before .before .before .args .board)) k (c .before .before .before .before .before .before .before .before .before .before .before .before .before .before .before .before .before .before .args .c)). does-as (λ _. ap₂ (λ (x : Ty × Ty) (y : Option Lambda). checkArrow E (termAt ls (a .line)) T (x .0) (x .1) y) (ap₂ (λ (x y : Ty). (x, y)) e1 e2) e3) (c .before .before .before .before .check-lambda .ensures .1 w E (termAt ls (a .line)) T k rep f), c .before .before .before .before .check-lambda .ensures .0 ∙ ap (lambdaOut (now (a .out))) e3)
 
 synthesize-requires : tie.Need-synthesize-requires
 synthesize-requires c κs = (c .before .before .before .before .before .before .before .before .before .pre .0 .board, c .before .before .before .before .before .before .before .before .before .pre .0 .within, c .before .before .before .before .before .before .before .before .before .pre .0 .formed)
@@ -105,7 +106,7 @@ returns-2 c =
     let T : Ty = nodesAt (now (a .t)) 0 (a .tn) in
     let B : Ty = nodesAt (now (a .t)) 2 (a .tn - 1) in
     let n = no-lambda (now (a .s)) (a .line) (p .stands) (λ z. c .before .before .before .before .if1 .left (ap (λ (t : Triple). t .kind) e ∙ z)) in
-    (λ (w : ℕ) (E : Env) (k rep : List ℕ) (f : WellFormed (now (c .before .before .before .before .before .before .before .before .before .before .before .before .args .board)) k (c .before .before .before .before .before .before .before .before .before .before .before .before .args .c)). does-as (λ _. ap (checkArrow E (termAt ls (a .line)) T (first B) (rest B)) (sym n)) (c .before .before .synthesize .ensures E w ls k rep f), ap (lambdaOut (now (a .out))) (sym n))
+    (λ (w : Way) (E : Env) (k rep : List ℕ) (f : WellFormed (now (c .before .before .before .before .before .before .before .before .before .before .before .before .args .board)) k (c .before .before .before .before .before .before .before .before .before .before .before .before .args .c)). does-as (λ _. ap (checkArrow E (termAt ls (a .line)) T (first B) (rest B)) (sym n)) (c .before .before .synthesize .ensures E w ls k rep f), ap (lambdaOut (now (a .out))) (sym n))
 
 pub check-arrow-spec : {M : Type 1} → statement M
 check-arrow-spec =

@@ -43,6 +43,9 @@ returns-12 c = sym (ap errorDetails (c .enum-told4 .given .1))
 returns-13 : tie.Need-returns-13
 returns-13 c = sym (ap errorDetails (c .enum-told5 .given .1))
 
+returns-14 : tie.Need-returns-14
+returns-14 c = sym (ap errorDetails (c .enum-told6 .given .1))
+
 pub error-details-spec : {M : Type 1} → statement M
 error-details-spec =
-    tie.close (tie.spec (λ c. search needs) (λ c. search needs) (λ c. search needs) (λ c. search needs) (λ c. search needs) (λ c. search needs) (λ c. search needs) (λ c. search needs) (λ c. search needs) (λ c. search needs) (λ c. search needs) (λ c. search needs) (λ c. search needs) returns returns-2 returns-3 returns-4 returns-5 returns-6 returns-7 returns-8 returns-9 returns-10 returns-11 returns-12 returns-13)
+    tie.close (tie.spec (λ c. search needs) (λ c. search needs) (λ c. search needs) (λ c. search needs) (λ c. search needs) (λ c. search needs) (λ c. search needs) (λ c. search needs) (λ c. search needs) (λ c. search needs) (λ c. search needs) (λ c. search needs) (λ c. search needs) (λ c. search needs) returns returns-2 returns-3 returns-4 returns-5 returns-6 returns-7 returns-8 returns-9 returns-10 returns-11 returns-12 returns-13 returns-14)

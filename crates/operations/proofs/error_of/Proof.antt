@@ -54,10 +54,14 @@ returns-12 c = rw (c .match .keys12) refl
 
 returns-13 : tie.Need-returns-13
 unfolding errorOf
-returns-13 c =
+returns-13 c = rw (c .match .keys13) refl
+
+returns-14 : tie.Need-returns-14
+unfolding errorOf
+returns-14 c =
     let r = c .match .rest in
     let n = c .before .args .h .number in
-    rw (ne-eqb n 11 (r .0 .0 .0 .0 .0 .0 .0 .0 .0 .0 .0 .1), ne-eqb n 12 (r .0 .0 .0 .0 .0 .0 .0 .0 .0 .0 .1), ne-eqb n 13 (r .0 .0 .0 .0 .0 .0 .0 .0 .0 .1), ne-eqb n 14 (r .0 .0 .0 .0 .0 .0 .0 .0 .1), ne-eqb n 15 (r .0 .0 .0 .0 .0 .0 .0 .1), ne-eqb n 16 (r .0 .0 .0 .0 .0 .0 .1), ne-eqb n 17 (r .0 .0 .0 .0 .0 .1), ne-eqb n 18 (r .0 .0 .0 .0 .1), ne-eqb n 19 (r .0 .0 .0 .1), ne-eqb n 22 (r .0 .0 .1), ne-eqb n 23 (r .0 .1), ne-eqb n 24 (r .1)) refl
+    rw (ne-eqb n 11 (r .0 .0 .0 .0 .0 .0 .0 .0 .0 .0 .0 .0 .1), ne-eqb n 12 (r .0 .0 .0 .0 .0 .0 .0 .0 .0 .0 .0 .1), ne-eqb n 13 (r .0 .0 .0 .0 .0 .0 .0 .0 .0 .0 .1), ne-eqb n 14 (r .0 .0 .0 .0 .0 .0 .0 .0 .0 .1), ne-eqb n 15 (r .0 .0 .0 .0 .0 .0 .0 .0 .1), ne-eqb n 16 (r .0 .0 .0 .0 .0 .0 .0 .1), ne-eqb n 17 (r .0 .0 .0 .0 .0 .0 .1), ne-eqb n 18 (r .0 .0 .0 .0 .0 .1), ne-eqb n 19 (r .0 .0 .0 .0 .1), ne-eqb n 22 (r .0 .0 .0 .1), ne-eqb n 23 (r .0 .0 .1), ne-eqb n 24 (r .0 .1), ne-eqb n 39 (r .1)) refl
 
 pub error-of-spec : {M : Type 1} → statement M
-error-of-spec = tie.close (tie.spec returns returns-2 returns-3 returns-4 returns-5 returns-6 returns-7 returns-8 returns-9 returns-10 returns-11 returns-12 returns-13)
+error-of-spec = tie.close (tie.spec returns returns-2 returns-3 returns-4 returns-5 returns-6 returns-7 returns-8 returns-9 returns-10 returns-11 returns-12 returns-13 returns-14)

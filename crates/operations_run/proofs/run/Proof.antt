@@ -1,8 +1,9 @@
-use mathlib.Core.Path.{_≡_, _∙_}
+use mathlib.Core.Path.{_≡_, refl, _∙_}
+use mathlib.Core.Bool.{true}
 use native.Mathlib.Omega.{arith}
 use mathlib.Core.List.{[]}
-use Rattle.sizes.specs.Sizes.{usualLimit}
 use Rattle.operations.proofs.Start.{start-formed}
+use Rattle.operations.proofs.Then.{anyWay}
 use borrow.Author.Needs.{needs}
 use Rattle.operations_run.proofs.run.Statement.{statement}
 use Rattle.operations_run.proofs.run.Tie as tie
@@ -24,7 +25,7 @@ script-requires-2 c κs =
     let x = p .0 in
     let y = p .2 in
     let l1 = c .before .before .before .before .before .before .before .before .before .script .kept .1 .1 .0 in
-    (c .before .before .before .before .before .before .before .before .before .script .ensures [] .kept, omega arith)
+    (c .before .before .before .before .before .before .before .before .before .script .ensures (λ k t. true) [] (λ k t h. refl) .kept, omega arith)
 
 script-requires-3 : tie.Need-script-requires-3
 script-requires-3 c κs =
@@ -35,7 +36,7 @@ script-requires-3 c κs =
     let y = p .2 in
     let l1 = c .before .before .before .before .before .before .before .before .before .before .before .before .before .before .before .before .before .before .before .before .before .before .before .before .script .kept .1 .1 .0 in
     let l2 = c .before .before .before .before .before .before .before .before .before .before .before .before .before .before .script2 .kept .1 .1 .0 in
-    (c .before .before .before .refuse .ensures .1 usualLimit [] _ _ [] (c .before .before .before .before .before .before .before .before .before .before .before .before .before .before .script2 .ensures [] .kept) .kept, omega arith)
+    (c .before .before .before .refuse .ensures .1 anyWay [] _ _ [] (c .before .before .before .before .before .before .before .before .before .before .before .before .before .before .script2 .ensures (λ k t. true) [] (λ k t h. refl) .kept) .kept, omega arith)
 
 same-length : tie.Need-same-length
 same-length c = c .before .before .before .before .before .before .before .before .before .before .script3 .kept .0 ∙ c .before .before .before .before .before .before .before .before .before .before .before .before .before .before .before .before .before .before .before .before .before .before .before .before .before .script2 .kept .0 ∙ c .before .before .before .before .before .before .before .before .before .before .before .before .before .before .before .before .before .before .before .before .before .before .before .before .before .before .before .before .before .before .before .before .before .before .before .script .kept .0 ∙ c .before .before .before .before .before .before .before .before .before .before .before .before .before .before .before .before .before .before .before .before .before .before .before .before .before .before .before .before .before .before .before .before .before .before .before .before .before .before .before .before .before .before .before .before .before .before .before .before .before .before .before .before .clear-board .kept .0

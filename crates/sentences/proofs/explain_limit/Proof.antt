@@ -26,8 +26,12 @@ returns-5 c = simp (ne-eqb _ _ (c .before .before .before .before .before .befor
 
 returns-6 : tie.Need-returns-6
 unfolding ofLimit
-returns-6 c = simp (ne-eqb _ _ (c .before .before .before .before .before .before .before .before .before .before .before .before .if1 .left), ne-eqb _ _ (c .before .before .before .before .before .before .before .before .before .before .if2 .left), ne-eqb _ _ (c .before .before .before .before .before .before .before .before .if3 .left), ne-eqb _ _ (c .before .before .before .before .before .before .if4 .left), ne-eqb _ _ (c .before .before .before .before .if5 .left)) (c .before .before .explain-call .ensures)
+returns-6 c = simp (ne-eqb _ _ (c .before .before .before .before .before .before .before .before .before .before .before .before .before .before .if1 .left), ne-eqb _ _ (c .before .before .before .before .before .before .before .before .before .before .before .before .if2 .left), ne-eqb _ _ (c .before .before .before .before .before .before .before .before .before .before .if3 .left), ne-eqb _ _ (c .before .before .before .before .before .before .before .before .if4 .left), ne-eqb _ _ (c .before .before .before .before .before .before .if5 .left), eq-eqb _ _ (c .before .before .before .before .if6 .taken)) (c .before .before .say-out-of-scope .ensures)
+
+returns-7 : tie.Need-returns-7
+unfolding ofLimit
+returns-7 c = simp (ne-eqb _ _ (c .before .before .before .before .before .before .before .before .before .before .before .before .before .before .if1 .left), ne-eqb _ _ (c .before .before .before .before .before .before .before .before .before .before .before .before .if2 .left), ne-eqb _ _ (c .before .before .before .before .before .before .before .before .before .before .if3 .left), ne-eqb _ _ (c .before .before .before .before .before .before .before .before .if4 .left), ne-eqb _ _ (c .before .before .before .before .before .before .if5 .left), ne-eqb _ _ (c .before .before .before .before .if6 .left)) (c .before .before .explain-call .ensures)
 
 pub explain-limit-spec : {M : Type 1} → statement M
 explain-limit-spec =
-    tie.close (tie.spec (λ c κs. search needs) (λ c. search needs) returns (λ c κs. search needs) (λ c. search needs) returns-2 (λ c κs. search needs) (λ c. search needs) returns-3 (λ c κs. search needs) (λ c. search needs) returns-4 (λ c κs. search needs) (λ c. search needs) returns-5 (λ c κs. search needs) (λ c. search needs) returns-6)
+    tie.close (tie.spec (λ c κs. search needs) (λ c. search needs) returns (λ c κs. search needs) (λ c. search needs) returns-2 (λ c κs. search needs) (λ c. search needs) returns-3 (λ c κs. search needs) (λ c. search needs) returns-4 (λ c κs. search needs) (λ c. search needs) returns-5 (λ c κs. search needs) (λ c. search needs) returns-6 (λ c κs. search needs) (λ c. search needs) returns-7)

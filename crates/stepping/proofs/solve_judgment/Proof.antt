@@ -4,7 +4,8 @@ use denote.Ref.{now}
 use Rattle.nodes.specs.Nodes.{Ty, nodesAt}
 use Rattle.sheet.specs.Rows.{rows}
 use Rattle.judgment.specs.Rules.{rule}
-use Rattle.operations.proofs.Then.{does-as, done-does}
+use Rattle.operations.specs.State.{wayIn}
+use Rattle.operations.proofs.Then.{does-as, done-does, way-scoped}
 use Rattle.applying.specs.Applying.{envOn}
 use Rattle.stepping.proofs.Judging.{is-sub, is-app, is-other, subtype-asks, app-asks, infer-asks, check-asks, copy-asks, sub-room, app-room, other-room, inferred, inferred-room, checked, checked-room}
 use borrow.Author.Needs.{needs}
@@ -39,12 +40,12 @@ copy-nodes-requires-2 : tie.Need-copy-nodes-requires-2
 copy-nodes-requires-2 c κs = copy-asks (c .before .before .before .before .before .before .before .before .before .before .before .before .before .before .pre)
 
 solve-checking-requires : tie.Need-solve-checking-requires
-solve-checking-requires c κs = check-asks (c .before .before .before .before .before .before .before .before .before .before .before .before .before .before .before .before .before .before .before .before .pre) (c .before .before .before .before .before .before .before .before .if3 .taken) _ (c .before .before .before .before .before .copy-nodes2 .kept .0)
+solve-checking-requires c κs = (c .before .before .before .before .before .before .before .before .before .before .before .before .before .before .before .before .before .before .before .before .before .pre .formed, check-asks (c .before .before .before .before .before .before .before .before .before .before .before .before .before .before .before .before .before .before .before .before .before .pre) (c .before .before .before .before .before .before .before .before .before .if3 .taken) _ (c .before .before .before .before .before .before .copy-nodes2 .kept .0))
 
 returns-3 : tie.Need-returns-3
 returns-3 c =
-    let E = envOn (now (c .before .before .before .before .before .before .before .before .before .before .before .before .before .before .before .before .before .before .before .before .before .before .before .before .before .before .before .args .s)) in
-    (checked (c .before .before .before .before .before .before .before .before .before .before .before .before .before .before .before .before .before .before .before .before .before .before .before .before .before .before .before .pre) (c .before .before .before .before .before .before .before .before .before .before .before .before .copy-nodes2 .ensures) E (c .before .before .before .before .before .before .before .before .before .before .before .before .before .before .before .if3 .taken) (c .before .before .before .before .before .before .solve-checking .ensures .0 _ E _ _ (c .before .before .before .before .before .before .before .before .before .before .before .before .before .before .before .before .before .before .before .before .before .before .before .before .before .before .before .pre .formed)), checked-room (c .before .before .before .before .before .before .before .before .before .before .before .before .before .before .before .before .before .before .before .before .before .before .before .before .before .before .before .pre) (c .before .before .before .before .before .before .before .before .before .before .before .before .copy-nodes2 .ensures) (c .before .before .before .before .before .before .before .before .before .before .before .before .before .before .before .if3 .taken) (c .before .before .before .before .before .before .solve-checking .ensures .1) (c .before .before .before .before .before .before .solve-checking .ensures .2))
+    let E = envOn (now (c .before .before .before .before .before .before .before .before .before .before .before .before .before .before .before .before .before .before .before .before .before .before .before .before .before .before .before .before .before .before .args .s)) in
+    (checked (c .before .before .before .before .before .before .before .before .before .before .before .before .before .before .before .before .before .before .before .before .before .before .before .before .before .before .before .before .before .before .pre) (c .before .before .before .before .before .before .before .before .before .before .before .before .before .before .before .copy-nodes2 .ensures) E (c .before .before .before .before .before .before .before .before .before .before .before .before .before .before .before .before .before .before .if3 .taken) (c .before .before .before .before .before .before .before .before .solve-checking .ensures .0 _ E _), checked-room (c .before .before .before .before .before .before .before .before .before .before .before .before .before .before .before .before .before .before .before .before .before .before .before .before .before .before .before .before .before .before .pre) (c .before .before .before .before .before .before .before .before .before .before .before .before .before .before .before .copy-nodes2 .ensures) (c .before .before .before .before .before .before .before .before .before .before .before .before .before .before .before .before .before .before .if3 .taken) (c .before .before .before .before .before .before .before .before .solve-checking .ensures .1) (c .before .before .before .before .before .before .before .before .solve-checking .ensures .2))
 
 solve-inf-app-requires : tie.Need-solve-inf-app-requires
 solve-inf-app-requires c κs = app-asks (c .before .before .before .before .before .before .before .before .before .before .before .before .before .before .before .before .pre) (c .before .before .before .if4 .taken)
@@ -57,7 +58,7 @@ returns-4 c =
     let B = now (a .board) in
     let T : Ty = nodesAt B (a .o .at) (a .o .left) in
     let U : Ty = nodesAt B (a .o .at + 2 * a .o .left) (a .o .right) in
-    (does-as (λ _. ap (rule E) (sym (is-app ls (a .o .number) T U (a .o .kind) (c .before .before .before .before .before .before .before .before .before .before .if4 .taken)))) (c .before .before .before .before .before .before .solve-inf-app .ensures .0 ls E), app-room (c .before .before .before .before .before .before .before .before .before .before .before .before .before .before .before .before .before .before .before .before .before .before .before .pre) (c .before .before .before .before .before .before .before .before .before .before .if4 .taken) (c .before .before .before .before .before .before .solve-inf-app .ensures .1))
+    (does-as (λ _. ap (rule E) (sym (is-app ls (a .o .number) T U (a .o .kind) (c .before .before .before .before .before .before .before .before .before .before .if4 .taken)))) (c .before .before .before .before .before .before .solve-inf-app .ensures .0 (wayIn (a .strict) (a .limit) (now (a .book)) .scope) ls E (way-scoped (a .strict) (a .limit) (now (a .book)))), app-room (c .before .before .before .before .before .before .before .before .before .before .before .before .before .before .before .before .before .before .before .before .before .before .before .pre) (c .before .before .before .before .before .before .before .before .before .before .if4 .taken) (c .before .before .before .before .before .before .solve-inf-app .ensures .1))
 
 returns-5 : tie.Need-returns-5
 returns-5 c =
@@ -71,4 +72,4 @@ returns-5 c =
 
 pub solve-judgment-spec : {M : Type 1} → statement M
 solve-judgment-spec =
-    tie.close (tie.spec solve-subtype-requires (λ c. search needs) (λ c. search needs) (λ c. search needs) returns copy-nodes-requires solve-inference-requires (λ c. search needs) (λ c. search needs) (λ c. search needs) (λ c. search needs) (λ c. search needs) (λ c. search needs) returns-2 copy-nodes-requires-2 solve-checking-requires (λ c. search needs) (λ c. search needs) (λ c. search needs) returns-3 solve-inf-app-requires (λ c. search needs) (λ c. search needs) (λ c. search needs) returns-4 returns-5)
+    tie.close (tie.spec solve-subtype-requires (λ c. search needs) (λ c. search needs) (λ c. search needs) returns copy-nodes-requires solve-inference-requires (λ c. search needs) (λ c. search needs) (λ c. search needs) (λ c. search needs) (λ c. search needs) (λ c. search needs) returns-2 copy-nodes-requires-2 solve-checking-requires (λ c. search needs) (λ c. search needs) (λ c. search needs) (λ c. search needs) returns-3 solve-inf-app-requires (λ c. search needs) (λ c. search needs) (λ c. search needs) returns-4 returns-5)

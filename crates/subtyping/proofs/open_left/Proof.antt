@@ -8,6 +8,7 @@ use lib.ListN.{getD}
 use Rattle.nodes.specs.Nodes.{node, Ty}
 use Rattle.spelling.specs.declared.Triple.{Triple}
 use Rattle.judgment.specs.Board.{sub, push, done}
+use Rattle.judgment.specs.Result.{Way}
 use Rattle.operations.specs.State.{WellFormed}
 use Rattle.operations.proofs.Then.{push-then, fresh-then, does-as, report-free, kept, kept-board}
 use Rattle.core_types.proofs.Substituted.{substituted-at, beside}
@@ -38,7 +39,7 @@ same-length-2 c = c .before .before .before .before .before .before .before .bef
 
 returns : tie.Need-returns
 returns c = (
-  λ (w : ℕ) (ls : List Triple) (k : List ℕ) (f : WellFormed (now (c .before .before .before .before .before .before .before .before .before .before .before .before .before .before .before .before .before .before .before .before .before .args .board)) k (c .before .before .before .before .before .before .before .before .before .before .before .before .before .before .before .before .before .before .before .before .before .args .c)).
+  λ (w : Way) (ls : List Triple) (k : List ℕ) (f : WellFormed (now (c .before .before .before .before .before .before .before .before .before .before .before .before .before .before .before .before .before .before .before .before .before .args .board)) k (c .before .before .before .before .before .before .before .before .before .before .before .before .before .before .before .before .before .before .before .before .before .args .c)).
       let a = c .before .before .before .before .before .before .before .before .before .before .before .before .before .before .before .before .before .before .before .before .before .args in
       let p = c .before .before .before .before .before .before .before .before .before .before .before .before .before .before .before .before .before .before .before .before .before .pre in
       let R = now (a .report) in

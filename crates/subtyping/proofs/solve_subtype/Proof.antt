@@ -1,4 +1,6 @@
+use denote.Ref.{now}
 use Rattle.subtyping.proofs.Comparing.{meet-asks, same-leaves, over-leaves, differ-asks, differ-report}
+use Rattle.operations.specs.State.{wayIn}
 use borrow.Author.Needs.{needs}
 use Rattle.subtyping.proofs.solve_subtype.Statement.{statement}
 use Rattle.subtyping.proofs.solve_subtype.Tie as tie
@@ -12,7 +14,9 @@ subtype-out-requires c κs =
     (p, differ-asks p (c .before .before .before .before .before .before .new .ensures) (c .before .before .before .before .before .compare .ensures) (c .before .before .before .enum-told2 .given .1))
 
 returns : tie.Need-returns
-returns c = same-leaves (c .before .before .before .before .before .before .before .before .before .pre) (c .before .before .before .new .ensures) (c .before .before .compare .ensures) (c .enum-told .given .1)
+returns c =
+    let q = same-leaves (c .before .before .before .before .before .before .before .before .before .pre) (c .before .before .before .new .ensures) (c .before .before .compare .ensures) (c .enum-told .given .1) in
+    (q .0 (wayIn (c .before .before .before .before .before .before .before .before .before .args .strict) (c .before .before .before .before .before .before .before .before .before .args .w) (now (c .before .before .before .before .before .before .before .before .before .args .book)) .scope), q .1)
 
 returns-2 : tie.Need-returns-2
 returns-2 c =
@@ -20,7 +24,9 @@ returns-2 c =
     (S .0, differ-report (c .before .before .before .before .before .before .before .before .before .before .before .before .before .before .before .before .before .before .before .pre) (c .before .before .before .before .before .before .before .before .before .before .before .before .before .new .ensures) (c .before .before .before .before .before .before .before .before .before .before .before .before .compare .ensures) (c .before .before .before .before .before .before .before .before .before .before .enum-told2 .given .1) (S .1))
 
 returns-3 : tie.Need-returns-3
-returns-3 c = over-leaves (c .before .before .before .before .before .before .before .before .before .before .pre) (c .before .before .before .before .new .ensures) (c .before .before .before .compare .ensures) (c .before .enum-told3 .given .1) (c .refuse .ensures .0)
+returns-3 c =
+    let q = over-leaves (c .before .before .before .before .before .before .before .before .before .before .pre) (c .before .before .before .before .new .ensures) (c .before .before .before .compare .ensures) (c .before .enum-told3 .given .1) (c .refuse .ensures .0) in
+    (q .0 (wayIn (c .before .before .before .before .before .before .before .before .before .before .args .strict) (c .before .before .before .before .before .before .before .before .before .before .args .w) (now (c .before .before .before .before .before .before .before .before .before .before .args .book)) .scope), q .1)
 
 pub solve-subtype-spec : {M : Type 1} → statement M
 solve-subtype-spec =

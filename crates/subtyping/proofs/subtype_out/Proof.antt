@@ -1,3 +1,4 @@
+use denote.Ref.{now}
 use mathlib.Core.Path.{sym, _∙_}
 use mathlib.Core.List.{List}
 use Prim.Native.Nat.{_*_}
@@ -6,6 +7,7 @@ use Rattle.spelling.specs.declared.Triple.{Triple}
 use Rattle.judgment.specs.Rules.{subtype}
 use Rattle.operations.proofs.Then.{does-as}
 use Rattle.subtyping.proofs.Outs.{first-asks, second-asks, both-asks, out-differ, twice-then, twice-stays, report-then, report-stays, writtenSub, other-shapes, shapesOut}
+use Rattle.operations.specs.State.{wayIn}
 use borrow.Author.Needs.{needs}
 use Rattle.subtyping.proofs.subtype_out.Statement.{statement}
 use Rattle.subtyping.proofs.subtype_out.Tie as tie
@@ -37,7 +39,7 @@ returns c =
     let S = c .before .before .before .before .before .before .subtype-shapes .ensures in
     let g = sym (c .before .before .before .before .before .before .before .before .before .before .before .is-going .ensures) ∙ c .before .before .before .before .before .before .before .before .before .before .if1 .taken in
     let e = out-differ (p .0) (Z .ensures .0) (Z .ensures .2) (Y .ensures .0) (Y .ensures .1) (Y .ensures .2) g (p .1) in
-    (λ (ls : List Triple). twice-then (p .0) (Z .ensures .0) (Z .ensures .2) (Y .ensures .0) (Y .ensures .1) (Y .ensures .2) ls writtenSub (does-as (λ _. other-shapes L R e) (S .0 (c .before .before .before .before .before .before .before .before .before .before .before .before .before .before .before .before .before .before .before .before .before .before .before .before .before .before .before .before .before .before .args .w) ls)), report-then (p .0) (Z .ensures .0) (Z .ensures .2) (Y .ensures .0) (Y .ensures .1) (Y .ensures .2) (Z .ensures .1) shapesOut g (S .1))
+    (λ (ls : List Triple). twice-then (p .0) (Z .ensures .0) (Z .ensures .2) (Y .ensures .0) (Y .ensures .1) (Y .ensures .2) (wayIn (c .before .before .before .before .before .before .before .before .before .before .before .before .before .before .before .before .before .before .before .before .before .before .before .before .before .before .before .before .before .before .args .strict) (c .before .before .before .before .before .before .before .before .before .before .before .before .before .before .before .before .before .before .before .before .before .before .before .before .before .before .before .before .before .before .args .w) (now (c .before .before .before .before .before .before .before .before .before .before .before .before .before .before .before .before .before .before .before .before .before .before .before .before .before .before .before .before .before .before .args .book)) .scope) ls writtenSub (does-as (λ _. other-shapes L R e) (S .0 (c .before .before .before .before .before .before .before .before .before .before .before .before .before .before .before .before .before .before .before .before .before .before .before .before .before .before .before .before .before .before .args .w) ls)), report-then (p .0) (Z .ensures .0) (Z .ensures .2) (Y .ensures .0) (Y .ensures .1) (Y .ensures .2) (Z .ensures .1) shapesOut g (S .1))
 
 returns-2 : tie.Need-returns-2
 unfolding subtype
@@ -46,7 +48,7 @@ returns-2 c =
     let Z = c .before .before .before .before .before .before .before .before .before .before .before .before .before .zonk in
     let Y = c .before .before .before .before .before .before .zonk2 in
     let g = sym (c .before .is-going .ensures) ∙ c .if1 .left in
-    (λ (ls : List Triple). twice-stays p (Z .ensures .0) (Z .ensures .2) (Y .ensures .0) (Y .ensures .1) (Y .ensures .2) ls writtenSub g, report-stays p (Z .ensures .0) (Z .ensures .2) (Y .ensures .0) (Y .ensures .1) (Y .ensures .2) (Z .ensures .1) shapesOut g)
+    (λ (ls : List Triple). twice-stays p (Z .ensures .0) (Z .ensures .2) (Y .ensures .0) (Y .ensures .1) (Y .ensures .2) (wayIn (c .before .before .before .before .before .before .before .before .before .before .before .before .before .before .before .before .before .before .before .before .args .strict) (c .before .before .before .before .before .before .before .before .before .before .before .before .before .before .before .before .before .before .before .before .args .w) (now (c .before .before .before .before .before .before .before .before .before .before .before .before .before .before .before .before .before .before .before .before .args .book)) .scope) ls writtenSub g, report-stays p (Z .ensures .0) (Z .ensures .2) (Y .ensures .0) (Y .ensures .1) (Y .ensures .2) (Z .ensures .1) shapesOut g)
 
 pub subtype-out-spec : {M : Type 1} → statement M
 subtype-out-spec =

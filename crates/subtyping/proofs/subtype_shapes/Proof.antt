@@ -19,16 +19,16 @@ shape-requires-2 : tie.Need-shape-requires-2
 shape-requires-2 c κs = let s = sizes (c .before .before .before .before .before .before .pre) in omega arith
 
 open-right-requires : tie.Need-open-right-requires
-open-right-requires c κs = (open-asks (c .before .before .before .before .before .before .before .before .before .before .pre), sizes (c .before .before .before .before .before .before .before .before .before .before .pre) .1)
+open-right-requires c κs = (open-asks (c .before .before .before .before .before .before .before .before .before .before .before .pre), c .before .before .before .before .before .before .before .before .before .before .before .pre .formed, sizes (c .before .before .before .before .before .before .before .before .before .before .before .pre) .1)
 
 returns : tie.Need-returns
-returns c = (λ w ls. does-as (λ _. by-forall-right (c .before .before .before .before .before .before .before .before .before .before .before .before .before .before .before .pre) (c .before .before .before .before .before .before .before .before .before .before .shape .ensures) (c .before .before .before .before .before .before .before .before .shape2 .ensures) (c .before .before .before .before .before .before .before .if1 .taken)) (c .before .before .before .before .open-right .ensures .0 w ls _ (c .before .before .before .before .before .before .before .before .before .before .before .before .before .before .before .pre .formed)), c .before .before .before .before .open-right .ensures .1 ∙ report-forall-right (c .before .before .before .before .before .before .before .before .before .before .before .before .before .before .before .pre) (c .before .before .before .before .before .before .before .before .before .before .before .before .before .before .before .args .c .fresh) (c .before .before .before .before .before .before .before .before .before .before .shape .ensures) (c .before .before .before .before .before .before .before .before .shape2 .ensures) (c .before .before .before .before .before .before .before .if1 .taken))
+returns c = (λ w ls. does-as (λ _. by-forall-right (c .before .before .before .before .before .before .before .before .before .before .before .before .before .before .before .before .before .before .pre) (c .before .before .before .before .before .before .before .before .before .before .before .before .before .shape .ensures) (c .before .before .before .before .before .before .before .before .before .before .before .shape2 .ensures) (c .before .before .before .before .before .before .before .before .before .before .if1 .taken)) (c .before .before .before .before .before .before .open-right .ensures .0 _ ls), c .before .before .before .before .before .before .open-right .ensures .1 ∙ report-forall-right (c .before .before .before .before .before .before .before .before .before .before .before .before .before .before .before .before .before .before .pre) (c .before .before .before .before .before .before .before .before .before .before .before .before .before .before .before .before .before .before .args .c .fresh) (c .before .before .before .before .before .before .before .before .before .before .before .before .before .shape .ensures) (c .before .before .before .before .before .before .before .before .before .before .before .shape2 .ensures) (c .before .before .before .before .before .before .before .before .before .before .if1 .taken))
 
 open-left-requires : tie.Need-open-left-requires
 open-left-requires c κs = (open-asks (c .before .before .before .before .before .before .before .before .before .before .before .pre), sizes (c .before .before .before .before .before .before .before .before .before .before .before .pre) .0)
 
 returns-2 : tie.Need-returns-2
-returns-2 c = (λ w ls. does-as (λ _. by-forall-left (c .before .before .before .before .before .before .before .before .before .before .before .before .before .before .before .before .pre) (c .before .before .before .before .before .before .before .before .before .before .before .shape .ensures) (c .before .before .before .before .before .before .before .before .before .shape2 .ensures) (c .before .before .before .before .before .before .before .before .if1 .left) (c .before .before .before .before .before .before .before .if2 .taken)) (c .before .before .before .before .open-left .ensures .0 w ls _ (c .before .before .before .before .before .before .before .before .before .before .before .before .before .before .before .before .pre .formed)), c .before .before .before .before .open-left .ensures .1 ∙ report-forall-left (c .before .before .before .before .before .before .before .before .before .before .before .before .before .before .before .before .pre) (c .before .before .before .before .before .before .before .before .before .before .before .before .before .before .before .before .args .c .fresh) (c .before .before .before .before .before .before .before .before .before .before .before .shape .ensures) (c .before .before .before .before .before .before .before .before .before .shape2 .ensures) (c .before .before .before .before .before .before .before .before .if1 .left) (c .before .before .before .before .before .before .before .if2 .taken))
+returns-2 c = (λ w ls. does-as (λ _. by-forall-left (c .before .before .before .before .before .before .before .before .before .before .before .before .before .before .before .before .pre) (c .before .before .before .before .before .before .before .before .before .before .before .shape .ensures) (c .before .before .before .before .before .before .before .before .before .shape2 .ensures) (c .before .before .before .before .before .before .before .before .if1 .left) (c .before .before .before .before .before .before .before .if2 .taken)) (c .before .before .before .before .open-left .ensures .0 _ ls _ (c .before .before .before .before .before .before .before .before .before .before .before .before .before .before .before .before .pre .formed)), c .before .before .before .before .open-left .ensures .1 ∙ report-forall-left (c .before .before .before .before .before .before .before .before .before .before .before .before .before .before .before .before .pre) (c .before .before .before .before .before .before .before .before .before .before .before .before .before .before .before .before .args .c .fresh) (c .before .before .before .before .before .before .before .before .before .before .before .shape .ensures) (c .before .before .before .before .before .before .before .before .before .shape2 .ensures) (c .before .before .before .before .before .before .before .before .if1 .left) (c .before .before .before .before .before .before .before .if2 .taken))
 
 unknown-left-requires : tie.Need-unknown-left-requires
 unknown-left-requires c κs = (c .before .before .before .before .before .before .before .before .before .before .before .before .before .pre, sym (c .before .before .before .before .before .before .before .before .shape .ensures) ∙ c .before .before .before .if3 .taken, λ z. c .before .before .before .before .before .if1 .left (c .before .before .before .before .before .before .shape2 .ensures ∙ z))
@@ -46,7 +46,7 @@ push-parts-requires : tie.Need-push-parts-requires
 push-parts-requires c κs = parts-asks (c .before .before .before .before .before .before .before .before .before .before .before .before .before .before .pre)
 
 returns-4 : tie.Need-returns-4
-returns-4 c = (λ w ls. does-as (λ _. by-arrows (c .before .before .before .before .before .before .before .before .before .before .before .before .before .before .before .before .before .pre) (c .before .before .before .before .before .before .before .before .before .before .before .before .shape .ensures) (c .before .before .before .before .before .before .before .before .before .before .shape2 .ensures) (c .before .before .before .before .before .before .if4 .taken) (c .before .before .before .before .before .if5 .taken)) (c .before .before .push-parts .ensures w ls _ _ (c .before .before .before .before .before .before .before .before .before .before .before .before .before .before .before .before .before .pre .formed)), report-parts (c .before .before .before .before .before .before .before .before .before .before .before .before .before .before .before .before .before .pre) (c .before .before .before .before .before .before .before .before .before .before .before .before .before .before .before .before .before .args .c .fresh) (c .before .before .before .before .before .before .before .before .before .before .before .before .shape .ensures) (c .before .before .before .before .before .before .before .before .before .before .shape2 .ensures) (λ z. omega (arith, c .before .before .before .before .before .if5 .taken)) (λ z. omega (arith, c .before .before .before .before .before .before .if4 .taken)) (λ z. omega (arith, c .before .before .before .before .before .before .if4 .taken)) (λ z. omega (arith, c .before .before .before .before .before .if5 .taken)))
+returns-4 c = (λ w ls. does-as (λ _. by-arrows (c .before .before .before .before .before .before .before .before .before .before .before .before .before .before .before .before .before .pre) (c .before .before .before .before .before .before .before .before .before .before .before .before .shape .ensures) (c .before .before .before .before .before .before .before .before .before .before .shape2 .ensures) (c .before .before .before .before .before .before .if4 .taken) (c .before .before .before .before .before .if5 .taken)) (c .before .before .push-parts .ensures _ ls _ _ (c .before .before .before .before .before .before .before .before .before .before .before .before .before .before .before .before .before .pre .formed)), report-parts (c .before .before .before .before .before .before .before .before .before .before .before .before .before .before .before .before .before .pre) (c .before .before .before .before .before .before .before .before .before .before .before .before .before .before .before .before .before .args .c .fresh) (c .before .before .before .before .before .before .before .before .before .before .before .before .shape .ensures) (c .before .before .before .before .before .before .before .before .before .before .shape2 .ensures) (λ z. omega (arith, c .before .before .before .before .before .if5 .taken)) (λ z. omega (arith, c .before .before .before .before .before .before .if4 .taken)) (λ z. omega (arith, c .before .before .before .before .before .before .if4 .taken)) (λ z. omega (arith, c .before .before .before .before .before .if5 .taken)))
 
 unknown-right-requires : tie.Need-unknown-right-requires
 unknown-right-requires c κs = (c .before .before .before .before .before .before .before .before .before .before .before .before .before .before .before .pre, λ z. c .before .before .before .before .before .before .if2 .left (c .before .before .before .before .before .before .before .before .before .before .shape .ensures ∙ z))
@@ -64,7 +64,7 @@ push-parts-requires-2 : tie.Need-push-parts-requires-2
 push-parts-requires-2 c κs = parts-asks (c .before .before .before .before .before .before .before .before .before .before .before .before .before .before .before .pre)
 
 returns-6 : tie.Need-returns-6
-returns-6 c = (λ w ls. does-as (λ _. by-apps (c .before .before .before .before .before .before .before .before .before .before .before .before .before .before .before .before .before .before .pre) (c .before .before .before .before .before .before .before .before .before .before .before .before .before .shape .ensures) (c .before .before .before .before .before .before .before .before .before .before .before .shape2 .ensures) (c .before .before .before .before .before .before .if6 .taken) (c .before .before .before .before .before .if7 .taken)) (c .before .before .push-parts2 .ensures w ls _ _ (c .before .before .before .before .before .before .before .before .before .before .before .before .before .before .before .before .before .before .pre .formed)), report-parts (c .before .before .before .before .before .before .before .before .before .before .before .before .before .before .before .before .before .before .pre) (c .before .before .before .before .before .before .before .before .before .before .before .before .before .before .before .before .before .before .args .c .fresh) (c .before .before .before .before .before .before .before .before .before .before .before .before .before .shape .ensures) (c .before .before .before .before .before .before .before .before .before .before .before .shape2 .ensures) (λ z. omega (arith, c .before .before .before .before .before .if7 .taken)) (λ z. omega (arith, c .before .before .before .before .before .before .if6 .taken)) (λ z. omega (arith, c .before .before .before .before .before .before .if6 .taken)) (λ z. omega (arith, c .before .before .before .before .before .if7 .taken)))
+returns-6 c = (λ w ls. does-as (λ _. by-apps (c .before .before .before .before .before .before .before .before .before .before .before .before .before .before .before .before .before .before .pre) (c .before .before .before .before .before .before .before .before .before .before .before .before .before .shape .ensures) (c .before .before .before .before .before .before .before .before .before .before .before .shape2 .ensures) (c .before .before .before .before .before .before .if6 .taken) (c .before .before .before .before .before .if7 .taken)) (c .before .before .push-parts2 .ensures _ ls _ _ (c .before .before .before .before .before .before .before .before .before .before .before .before .before .before .before .before .before .before .pre .formed)), report-parts (c .before .before .before .before .before .before .before .before .before .before .before .before .before .before .before .before .before .before .pre) (c .before .before .before .before .before .before .before .before .before .before .before .before .before .before .before .before .before .before .args .c .fresh) (c .before .before .before .before .before .before .before .before .before .before .before .before .before .shape .ensures) (c .before .before .before .before .before .before .before .before .before .before .before .shape2 .ensures) (λ z. omega (arith, c .before .before .before .before .before .if7 .taken)) (λ z. omega (arith, c .before .before .before .before .before .before .if6 .taken)) (λ z. omega (arith, c .before .before .before .before .before .before .if6 .taken)) (λ z. omega (arith, c .before .before .before .before .before .if7 .taken)))
 
 unknown-right-requires-2 : tie.Need-unknown-right-requires-2
 unknown-right-requires-2 c κs = (c .before .before .before .before .before .before .before .before .before .before .before .before .before .before .before .before .pre, λ z. c .before .before .before .before .before .before .before .if2 .left (c .before .before .before .before .before .before .before .before .before .before .before .shape .ensures ∙ z))
@@ -80,4 +80,4 @@ returns-8 c = (λ w ls. does-as (λ _. by-right (c .before .before .before .befo
 
 pub subtype-shapes-spec : {M : Type 1} → statement M
 subtype-shapes-spec =
-    tie.close (tie.spec mul-right add-body shape-requires shape-requires-2 open-right-requires (λ c. search needs) (λ c. search needs) returns open-left-requires (λ c. search needs) (λ c. search needs) returns-2 unknown-left-requires (λ c. search needs) (λ c. search needs) (λ c. search needs) returns-3 sub-push-parts sub-push-parts-2 push-parts-requires (λ c. search needs) (λ c. search needs) returns-4 unknown-right-requires (λ c. search needs) (λ c. search needs) (λ c. search needs) returns-5 sub-push-parts-3 sub-push-parts-4 push-parts-requires-2 (λ c. search needs) (λ c. search needs) returns-6 unknown-right-requires-2 (λ c. search needs) (λ c. search needs) (λ c. search needs) returns-7 unknown-right-requires-3 (λ c. search needs) (λ c. search needs) (λ c. search needs) returns-8)
+    tie.close (tie.spec mul-right add-body shape-requires shape-requires-2 open-right-requires (λ c. search needs) (λ c. search needs) (λ c. search needs) returns open-left-requires (λ c. search needs) (λ c. search needs) returns-2 unknown-left-requires (λ c. search needs) (λ c. search needs) (λ c. search needs) returns-3 sub-push-parts sub-push-parts-2 push-parts-requires (λ c. search needs) (λ c. search needs) returns-4 unknown-right-requires (λ c. search needs) (λ c. search needs) (λ c. search needs) returns-5 sub-push-parts-3 sub-push-parts-4 push-parts-requires-2 (λ c. search needs) (λ c. search needs) returns-6 unknown-right-requires-2 (λ c. search needs) (λ c. search needs) (λ c. search needs) returns-7 unknown-right-requires-3 (λ c. search needs) (λ c. search needs) (λ c. search needs) returns-8)

@@ -6,15 +6,16 @@ use denote.Ref.{now}
 use Rattle.sizes.specs.Sizes.{highestCeiling}
 use Rattle.judgment.specs.Result.{Buffers}
 use Rattle.checker.proofs.Answering.{high-ceiling, bad-limit, low-limit, short-buffer, refused-by, front-asks, answered, line-word}
+use Rattle.operations.specs.State.{modeOf}
 use borrow.Author.Needs.{needs}
-use Rattle.checker.proofs.check_type.Statement.{statement}
-use Rattle.checker.proofs.check_type.Tie as tie
+use Rattle.checker.proofs.check_call.Statement.{statement}
+use Rattle.checker.proofs.check_call.Tie as tie
 
 returns : tie.Need-returns
 returns c =
     let a = c .before .before .before .before .before .before .args in
     let B : Buffers = record { board = now (a .board); book = now (a .book); report = now (a .report) } in
-    high-ceiling (now (a .sheet)) (a .ceiling) (a .limit) B (c .before .if1 .taken) (c .refused .ensures)
+    high-ceiling (modeOf (a .strict)) (now (a .sheet)) (a .ceiling) (a .limit) B (c .before .if1 .taken) (c .refused .ensures)
 
 returns-2 : tie.Need-returns-2
 returns-2 c =
@@ -22,7 +23,7 @@ returns-2 c =
     let B : Buffers = record { board = now (a .board); book = now (a .book); report = now (a .report) } in
     let l = c .before .before .before .if1 .left in
     let h : a .ceiling ≤ highestCeiling = omega arith in
-    bad-limit (now (a .sheet)) (a .ceiling) (a .limit) B h (c .before .before .limit-bad .ensures) (c .before .if2 .taken) (c .refused2 .ensures)
+    bad-limit (modeOf (a .strict)) (now (a .sheet)) (a .ceiling) (a .limit) B h (c .before .before .limit-bad .ensures) (c .before .if2 .taken) (c .refused2 .ensures)
 
 too-short-requires : tie.Need-too-short-requires
 too-short-requires c κs =
@@ -30,7 +31,7 @@ too-short-requires c κs =
     let B : Buffers = record { board = now (a .board); book = now (a .book); report = now (a .report) } in
     let l = c .before .before .before .before .before .if1 .left in
     let h : a .ceiling ≤ highestCeiling = omega arith in
-    low-limit (now (a .sheet)) (a .ceiling) (a .limit) B h (c .before .before .before .before .limit-bad .ensures) (c .before .before .before .if2 .left)
+    low-limit (modeOf (a .strict)) (now (a .sheet)) (a .ceiling) (a .limit) B h (c .before .before .before .before .limit-bad .ensures) (c .before .before .before .if2 .left)
 
 returns-3 : tie.Need-returns-3
 returns-3 c =
@@ -38,7 +39,7 @@ returns-3 c =
     let B : Buffers = record { board = now (a .board); book = now (a .book); report = now (a .report) } in
     let l = c .before .before .before .before .before .before .before .before .if1 .left in
     let h : a .ceiling ≤ highestCeiling = omega arith in
-    short-buffer (now (a .sheet)) (a .ceiling) (a .limit) B h (c .before .before .before .before .before .before .before .limit-bad .ensures) (c .before .before .before .before .before .before .if2 .left) (c .before .before .too-short .ensures) (c .before .if3 .taken) (c .refused3 .ensures)
+    short-buffer (modeOf (a .strict)) (now (a .sheet)) (a .ceiling) (a .limit) B h (c .before .before .before .before .before .before .before .limit-bad .ensures) (c .before .before .before .before .before .before .if2 .left) (c .before .before .too-short .ensures) (c .before .if3 .taken) (c .refused3 .ensures)
 
 run-front-requires : tie.Need-run-front-requires
 run-front-requires c κs =
@@ -46,7 +47,7 @@ run-front-requires c κs =
     let B : Buffers = record { board = now (a .board); book = now (a .book); report = now (a .report) } in
     let l = c .before .before .before .before .before .before .before .before .before .before .before .before .before .if1 .left in
     let h : a .ceiling ≤ highestCeiling = omega arith in
-    front-asks (now (a .sheet)) (a .ceiling) (a .limit) B h (c .before .before .before .before .before .before .before .before .before .before .before .before .limit-bad .ensures) (c .before .before .before .before .before .before .before .before .before .before .before .if2 .left) (c .before .before .before .before .before .before .before .too-short .ensures) (c .before .before .before .before .before .before .if3 .left) (sym (c .before .before .before .before .before .check-sheet .ensures) ∙ c .before .before .before .enum-told .given .1)
+    front-asks (modeOf (a .strict)) (now (a .sheet)) (a .ceiling) (a .limit) B h (c .before .before .before .before .before .before .before .before .before .before .before .before .limit-bad .ensures) (c .before .before .before .before .before .before .before .before .before .before .before .if2 .left) (c .before .before .before .before .before .before .before .too-short .ensures) (c .before .before .before .before .before .before .if3 .left) (sym (c .before .before .before .before .before .check-sheet .ensures) ∙ c .before .before .before .enum-told .given .1)
 
 cast-refused : tie.Need-cast-refused
 cast-refused c =
@@ -64,7 +65,7 @@ returns-4 c =
     let B : Buffers = record { board = now (a .board); book = now (a .book); report = now (a .report) } in
     let l = c .before .before .before .before .before .before .before .before .before .before .before .before .before .before .before .before .before .before .before .before .if1 .left in
     let h : a .ceiling ≤ highestCeiling = omega arith in
-    answered (now (a .sheet)) (a .ceiling) (a .limit) B h (c .before .before .before .before .before .before .before .before .before .before .before .before .before .before .before .before .before .before .before .limit-bad .ensures) (c .before .before .before .before .before .before .before .before .before .before .before .before .before .before .before .before .before .before .if2 .left) (c .before .before .before .before .before .before .before .before .before .before .before .before .before .before .too-short .ensures) (c .before .before .before .before .before .before .before .before .before .before .before .before .before .if3 .left) (sym (c .before .before .before .before .before .before .before .before .before .before .before .before .check-sheet .ensures) ∙ c .before .before .before .before .before .before .before .before .before .before .enum-told .given .1) (c .before .before .before .before .before .before .run-front .ensures)
+    answered (modeOf (a .strict)) (now (a .sheet)) (a .ceiling) (a .limit) B h (c .before .before .before .before .before .before .before .before .before .before .before .before .before .before .before .before .before .before .before .limit-bad .ensures) (c .before .before .before .before .before .before .before .before .before .before .before .before .before .before .before .before .before .before .if2 .left) (c .before .before .before .before .before .before .before .before .before .before .before .before .before .before .too-short .ensures) (c .before .before .before .before .before .before .before .before .before .before .before .before .before .if3 .left) (sym (c .before .before .before .before .before .before .before .before .before .before .before .before .check-sheet .ensures) ∙ c .before .before .before .before .before .before .before .before .before .before .enum-told .given .1) (c .before .before .before .before .before .before .run-front .ensures)
 
 returns-5 : tie.Need-returns-5
 returns-5 c =
@@ -72,7 +73,7 @@ returns-5 c =
     let B : Buffers = record { board = now (a .board); book = now (a .book); report = now (a .report) } in
     let l = c .before .before .before .before .before .before .before .before .before .before .before .if1 .left in
     let h : a .ceiling ≤ highestCeiling = omega arith in
-    refused-by (now (a .sheet)) (a .ceiling) (a .limit) B h (c .before .before .before .before .before .before .before .before .before .before .limit-bad .ensures) (c .before .before .before .before .before .before .before .before .before .if2 .left) (c .before .before .before .before .before .too-short .ensures) (c .before .before .before .before .if3 .left) _ (sym (c .before .before .before .check-sheet .ensures) ∙ c .before .enum-told2 .given .1) refl (c .refused4 .ensures)
+    refused-by (modeOf (a .strict)) (now (a .sheet)) (a .ceiling) (a .limit) B h (c .before .before .before .before .before .before .before .before .before .before .limit-bad .ensures) (c .before .before .before .before .before .before .before .before .before .if2 .left) (c .before .before .before .before .before .too-short .ensures) (c .before .before .before .before .if3 .left) _ (sym (c .before .before .before .check-sheet .ensures) ∙ c .before .enum-told2 .given .1) refl (c .refused4 .ensures)
 
 returns-6 : tie.Need-returns-6
 returns-6 c =
@@ -80,7 +81,7 @@ returns-6 c =
     let B : Buffers = record { board = now (a .board); book = now (a .book); report = now (a .report) } in
     let l = c .before .before .before .before .before .before .before .before .before .before .before .before .if1 .left in
     let h : a .ceiling ≤ highestCeiling = omega arith in
-    refused-by (now (a .sheet)) (a .ceiling) (a .limit) B h (c .before .before .before .before .before .before .before .before .before .before .before .limit-bad .ensures) (c .before .before .before .before .before .before .before .before .before .before .if2 .left) (c .before .before .before .before .before .before .too-short .ensures) (c .before .before .before .before .before .if3 .left) _ (sym (c .before .before .before .before .check-sheet .ensures) ∙ c .before .before .line .given .1) refl (c .refused5 .ensures)
+    refused-by (modeOf (a .strict)) (now (a .sheet)) (a .ceiling) (a .limit) B h (c .before .before .before .before .before .before .before .before .before .before .before .limit-bad .ensures) (c .before .before .before .before .before .before .before .before .before .before .if2 .left) (c .before .before .before .before .before .before .too-short .ensures) (c .before .before .before .before .before .if3 .left) _ (sym (c .before .before .before .before .check-sheet .ensures) ∙ c .before .before .line .given .1) refl (c .refused5 .ensures)
 
 returns-7 : tie.Need-returns-7
 returns-7 c =
@@ -88,8 +89,8 @@ returns-7 c =
     let B : Buffers = record { board = now (a .board); book = now (a .book); report = now (a .report) } in
     let l = c .before .before .before .before .before .before .before .before .before .before .before .before .if1 .left in
     let h : a .ceiling ≤ highestCeiling = omega arith in
-    refused-by (now (a .sheet)) (a .ceiling) (a .limit) B h (c .before .before .before .before .before .before .before .before .before .before .before .limit-bad .ensures) (c .before .before .before .before .before .before .before .before .before .before .if2 .left) (c .before .before .before .before .before .before .too-short .ensures) (c .before .before .before .before .before .if3 .left) _ (sym (c .before .before .before .before .check-sheet .ensures) ∙ c .before .before .line2 .given .1) refl (c .refused6 .ensures)
+    refused-by (modeOf (a .strict)) (now (a .sheet)) (a .ceiling) (a .limit) B h (c .before .before .before .before .before .before .before .before .before .before .before .limit-bad .ensures) (c .before .before .before .before .before .before .before .before .before .before .if2 .left) (c .before .before .before .before .before .before .too-short .ensures) (c .before .before .before .before .before .if3 .left) _ (sym (c .before .before .before .before .check-sheet .ensures) ∙ c .before .before .line2 .given .1) refl (c .refused6 .ensures)
 
-pub check-type-spec : {M : Type 1} → statement M
-check-type-spec =
+pub check-call-spec : {M : Type 1} → statement M
+check-call-spec =
     tie.close (tie.spec (λ c κs. search needs) returns (λ c κs. search needs) (λ c κs. search needs) returns-2 too-short-requires (λ c κs. search needs) (λ c. search needs) (λ c. search needs) (λ c. search needs) returns-3 (λ c κs. search needs) (λ c. search needs) run-front-requires (λ c. search needs) (λ c κs. search needs) (λ c. search needs) cast-refused (λ c κs. search needs) (λ c. search needs) cast-refused-2 (λ c κs. search needs) (λ c. search needs) (λ c. search needs) (λ c. search needs) returns-4 (λ c. search needs) (λ c. search needs) (λ c. search needs) returns-5 (λ c. search needs) (λ c. search needs) (λ c. search needs) returns-6 (λ c. search needs) (λ c. search needs) (λ c. search needs) returns-7)
