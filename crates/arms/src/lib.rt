@@ -1,8 +1,7 @@
 // A Case (worklist.rs: `solve_inference` for a Case): its scrutinee, and of each arm the pattern, its variables, its body.
 ghost use mathlib.Core.Path.{_≡_};
 ghost use mathlib.Core.List.{List};
-ghost use Prim.Native.Nat.{ℕ, _+_, _*_, _≤_, _<_};
-ghost use lib.ListN.{length};
+ghost use Prim.Native.Nat.{ℕ, _+_, _*_, _<_};
 ghost use Rattle.nodes.specs.Nodes.{nodesAt};
 ghost use Rattle.sheet.specs.Rows.{rows, Ended};
 ghost use Rattle.judgment.specs.Types.{unknown};

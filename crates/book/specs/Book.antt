@@ -2,16 +2,15 @@
 -- Words 3 k and 3 k + 1 are the start and the node count of unknown k's solution, word 3 k + 2 is for k's level; the nodes stand from word 3,000 on, in order of solving.
 use mathlib.Core.Path.{_≡_}
 use mathlib.Core.Logic.{_≢_}
-use mathlib.Core.Bool.{Bool, cond, _&&_}
+use mathlib.Core.Bool.{Bool, cond}
 use mathlib.Core.Option.{Option, none, some}
-use mathlib.Core.List.{List, [], _∷_, _++_}
+use mathlib.Core.List.{List, [], _∷_}
 use Prim.Native.Nat.{ℕ, zero, suc, _+_, _*_, _-_, _≤_, _<_}
 use lib.ListN.{length, getD, set, take}
 use lib.Seq.{sets}
 use lib.Dec.{eqb, leb, ltb}
 use Rattle.sizes.specs.Sizes.{mostNodes, mostNumbers, bookBase, bookSize, bookStride}
 use Rattle.nodes.specs.Nodes.{Node, Ty, kind, number, words, nodesAt}
-use Rattle.nodes.specs.Lists.{All}
 use Rattle.judgment.specs.Solutions.{_≔_, Solutions}
 use Rattle.judgment.specs.Levels.{Levels}
 use Rattle.judgment.specs.Good.{Fine}

@@ -1,6 +1,4 @@
 -- What the rules read of a sheet, and what they ask. Assumes nothing: these are definitions.
-use mathlib.Core.Path.{_≡_}
-use mathlib.Core.Bool.{true}
 use mathlib.Core.List.{List}
 use Prim.Native.Nat.{ℕ, _+_, _≤_, _<_}
 use lib.ListN.{length, take, drop}
@@ -14,7 +12,6 @@ use Rattle.judgment.specs.Good.{Free}
 use Rattle.board.specs.Board.{termAt}
 use Rattle.book.specs.Book.{sols}
 use Rattle.operations.specs.declared.Run.{Run}
-use Rattle.operations.specs.State.{going}
 
 -- the type on the n lines of a sheet from line `at` on
 abbrev pub typeOn : List ℕ → ℕ → ℕ → Ty

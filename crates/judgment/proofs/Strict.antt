@@ -1,4 +1,4 @@
--- The strict call beside the first: but for 39 they give the same (`strict-agreed`), the strict one accepts only what the first accepts
+-- The strict call beside the first: but for 39 they give the same (`strict-same`, `strict-call`), the strict one accepts only what the first accepts
 -- (`strict-accepts`), and the first never gives 39 (`never-39`). Assumes nothing.
 use Prim.Native.Nat.{ℕ, zero, suc, _+_}
 use native.Mathlib.Omega.{arith}

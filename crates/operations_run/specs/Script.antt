@@ -1,4 +1,4 @@
--- A rule made of every operation, for the run on real buffers. Assumes nothing: these are definitions.
+-- A rule made of fresh numbers, pushes, a solution and a write-out, for the run on real buffers. Assumes nothing: these are definitions.
 use mathlib.Core.List.{List, [], _∷_}
 use Prim.Native.Nat.{ℕ}
 use Rattle.nodes.specs.Nodes.{node, Ty}

@@ -1,4 +1,4 @@
-// Every operation on real buffers, and the longest chain that a book holds, followed: what stands in them afterwards is written out, word by word.
+// The operations of the rules on real buffers, and the longest chain that a book holds, followed: what stands in them afterwards is written out, word by word.
 ghost use mathlib.Core.Path.{_≡_};
 ghost use mathlib.Core.Bool.{Bool};
 ghost use mathlib.Core.List.{List, [], _∷_};

@@ -16,7 +16,7 @@ ghost use Rattle.judgment.specs.Levels.{scopeOf};
 ghost use Rattle.sizes.specs.Sizes.{mostNumbers, bookSize};
 ghost use Rattle.board.specs.Board.{Stacked};
 ghost use Rattle.book.specs.Book.{sols, levelsOf};
-ghost use Rattle.operations.specs.State.{WellFormed, Does, PerformsOnBoard, going, wayIn, modeOf, Scoped};
+ghost use Rattle.operations.specs.State.{WellFormed, Does, PerformsOnBoard, wayIn, modeOf, Scoped};
 ghost use Rattle.subtyping.specs.Subtyping.{shapeOf, sideOf, splitBy, rightBy, partsBy, openedAt, monoReport, instReport, rightReport, unknownReport, shapesReport, differReport, subtypeReport, SplitAsk, MonoAsk, InstAsk, PartsAsk, OpenAsk, SubAsk, SubtypeAsk};
 use board::before;
 use book::Met;
