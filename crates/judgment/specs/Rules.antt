@@ -1,6 +1,7 @@
--- The rules: the functions of `worklist.rs` that `check_type` reaches, in the Rust's order of pushes, fresh numbers, solutions and tests.
--- At each rule stands its name in DK (Dunfield and Krishnaswami 2013), or "papers silent": then the Rust decides. docs/DIFFERENCES.md has a
--- plan for each difference. Assumes nothing.
+-- The judgment rules, written from the papers with the differences that docs/DIFFERENCES.md lists, each with a plan. DK is Dunfield and
+-- Krishnaswami 2013; the worklist is the paper of 2019's (Zhao, Oliveira and Schrijvers). In every difference the Rust decides: these are the
+-- functions of `worklist.rs` that `check_type` reaches, in the Rust's order of pushes, fresh numbers, solutions and tests. At each rule stands its
+-- name in DK, or "papers silent". Both papers are meant as their published rules are known: the texts were not at hand. Assumes nothing.
 use Prim.Native.Nat.{ℕ, zero, suc, _+_}
 use mathlib.Core.Bool.{Bool, true, false, cond, _&&_}
 use mathlib.Core.Option.{Option, none, some}
