@@ -15,7 +15,7 @@ use Rattle.spelling.specs.declared.Line.the-variants.{Spelt}
 use Rattle.kinds.specs.declared.Row.{Row}
 use Rattle.kinds.specs.Kinds.{aPattern, nothing, number, table, rowOf, unlisted, valueOk, begins, partsOf}
 use Rattle.kinds.proofs.Rows.{listed-passes}
-use Rattle.grammar.specs.Grammar.{Item, part as item, entries, goal, ok, due, arms, repeated, following}
+use Rattle.grammar.specs.Grammar.{Item, part as item, entries, ok, due, arms, repeated, following}
 use Rattle.sheet.specs.Plan.{Narrow}
 use Rattle.sheet.specs.Form.{Forms, IsPart}
 use Rattle.sheet.proofs.Forming.{due-following}
@@ -60,7 +60,6 @@ patterns-all : (ts : List Triple) (ahead : List Item) → Forms ts ahead → Onl
 patterns-all [] ahead f p = tt
 patterns-all (t ∷ ts) [] f p = absurd f
 patterns-all (t ∷ ts) (entries k n ∷ ahead) f p = absurd p
-patterns-all (t ∷ ts) (goal ∷ ahead) f p = absurd p
 patterns-all (t ∷ ts) (item x ∷ ahead) f p =
     let g : (ok (item aPattern) (Spelt t) ≡ true) × Forms ts (due (item aPattern) (Spelt t) ++ ahead) = rw (p .0) at f in
     let l = line-pattern t (g .0) in

@@ -33,7 +33,7 @@ module _ (s : List ℕ) (a m : ℕ) where
   abbrev lines : List ℕ
   lines = take (lineLength * m) (drop (lineLength * a) s)
 
-  line : (i : ℕ) → i < m → lineAt lines i ≡ lineAt s (a + i)
+  pub line : (i : ℕ) → i < m → lineAt lines i ≡ lineAt s (a + i)
   unfolding lineAt
   line i h =
       let k : lineLength * (a + i) ≡ lineLength * a + lineLength * i = omega arith in

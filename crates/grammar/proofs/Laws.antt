@@ -12,7 +12,7 @@ use Rattle.spelling.specs.Spelling.{lineAt, linesFrom, firstMisspelt}
 use Rattle.spelling.proofs.Laws.{length-lines, lines-cons, lines-nil, past-end}
 use Rattle.grammar.specs.declared.Got.{Got}
 use Rattle.grammar.specs.declared.Got.the-variants.{Next, Refused}
-use Rattle.grammar.specs.Grammar.{Item, part, entries, goal, ok, due, read, readAt}
+use Rattle.grammar.specs.Grammar.{Item, part, entries, ok, due, read, readAt}
 
 abbrev andThen : Got → (ℕ → Got) → Got
 andThen (Next k) f = f k
@@ -48,7 +48,6 @@ bounds (l ∷ ls) (x ∷ ahead) at k e = let h = bounds ls (due x l ++ ahead) (a
 misspelt-nowhere : (x : Item) → ok x Misspelt ≡ true → ⊥
 misspelt-nowhere (part x) e = let z : _≡_ {A = ℕ} 0 1 = cc in omega arith
 misspelt-nowhere (entries k last) e = let z : _≡_ {A = ℕ} 0 1 = cc in omega arith
-misspelt-nowhere goal e = let z : _≡_ {A = ℕ} 0 1 = cc in omega arith
 
 -- lines that are read to the end are spelt
 pub all-spelt : (ls : List Line) (ahead : List Item) (at k : ℕ) → read ls ahead at ≡ Next k → k ≡ at + length ls → firstMisspelt ls ≡ length ls
@@ -95,7 +94,6 @@ module _ (s : List ℕ) where
   past : (x : Item) → ok x Misspelt ≡ false
   past (part k) = refl
   past (entries k n) = refl
-  past goal = refl
 
   pub inside : (x : Item) (at : ℕ) → ok x (lineAt s at) ≡ true → at < length s / lineLength
   inside x at e = go (lib.Dec.ltb at (length s / lineLength)) refl

@@ -11,7 +11,7 @@ use Rattle.spelling.specs.Text.{fieldText, lineText}
 use Rattle.kinds.specs.Kinds.{find, table, rowOf, begins, headOf}
 use Rattle.grammar.specs.declared.Check.{Check}
 use Rattle.grammar.specs.declared.Check.the-variants.{Plan, Unfit}
-use Rattle.grammar.specs.Grammar.{declaredBy, isGoal, arms, following, read, readAt}
+use Rattle.grammar.specs.Grammar.{declaredBy, arms, following, read, readAt}
 use Rattle.grammar.specs.Check.{readSheet, check}
 
 abbrev l : ℕ → ℕ → ℕ → Triple
@@ -48,5 +48,5 @@ abbrev unfit : List Check
 unfit = map Unfit (1 ∷ 1 ∷ 2 ∷ 2 ∷ 2 ∷ 4 ∷ 4 ∷ 4 ∷ 4 ∷ 4 ∷ 6 ∷ 6 ∷ [])
 
 pub bounds : map (λ n. map (λ ls. check (text ls)) (sheets n)) (0 ∷ 1 ∷ 9999 ∷ 10000 ∷ []) ≡ unfit ∷ replicate 12 Plan ∷ replicate 12 Plan ∷ unfit ∷ []
-unfolding lineText fieldText fieldFrom lineOf lineAt linesFrom linesOf firstMisspelt find table rowOf begins headOf declaredBy isGoal arms following read readAt readSheet check
+unfolding lineText fieldText fieldFrom lineOf lineAt linesFrom linesOf firstMisspelt find table rowOf begins headOf declaredBy arms following read readAt readSheet check
 bounds = refl

@@ -1,21 +1,24 @@
 -- What each way out of the readers shows, on values alone: r and its equations are what a call gave.
 -- Assumes nothing.
-use mathlib.Core.Path.{_≡_, refl, sym, _∙_}
+use mathlib.Core.Path.{_≡_, refl, sym, ap, _∙_}
 use mathlib.Core.List.{List, [], _∷_, _++_, append-nil}
 use Prim.Native.Nat.{ℕ, zero, suc, _+_, _-_, _/_, _≤_, _<_}
 use native.Mathlib.Omega.{arith}
 use lib.ListN.{length, replicate}
 use Rattle.sizes.specs.Sizes.{lineLength}
+use Rattle.spelling.specs.declared.Triple.{Triple}
+use Rattle.spelling.specs.declared.Line.the-variants.{Spelt, Misspelt}
 use Rattle.spelling.specs.Spelling.{lineAt}
 use Rattle.kinds.specs.declared.Head.{Head}
 use Rattle.kinds.specs.declared.Head.the-variants.{Parts, No}
 use Rattle.grammar.specs.declared.Got.{Got}
 use Rattle.grammar.specs.declared.Got.the-variants.{Next, Refused}
-use mathlib.Core.Bool.{Bool, true, false}
+use mathlib.Core.Bool.{Bool, true, false, cond}
 use Rattle.grammar.specs.declared.Declared.{Declared}
 use Rattle.grammar.specs.declared.Declared.the-variants.{Named, Expected, Not}
-use Rattle.grammar.specs.Grammar.{Item, part, entries, goal, arms, repeated, following, headIn, declaredIn, goalIn, readAt}
-use Rattle.kinds.specs.Kinds.{aType, aTerm, aPattern}
+use Rattle.grammar.specs.Grammar.{Item, part, entries, inOrder, declaredBy, arms, repeated, following, fits, partsDue, headIn, ok, due, readAt}
+use Rattle.kinds.specs.Kinds.{aType, aTerm, aPattern, anEntry, anExpected, aGoal, begins, headOf}
+use Rattle.kinds.proofs.Rows.{begins-head}
 use Rattle.grammar.proofs.Laws.{done, inside, refused, goes-on, follow, stops, within}
 
 unroll : (n : ℕ) (x : Item) → (n ≡ 0 → ⊥) → replicate n x ≡ x ∷ replicate (n - 1) x
@@ -26,6 +29,29 @@ unroll-arms : (n : ℕ) → (n ≡ 0 → ⊥) → arms n ≡ part aPattern ∷ p
 unfolding arms
 unroll-arms zero h = absurd (h refl)
 unroll-arms (suc n) h = let e : suc n - 1 ≡ n = omega arith in rw e
+
+-- ---- a line that is taken where entries are due begins a part
+fits-begins : (x : ℕ) (t : Triple) → begins x t ≡ fits (headOf x t)
+fits-begins = begins-head fits (λ ty te e n. refl) refl
+
+entry-begun : (k last : ℕ) (t : Triple) (kd nm : ℕ) → declaredBy k last t ≡ Named kd nm → begins anEntry t ≡ true
+unfolding declaredBy
+entry-begun k last t kd nm = go (begins anEntry t) (begins anExpected t)
+  where
+    go : (a b : Bool) → cond a (cond (inOrder k last t) (Named (t .kind) (t .value)) Not) (cond b Expected Not) ≡ Named kd nm → a ≡ true
+    go true b e = refl
+    go false true e = absurd (let z : _≡_ {A = ℕ} 0 1 = cc in omega arith)
+    go false false e = absurd (let z : _≡_ {A = ℕ} 0 1 = cc in omega arith)
+
+expected-begun : (k last : ℕ) (t : Triple) → declaredBy k last t ≡ Expected → begins anExpected t ≡ true
+unfolding declaredBy
+expected-begun k last t = go (begins anEntry t) (inOrder k last t) (begins anExpected t)
+  where
+    go : (a o b : Bool) → cond a (cond o (Named (t .kind) (t .value)) Not) (cond b Expected Not) ≡ Expected → b ≡ true
+    go true true b e = absurd (let z : _≡_ {A = ℕ} 0 1 = cc in omega arith)
+    go true false b e = absurd (let z : _≡_ {A = ℕ} 0 1 = cc in omega arith)
+    go false o true e = refl
+    go false o false e = absurd (let z : _≡_ {A = ℕ} 0 1 = cc in omega arith)
 
 module _ (s : List ℕ) where
   pub none : (x : Item) (n at : ℕ) → n ≡ 0 → Next at ≡ readAt s (replicate n x) at
@@ -80,37 +106,37 @@ module _ (s : List ℕ) where
       unfolding following
       whole j q r e′ f′ g = g ∙ sym (follow s (replicate ty (part aType)) _ at k (sym e₁ ∙ f₁) ∙ follow s (replicate te (part aTerm)) _ k j (sym e′ ∙ f′))
 
-  pub goal-no : (at : ℕ) (b : Bool) → b ≡ goalIn (lineAt s at) → b ≡ false → Refused (at + 1) ≡ readAt s (goal ∷ []) at
-  goal-no at b e f = sym (refused s goal [] at (sym e ∙ f))
+  pub misspelt : (x : Item) (at : ℕ) → lineAt s at ≡ Misspelt → Refused (at + 1) ≡ readAt s (x ∷ []) at
+  misspelt (part x) at e = sym (refused s (part x) [] at (rw e))
+  misspelt (entries k last) at e = sym (refused s (entries k last) [] at (rw e))
 
-  pub goal-inside : (at : ℕ) (b : Bool) → b ≡ goalIn (lineAt s at) → b ≡ true → at < length s / lineLength
-  goal-inside at b e f = inside s goal at (sym e ∙ f)
+  -- what is due after the line is what is due after a part's first line, and then y
+  one-part : (k last at x : ℕ) (y : Item) → ok (entries k last) (lineAt s at) ≡ true → due (entries k last) (lineAt s at) ++ [] ≡ due (part x) (lineAt s at) ++ (y ∷ []) → ok (part x) (lineAt s at) ≡ true
+      → readAt s (entries k last ∷ []) at ≡ readAt s (part x ∷ y ∷ []) at
+  one-part k last at x y o e f = goes-on s (entries k last) [] at o ∙ ap (λ (a : List Item). readAt s a (at + 1)) e ∙ sym (goes-on s (part x) (y ∷ []) at f)
 
-  pub goal-yes : (at : ℕ) (b : Bool) (r : Got) → b ≡ goalIn (lineAt s at) → b ≡ true → r ≡ readAt s (part aTerm ∷ []) (at + 1) → r ≡ readAt s (goal ∷ []) at
-  goal-yes at b r e f g = g ∙ sym (goes-on s goal [] at (sym e ∙ f))
-
-  module _ (k last at : ℕ) (d : Declared) (p : d ≡ declaredIn k last (lineAt s at)) where
+  module _ (k last at : ℕ) (t : Triple) (d : Declared) (l : lineAt s at ≡ Spelt t) (p : d ≡ declaredBy k last t) where
     pub not-entry : d ≡ Not → Refused (at + 1) ≡ readAt s (entries k last ∷ []) at
-    not-entry q = sym (refused s (entries k last) [] at (rw (sym p ∙ q)))
+    not-entry q = sym (refused s (entries k last) [] at (rw (l, sym p ∙ q)))
 
-    pub named-inside : (kd nm : ℕ) → d ≡ Named kd nm → at < length s / lineLength
-    named-inside kd nm q = inside s (entries k last) at (rw (sym p ∙ q))
+    -- an entry in its order is read as one part, and then the others are
+    pub named : (kd nm : ℕ) → d ≡ Named kd nm → readAt s (entries k last ∷ []) at ≡ readAt s (part anEntry ∷ entries kd nm ∷ []) at
+    named kd nm q =
+        let here : due (entries k last) (lineAt s at) ++ [] ≡ due (part anEntry) (lineAt s at) ++ (entries kd nm ∷ []) = rw (l, sym p ∙ q) (append-nil _) in
+        one-part k last at anEntry (entries kd nm) (rw (l, sym p ∙ q)) here (rw l (sym (fits-begins anEntry t) ∙ entry-begun k last t kd nm (sym p ∙ q)))
 
-    pub expected-inside : d ≡ Expected → at < length s / lineLength
-    expected-inside q = inside s (entries k last) at (rw (sym p ∙ q))
+    -- so is the expected type, and then the goal
+    pub expected : d ≡ Expected → readAt s (entries k last ∷ []) at ≡ readAt s (part anExpected ∷ part aGoal ∷ []) at
+    expected q =
+        let here : due (entries k last) (lineAt s at) ++ [] ≡ due (part anExpected) (lineAt s at) ++ (part aGoal ∷ []) = rw (l, sym p ∙ q) (append-nil _) in
+        one-part k last at anExpected (part aGoal) (rw (l, sym p ∙ q)) here (rw l (sym (fits-begins anExpected t) ∙ expected-begun k last t (sym p ∙ q)))
 
-    pub named : (kd nm : ℕ) → d ≡ Named kd nm → readAt s (entries k last ∷ []) at ≡ readAt s (part aType ∷ entries kd nm ∷ []) (at + 1)
-    named kd nm q = goes-on s (entries k last) [] at (rw (sym p ∙ q)) ∙ rw (sym p ∙ q)
-
-    pub expected : d ≡ Expected → readAt s (entries k last ∷ []) at ≡ readAt s (part aType ∷ goal ∷ []) (at + 1)
-    expected q = goes-on s (entries k last) [] at (rw (sym p ∙ q)) ∙ rw (sym p ∙ q)
-
-  module _ (x y : Item) (at : ℕ) (r : Got) (head : readAt s (x ∷ []) at ≡ readAt s (part aType ∷ y ∷ []) (at + 1)) (e : r ≡ readAt s (part aType ∷ []) (at + 1)) where
+  module _ (x y z : Item) (at : ℕ) (r : Got) (head : readAt s (x ∷ []) at ≡ readAt s (y ∷ z ∷ []) at) (e : r ≡ readAt s (y ∷ []) at) where
     pub entry-stop : (l : ℕ) → r ≡ Refused l → Refused l ≡ readAt s (x ∷ []) at
-    entry-stop l f = sym (head ∙ stops s (part aType ∷ []) (y ∷ []) (at + 1) l (sym e ∙ f))
+    entry-stop l f = sym (head ∙ stops s (y ∷ []) (z ∷ []) at l (sym e ∙ f))
 
-    pub entry-more : (j : ℕ) (q : Got) → r ≡ Next j → q ≡ readAt s (y ∷ []) j → q ≡ readAt s (x ∷ []) at
-    entry-more j q f g = g ∙ sym (head ∙ follow s (part aType ∷ []) (y ∷ []) (at + 1) j (sym e ∙ f))
+    pub entry-more : (j : ℕ) (q : Got) → r ≡ Next j → q ≡ readAt s (z ∷ []) j → q ≡ readAt s (x ∷ []) at
+    entry-more j q f g = g ∙ sym (head ∙ follow s (y ∷ []) (z ∷ []) at j (sym e ∙ f))
 
   -- what was read lies within the sheet
   pub read-within : (x : Item) (at k : ℕ) (r : Got) → at < length s / lineLength → r ≡ readAt s (x ∷ []) at → r ≡ Next k → (at ≤ k) × (k ≤ length s / lineLength)

@@ -1,57 +1,45 @@
 -- The grammar of a plan, line by line. Assumes nothing: these are definitions.
-use mathlib.Core.Bool.{Bool, true, false, cond, _&&_}
+use mathlib.Core.Bool.{Bool, true, false, cond}
 use mathlib.Core.List.{List, [], _∷_, _++_}
 use Prim.Native.Nat.{ℕ, zero, suc, _+_, _*_, _-_, _/_}
 use lib.ListN.{length, replicate, take, drop}
-use lib.Dec.{ltb, leb, eqb}
-use Rattle.sizes.specs.Sizes.{lineLength, highestName}
+use lib.Dec.{ltb, eqb}
+use Rattle.sizes.specs.Sizes.{lineLength}
 use Rattle.spelling.specs.declared.Triple.{Triple}
 use Rattle.spelling.specs.declared.Line.{Line}
 use Rattle.spelling.specs.declared.Line.the-variants.{Spelt, Misspelt}
 use Rattle.spelling.specs.Spelling.{linesFrom}
 use Rattle.kinds.specs.declared.Head.{Head}
 use Rattle.kinds.specs.declared.Head.the-variants.{Parts, No}
-use Rattle.kinds.specs.Kinds.{aType, aTerm, aPattern, anArm, headOf}
+use Rattle.kinds.specs.Kinds.{aType, aTerm, aPattern, anArm, anEntry, anExpected, aGoal, begins, headOf}
 use Rattle.grammar.specs.declared.Declared.{Declared}
 use Rattle.grammar.specs.declared.Declared.the-variants.{Named, Expected, Not}
 use Rattle.grammar.specs.declared.Got.{Got}
 use Rattle.grammar.specs.declared.Got.the-variants.{Next, Refused}
 
--- What is due: a whole type, term or pattern; the rest of a plan, after an entry of kind k, 1 or 2, with the name last; the line of kind 4
--- and the term.
+-- What is due: a whole part of a sort, such as a type, or the line of kind 4 with the term; the rest of a plan, after an entry of kind k, 1
+-- or 2, with the name last.
 pub data Item : Type 0 where
   part : ℕ → Item
   entries : ℕ → ℕ → Item
-  goal : Item
 
 -- ---- which lines may stand where an item is due
 abbrev pub headIn : ℕ → Line → Head
 headIn x (Spelt t) = headOf x t
 headIn x Misspelt = No
 
--- an entry: its name is 1 to 9,999 and above the last one of its kind
-abbrev pub named : ℕ → Triple → Declared
-named last t = cond (ltb last (t .value) && leb (t .value) highestName) (Named (t .kind) (t .value)) Not
+-- an entry of kind 2 comes after those of kind 1, and its name is above the last one of its kind
+abbrev pub inOrder : ℕ → ℕ → Triple → Bool
+inOrder k last t = cond (eqb (t .kind) k) (ltb last (t .value)) (eqb (t .kind) 2)
 
--- kind 1, then kind 2, then kind 3
+-- entries, then the expected type; the table says which kinds they have and what their fields hold
 unfoldable pub declaredBy : ℕ → ℕ → Triple → Declared
 declaredBy k last t =
-    cond (eqb (t .count) 0)
-    (cond (eqb (t .kind) 3) (cond (eqb (t .value) 0) Expected Not)
-    (cond (eqb (t .kind) k) (named last t)
-    (cond (eqb (t .kind) 2) (named 0 t) Not)))
-    Not
+    cond (begins anEntry t) (cond (inOrder k last t) (Named (t .kind) (t .value)) Not) (cond (begins anExpected t) Expected Not)
 
 abbrev pub declaredIn : ℕ → ℕ → Line → Declared
 declaredIn k last (Spelt t) = declaredBy k last t
 declaredIn k last Misspelt = Not
-
-unfoldable pub isGoal : Triple → Bool
-isGoal t = eqb (t .kind) 4 && (eqb (t .value) 0 && eqb (t .count) 0)
-
-abbrev pub goalIn : Line → Bool
-goalIn (Spelt t) = isGoal t
-goalIn Misspelt = false
 
 -- ---- what must follow such a line
 -- n arms, each a pattern and a term
@@ -81,24 +69,22 @@ stands (Named k n) = true
 stands Expected = true
 stands Not = false
 
--- a type follows each
-abbrev pub entryDue : Declared → List Item
-entryDue (Named k n) = part aType ∷ entries k n ∷ []
-entryDue Expected = part aType ∷ goal ∷ []
-entryDue Not = []
+-- what the table says, and then the rest of the plan
+abbrev pub entryDue : Declared → Line → List Item
+entryDue (Named k n) l = partsDue (headIn anEntry l) ++ (entries k n ∷ [])
+entryDue Expected l = partsDue (headIn anExpected l) ++ (part aGoal ∷ [])
+entryDue Not l = []
 
 -- ---- reading
 -- the line may stand where the item is due
 abbrev pub ok : Item → Line → Bool
 ok (part x) l = fits (headIn x l)
 ok (entries k last) l = stands (declaredIn k last l)
-ok goal l = goalIn l
 
 -- and is then followed by these
 abbrev pub due : Item → Line → List Item
 due (part x) l = partsDue (headIn x l)
-due (entries k last) l = entryDue (declaredIn k last l)
-due goal l = part aTerm ∷ []
+due (entries k last) l = entryDue (declaredIn k last l) l
 
 -- Reads what is due from the lines, the first of which is at `at`, counted from 0: each line is the first thing due, and puts what must
 -- follow it in its place. Refused, counted from 1, is the first line that can't stand where it does, or the first that is lacking.

@@ -1,11 +1,14 @@
 // The grammar of a plan: readers of types, terms, arms and patterns, and refusals 3, 4 and 5.
 use kinds::ARM;
+use kinds::ENTRY;
+use kinds::EXPECTED;
+use kinds::GOAL;
 use kinds::Head;
 use kinds::PATTERN;
 use kinds::TERM;
 use kinds::TYPE;
+use kinds::begins;
 use kinds::head_of;
-use sizes::HIGHEST_NAME;
 use sizes::LINE_LENGTH;
 use sizes::SHEET_BYTES;
 use spelling::Line;
@@ -17,9 +20,10 @@ ghost use mathlib.Core.List.{[], _∷_};
 ghost use Prim.Native.Nat.{_+_, _*_, _-_, _/_, _≤_, _<_};
 ghost use lib.ListN.{length, replicate};
 ghost use Rattle.sizes.specs.Sizes.{lineLength};
+ghost use Rattle.spelling.specs.declared.Line.the-variants.{Spelt};
 ghost use Rattle.spelling.specs.Spelling.{lineAt};
-ghost use Rattle.kinds.specs.Kinds.{aType, aTerm, aPattern};
-ghost use Rattle.grammar.specs.Grammar.{part, entries, goal, headIn, named as namedBy, declaredBy, declaredIn, isGoal, goalIn, arms, following, readAt, subTerm};
+ghost use Rattle.kinds.specs.Kinds.{aType, aTerm, aPattern, aGoal};
+ghost use Rattle.grammar.specs.Grammar.{part, entries, headIn, inOrder, declaredBy, arms, following, readAt, subTerm};
 ghost use Rattle.grammar.specs.Check.{readSheet, refusal, check};
 
 // Where reading goes on, counted from 0; or the line, counted from 1, that can't continue a plan.
@@ -171,6 +175,22 @@ fn read_follow(s: &[u8], at: usize, types: u64, terms: u64, each: u64, count: u6
     }
 }
 
+// The part of a sort that starts with the line t, which stands at `at`.
+fn read_part(s: &[u8], at: usize, t: Triple, sort: u64) -> Got
+    requires { ⌜ (at ≤ length (now s) / lineLength) × (lineAt (now s) at ≡ Spelt t) ⌝ }
+    ensures { λ r. ⌜ r ≡ readAt (now (s .entry)) (part sort ∷ []) at ⌝ }
+{
+    match head_of(t, sort) {
+        Head::Parts {
+            types,
+            terms,
+            each,
+            count,
+        } => read_follow(s, at + 1, types, terms, each, count),
+        Head::No => Got::Refused(at + 1),
+    }
+}
+
 // What a line says where an entry of kind 1 or 2, or the expected type, is due.
 pub enum Declared {
     Named { kind: u64, name: u64 },
@@ -178,82 +198,44 @@ pub enum Declared {
     Not,
 }
 
-// An entry whose name is above the last one of its kind.
-fn named(t: Triple, last: u64) -> Declared
-    ensures { λ r. ⌜ r ≡ namedBy last t ⌝ }
+// Kind 2 comes after kind 1, and names rise within each. The entry before had kind k and the name last.
+fn in_order(t: Triple, k: u64, last: u64) -> bool
+    ensures { λ r. ⌜ r ≡ inOrder k last t ⌝ }
 {
-    if last < t.value {
-        if t.value <= HIGHEST_NAME {
+    if t.kind == k {
+        last < t.value
+    } else {
+        t.kind == 2
+    }
+}
+
+fn declared_by(t: Triple, k: u64, last: u64) -> Declared
+    ensures { λ r. ⌜ r ≡ declaredBy k last t ⌝ }
+{
+    if begins(t, ENTRY) {
+        if in_order(t, k, last) {
             return Declared::Named {
                 kind: t.kind,
                 name: t.value,
             };
+        } else {
+            return Declared::Not;
         }
+    }
+    if begins(t, EXPECTED) {
+        return Declared::Expected;
     }
     Declared::Not
-}
-
-// The entry before had kind k and the name last.
-fn declared_by(t: Triple, k: u64, last: u64) -> Declared
-    ensures { λ r. ⌜ r ≡ declaredBy k last t ⌝ }
-{
-    if t.count == 0 {
-        if t.kind == 3 {
-            if t.value == 0 {
-                return Declared::Expected;
-            } else {
-                return Declared::Not;
-            }
-        }
-        if t.kind == k {
-            return named(t, last);
-        }
-        if t.kind == 2 {
-            return named(t, 0);
-        }
-    }
-    Declared::Not
-}
-
-fn declared_at(s: &[u8], at: usize, k: u64, last: u64) -> Declared
-    ensures { λ r. ⌜ r ≡ declaredIn k last (lineAt (now (s .entry)) at) ⌝ }
-{
-    match line_at(s, at) {
-        Line::Spelt(t) => declared_by(t, k, last),
-        Line::Misspelt => Declared::Not,
-    }
-}
-
-// The line before the term.
-fn is_goal(t: Triple) -> bool
-    ensures { λ r. ⌜ r ≡ isGoal t ⌝ }
-{
-    if t.kind == 4 {
-        if t.value == 0 {
-            return t.count == 0;
-        }
-    }
-    false
-}
-
-fn goal_at(s: &[u8], at: usize) -> bool
-    ensures { λ r. ⌜ r ≡ goalIn (lineAt (now (s .entry)) at) ⌝ }
-{
-    match line_at(s, at) {
-        Line::Spelt(t) => is_goal(t),
-        Line::Misspelt => false,
-    }
 }
 
 // The line of kind 4 and the term.
 fn read_goal(s: &[u8], at: usize) -> Got
     requires { ⌜ at ≤ length (now s) / lineLength ⌝ }
-    ensures { λ r. ⌜ r ≡ readAt (now (s .entry)) (goal ∷ []) at ⌝ }
+    ensures { λ r. ⌜ r ≡ readAt (now (s .entry)) (part aGoal ∷ []) at ⌝ }
 {
-    if goal_at(s, at) {
-        read_term(s, at + 1)
-    } else {
-        Got::Refused(at + 1)
+    match line_at(s, at) {
+        Line::Spelt(t) => read_part(s, at, t, GOAL),
+        Line::Misspelt => Got::Refused(at + 1),
     }
 }
 
@@ -262,12 +244,16 @@ fn read_entries(s: &[u8], at: usize, k: u64, last: u64) -> Got
     requires { ⌜ at ≤ length (now s) / lineLength ⌝ }
     ensures { λ r. ⌜ r ≡ readAt (now (s .entry)) (entries k last ∷ []) at ⌝ }
 {
-    match declared_at(s, at, k, last) {
-        Declared::Named { kind, name } => match read_type(s, at + 1) {
+    let t = match line_at(s, at) {
+        Line::Spelt(t) => t,
+        Line::Misspelt => return Got::Refused(at + 1),
+    };
+    match declared_by(t, k, last) {
+        Declared::Named { kind, name } => match read_part(s, at, t, ENTRY) {
             Got::Next(j) => read_entries(s, j, kind, name),
             Got::Refused(l) => Got::Refused(l),
         },
-        Declared::Expected => match read_type(s, at + 1) {
+        Declared::Expected => match read_part(s, at, t, EXPECTED) {
             Got::Next(j) => read_goal(s, j),
             Got::Refused(l) => Got::Refused(l),
         },

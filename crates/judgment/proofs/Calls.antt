@@ -13,7 +13,7 @@ use Rattle.spelling.specs.declared.Triple.{Triple}
 use Rattle.spelling.specs.Spelling.{fieldFrom, lineOf, lineAt, linesFrom, linesOf, firstMisspelt}
 use Rattle.spelling.specs.Text.{fieldText, lineText}
 use Rattle.kinds.specs.Kinds.{partsOf, rowOf, find as findRow, table, begins, headOf}
-use Rattle.grammar.specs.Grammar.{declaredBy, isGoal, arms, following, read, readAt}
+use Rattle.grammar.specs.Grammar.{declaredBy, arms, following, read, readAt}
 use Rattle.grammar.specs.Check.{readSheet, check}
 use Rattle.sheet.specs.Plan.{triples, planOf, declarations, bindingsIn, endFrom, entriesEnd, placesOf, partLine, isPlain, names, plainEntries, plainPlan, lookup}
 use Rattle.judgment.specs.Types.{view, occurs, isMonotype, substitute, rename, frontNames, afterFront, canUnify}
@@ -55,11 +55,11 @@ pub refused-calls : map (λ q. numbers (call firstCall (q .1) (q .0) 1024 (buffe
     (5 ∷ 5 ∷ 0 ∷ 0 ∷ 0 ∷ 0 ∷ 0 ∷ []) ∷
     (1 ∷ 0 ∷ 0 ∷ 0 ∷ 0 ∷ 0 ∷ 0 ∷ []) ∷
     []
-unfolding call lineText fieldText fieldFrom lineOf lineAt linesFrom linesOf firstMisspelt findRow table rowOf begins headOf declaredBy isGoal arms following read readAt readSheet check
+unfolding call lineText fieldText fieldFrom lineOf lineAt linesFrom linesOf firstMisspelt findRow table rowOf begins headOf declaredBy arms following read readAt readSheet check
 refused-calls = refl
 
 pub nothing-written : map (λ q. call firstCall (q .1) (q .0) 1024 (buffers 12288 11192 4096) .after) refusedCalls ≡ map (λ q. buffers 12288 11192 4096) refusedCalls
-unfolding call lineText fieldText fieldFrom lineOf lineAt linesFrom linesOf firstMisspelt findRow table rowOf begins headOf declaredBy isGoal arms following read readAt readSheet check
+unfolding call lineText fieldText fieldFrom lineOf lineAt linesFrom linesOf firstMisspelt findRow table rowOf begins headOf declaredBy arms following read readAt readSheet check
 nothing-written = refl
 
 -- a buffer that is one word short: document 01's 2
@@ -128,11 +128,11 @@ pub low-limits : told (call firstCall firstSheet 10000 1 (buffers 12288 11192 6)
     (23 ∷ 0 ∷ 4 ∷ 1 ∷ 0 ∷ 0 ∷ 1 ∷ [], 0 ∷ 0 ∷ 0 ∷ 0 ∷ 0 ∷ 0 ∷ 0 ∷ 0 ∷ 7 ∷ 7 ∷ []) ∷
     (15 ∷ 0 ∷ 4 ∷ 1 ∷ 1 ∷ 3 ∷ 1 ∷ [], 12 ∷ 1 ∷ 13 ∷ 0 ∷ 12 ∷ 1 ∷ 12 ∷ 1 ∷ 0 ∷ 0 ∷ 0 ∷ 0 ∷ 7 ∷ 7 ∷ []) ∷
     []
-unfolding call lineText fieldText fieldFrom lineOf lineAt linesFrom linesOf firstMisspelt findRow table rowOf begins headOf declaredBy isGoal arms following read readAt readSheet check triples judge resultOf runOf checkType runFrom perform operations boardNodes findVar before lookup instantiateFrom subtype openNames signatureFrom insert pushVars checkPatterns checkArms inferApp find links anySolved writeOutBy writeOut solutionNodes view termView lambdaOf occurs isMonotype substitute rename frontNames afterFront canUnify planOf declarations bindingsIn endFrom entriesEnd placesOf partLine isPlain names plainEntries plainPlan partsOf reportWords padded words
+unfolding call lineText fieldText fieldFrom lineOf lineAt linesFrom linesOf firstMisspelt findRow table rowOf begins headOf declaredBy arms following read readAt readSheet check triples judge resultOf runOf checkType runFrom perform operations boardNodes findVar before lookup instantiateFrom subtype openNames signatureFrom insert pushVars checkPatterns checkArms inferApp find links anySolved writeOutBy writeOut solutionNodes view termView lambdaOf occurs isMonotype substitute rename frontNames afterFront canUnify planOf declarations bindingsIn endFrom entriesEnd placesOf partLine isPlain names plainEntries plainPlan partsOf reportWords padded words
 low-limits = refl
 
 pub highest-limit : numbers (call firstCall firstSheet 10000 4096 (buffers 12288 11192 16384) .answer) ≡ 0 ∷ 0 ∷ 5 ∷ 1 ∷ 0 ∷ 0 ∷ 1 ∷ []
-unfolding call lineText fieldText fieldFrom lineOf lineAt linesFrom linesOf firstMisspelt findRow table rowOf begins headOf declaredBy isGoal arms following read readAt readSheet check triples judge resultOf runOf checkType runFrom perform operations boardNodes findVar before lookup instantiateFrom subtype openNames signatureFrom insert pushVars checkPatterns checkArms inferApp find links anySolved writeOutBy writeOut solutionNodes view termView lambdaOf occurs isMonotype substitute rename frontNames afterFront canUnify planOf declarations bindingsIn endFrom entriesEnd placesOf partLine isPlain names plainEntries plainPlan partsOf reportWords padded words
+unfolding call lineText fieldText fieldFrom lineOf lineAt linesFrom linesOf firstMisspelt findRow table rowOf begins headOf declaredBy arms following read readAt readSheet check triples judge resultOf runOf checkType runFrom perform operations boardNodes findVar before lookup instantiateFrom subtype openNames signatureFrom insert pushVars checkPatterns checkArms inferApp find links anySolved writeOutBy writeOut solutionNodes view termView lambdaOf occurs isMonotype substitute rename frontNames afterFront canUnify planOf declarations bindingsIn endFrom entriesEnd placesOf partLine isPlain names plainEntries plainPlan partsOf reportWords padded words
 highest-limit = refl
 
 -- a run leaves 12,288 words of the board as 0 and keeps the others

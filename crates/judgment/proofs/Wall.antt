@@ -10,7 +10,7 @@ use Rattle.spelling.specs.Spelling.{fieldFrom, lineOf, lineAt, linesFrom, lines
 use Rattle.spelling.specs.Text.{fieldText, lineText}
 use Rattle.kinds.specs.Kinds.{partsOf, rowOf, find as findRow, table, begins, headOf}
 use Rattle.grammar.specs.declared.Check.the-variants.{Plan}
-use Rattle.grammar.specs.Grammar.{declaredBy, isGoal, arms, following, read, readAt}
+use Rattle.grammar.specs.Grammar.{declaredBy, arms, following, read, readAt}
 use Rattle.grammar.specs.Check.{readSheet, check}
 use Rattle.sheet.specs.Plan.{triples, planOf, declarations, bindingsIn, endFrom, entriesEnd, placesOf, partLine, isPlain, names, plainEntries, plainPlan, lookup}
 use Rattle.judgment.specs.Types.{view, occurs, isMonotype, substitute, rename, frontNames, afterFront, canUnify}
@@ -84,7 +84,7 @@ abbrev pub firstSheet : List ℕ
 firstSheet = lineText (l 3 0 0) ++ (lineText (l 12 1 0) ++ (lineText (l 4 0 0) ++ lineText (l 22 7 0)))
 
 pub first-taken : check firstSheet ≡ Plan
-unfolding lineText fieldText fieldFrom lineOf lineAt linesFrom linesOf firstMisspelt findRow table rowOf begins headOf declaredBy isGoal arms following read readAt readSheet check
+unfolding lineText fieldText fieldFrom lineOf lineAt linesFrom linesOf firstMisspelt findRow table rowOf begins headOf declaredBy arms following read readAt readSheet check
 first-taken = refl
 
 pub first-lines : triples firstSheet ≡ l 3 0 0 ∷ l 12 1 0 ∷ l 4 0 0 ∷ l 22 7 0 ∷ []

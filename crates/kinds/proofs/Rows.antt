@@ -1,15 +1,17 @@
 -- What holds of every row of the table. Assumes nothing.
-use mathlib.Core.Path.{_≡_, refl, subst⁻¹}
+use mathlib.Core.Path.{_≡_, refl, sym, ap, _∙_, subst⁻¹}
 use mathlib.Core.Logic.{_⊎_, inl, inr}
-use mathlib.Core.Bool.{Bool, true, false, cond, _&&_, and-eq-true-iff}
+use mathlib.Core.Bool.{Bool, true, false, not, cond, _&&_, _||_, and-eq-true-iff}
 use mathlib.Core.List.{List, [], _∷_}
 use Prim.Native.Nat.{ℕ, _+_, _*_, _≤_, _<_, max}
 use native.Mathlib.Omega.{arith}
 use lib.Dec.{eqb, leb}
-use borrow.Author.Tests.{ne-eqb, leb-true, eqb-true}
+use borrow.Author.Tests.{eq-eqb, ne-eqb, leb-true, eqb-true}
 use Rattle.spelling.specs.declared.Triple.{Triple}
 use Rattle.kinds.specs.declared.Row.{Row}
-use Rattle.kinds.specs.Kinds.{Listed, find, table, rowOf, unlisted, nothing, anArm, partsOf}
+use Rattle.kinds.specs.declared.Head.{Head}
+use Rattle.kinds.specs.declared.Head.the-variants.{Parts, No}
+use Rattle.kinds.specs.Kinds.{Listed, find, table, rowOf, unlisted, nothing, anArm, anEntry, anExpected, aGoal, begins, headOf, partsOf}
 
 -- the largest kind listed
 abbrev pub most : List Listed → ℕ
@@ -58,6 +60,45 @@ pub listed-passes : (p : ℕ → Row → Bool) (k : ℕ) → everyListed p table
 unfolding rowOf
 listed-passes p k e = listed p k table e
 
+-- ---- the plan's own lines: so many types and terms follow, and no more
+abbrev pub Follow : ℕ → ℕ → Row → Type 0
+Follow ty te r = (r .types ≡ ty) × (r .terms ≡ te) × (r .each ≡ nothing)
+
+abbrev follows : ℕ → ℕ → ℕ → Row → Bool
+follows x ty te r = not (eqb (r .sort) x) || (eqb (r .types) ty && (eqb (r .terms) te && eqb (r .each) nothing))
+
+follow : (x ty te : ℕ) (r : Row) → follows x ty te r ≡ true → r .sort ≡ x → Follow ty te r
+follow x ty te r p e =
+    let h : (eqb (r .types) ty && (eqb (r .terms) te && eqb (r .each) nothing)) ≡ true = rw (eq-eqb (r .sort) x e) at p in
+    let a = and-eq-true-iff (eqb (r .types) ty) _ .0 h in
+    let b = and-eq-true-iff (eqb (r .terms) te) _ .0 (a .1) in
+    (eqb-true (r .types) ty (a .0), eqb-true (r .terms) te (b .0), eqb-true (r .each) nothing (b .1))
+
+-- a type follows an entry, and the expected type's line; a term follows the goal's
+pub entry-row : (k : ℕ) → rowOf k .sort ≡ anEntry → Follow 1 0 (rowOf k)
+unfolding table
+entry-row k e = follow anEntry 1 0 (rowOf k) (row-passes (follows anEntry 1 0) k refl) e
+
+pub expected-row : (k : ℕ) → rowOf k .sort ≡ anExpected → Follow 1 0 (rowOf k)
+unfolding table
+expected-row k e = follow anExpected 1 0 (rowOf k) (row-passes (follows anExpected 1 0) k refl) e
+
+pub goal-row : (k : ℕ) → rowOf k .sort ≡ aGoal → Follow 0 1 (rowOf k)
+unfolding table
+goal-row k e = follow aGoal 0 1 (rowOf k) (row-passes (follows aGoal 0 1) k refl) e
+
+-- the expected type's line has kind 3
+pub expected-kind : (k : ℕ) → rowOf k .sort ≡ anExpected → k ≡ 3
+unfolding table
+expected-kind k e = go (listed-passes three k refl)
+  where
+    three : ℕ → Row → Bool
+    three k r = not (eqb (r .sort) anExpected) || eqb k 3
+
+    go : (rowOf k ≡ unlisted) ⊎ (three k (rowOf k) ≡ true) → k ≡ 3
+    go (inl u) = absurd (let z : nothing ≡ anExpected = sym (ap (λ (r : Row). r .sort) u) ∙ e in omega arith)
+    go (inr h) = eqb-true k 3 (rw (eq-eqb (rowOf k .sort) anExpected e) at h)
+
 -- few parts follow whatever the count says
 pub few-types : (k : ℕ) → rowOf k .types ≤ 2
 unfolding table
@@ -75,3 +116,12 @@ few-parts t h = go (eqb (rowOf (t .kind) .each) nothing) (eqb (rowOf (t .kind) .
     go true b = let ty = few-types (t .kind) in let te = few-terms (t .kind) in omega arith
     go false true = let ty = few-types (t .kind) in let te = few-terms (t .kind) in omega arith
     go false false = let ty = few-types (t .kind) in let te = few-terms (t .kind) in omega arith
+
+-- a part begins with a line exactly if the line says what must follow it
+pub begins-head : (f : Head → Bool) → ((ty te e n : ℕ) → f (Parts ty te e n) ≡ true) → f No ≡ false → (x : ℕ) (t : Triple) → begins x t ≡ f (headOf x t)
+unfolding headOf
+begins-head f some none x t = go (begins x t)
+  where
+    go : (b : Bool) → b ≡ f (cond b (Parts (rowOf (t .kind) .types) (rowOf (t .kind) .terms) (rowOf (t .kind) .each) (t .count)) No)
+    go true = sym (some (rowOf (t .kind) .types) (rowOf (t .kind) .terms) (rowOf (t .kind) .each) (t .count))
+    go false = sym none

@@ -1,4 +1,5 @@
--- The kinds of document 01: types 11 to 16, terms 21 to 30, patterns 41 to 43; what a line's fields hold, and which parts follow it.
+-- The kinds of document 01: the plan's own lines 1 to 4, types 11 to 16, terms 21 to 30, patterns 41 to 43; what a line's fields hold, and
+-- which parts follow it.
 -- Assumes nothing: these are definitions.
 use mathlib.Core.Bool.{Bool, true, false, cond, _&&_}
 use mathlib.Core.List.{List, [], _∷_}
@@ -25,6 +26,16 @@ aPattern = 3
 
 abbrev pub anArm : ℕ
 anArm = 4
+
+-- an entry with its type, the expected type with its line, and the term with its line
+abbrev pub anEntry : ℕ
+anEntry = 5
+
+abbrev pub anExpected : ℕ
+anExpected = 6
+
+abbrev pub aGoal : ℕ
+aGoal = 7
 
 -- what a value or a count holds
 abbrev unused : ℕ
@@ -59,6 +70,10 @@ listed k r = record { kind = k; is = r }
 
 unfoldable pub table : List Listed
 table =
+    listed 1 (row anEntry name unused 1 0 nothing) ∷  -- data constructor (name, type)
+    listed 2 (row anEntry name unused 1 0 nothing) ∷  -- context variable (name, type)
+    listed 3 (row anExpected unused unused 1 0 nothing) ∷  -- expected type (type)
+    listed 4 (row aGoal unused unused 0 1 nothing) ∷  -- term (term)
     listed 11 (row aType name unused 0 0 nothing) ∷  -- Var (name)
     listed 12 (row aType name unused 0 0 nothing) ∷  -- Con (name)
     listed 13 (row aType unused unused 2 0 nothing) ∷  -- Arrow (two types)

@@ -3,7 +3,7 @@ use sizes::HIGHEST_NAME;
 use spelling::Triple;
 ghost use mathlib.Core.Path.{_≡_};
 ghost use Prim.Native.Nat.{ℕ, _<_};
-ghost use Rattle.kinds.specs.Kinds.{rowIn, rowOf, valueOk, countOk, headOf, partsOf};
+ghost use Rattle.kinds.specs.Kinds.{rowIn, rowOf, valueOk, countOk, begins as beginsWith, headOf, partsOf};
 
 // Sorts of parts. An arm is a pattern and then a term.
 pub const NOTHING: u64 = 0;
@@ -15,6 +15,13 @@ pub const TERM: u64 = 2;
 pub const PATTERN: u64 = 3;
 
 pub const ARM: u64 = 4;
+
+// An entry with its type, the expected type with its line, and the term with its line.
+pub const ENTRY: u64 = 5;
+
+pub const EXPECTED: u64 = 6;
+
+pub const GOAL: u64 = 7;
 
 // What a value or a count holds.
 const UNUSED: u64 = 0;
@@ -45,10 +52,10 @@ pub struct Row {
 // The rows by kind, a hexadecimal digit a field, in the order of Row. A constant array is laid down anew at each use, so a row is one word.
 const TABLE: [u32; 44] = [
     0x000000, // 0
-    0x000000, // 1
-    0x000000, // 2
-    0x000000, // 3
-    0x000000, // 4
+    0x510100, // 1 data constructor
+    0x510100, // 2 context variable
+    0x600100, // 3 expected type
+    0x700010, // 4 term
     0x000000, // 5
     0x000000, // 6
     0x000000, // 7
@@ -171,6 +178,16 @@ pub fn head_of(t: Triple, sort: u64) -> Head
         }
     }
     Head::No
+}
+
+// A part of the sort begins with this line.
+pub fn begins(t: Triple, sort: u64) -> bool
+    ensures { λ r. ⌜ r ≡ beginsWith sort t ⌝ }
+{
+    match head_of(t, sort) {
+        Head::Parts { .. } => true,
+        Head::No => false,
+    }
 }
 
 // How many parts follow a line. A line's count has at most five digits.

@@ -1,9 +1,10 @@
 // The sheet reader of document 01: a record of the borrowed sheet and its next line, thin, over plain functions.
-// Whoever has a sheet and a line number calls `line_of_sheet` or `term_of_sheet`, whose contracts say nothing of the record.
+// Whoever has a sheet and a line number calls `next_of_sheet` or `term_of_sheet`, whose contracts say nothing of the record.
 use grammar::sub_term;
 use spelling::Line;
 use spelling::line_at;
 ghost use mathlib.Core.Path.{_≡_};
+ghost use Prim.Native.Nat.{_+_, _<_, _^_};
 ghost use Rattle.spelling.specs.Spelling.{lineAt};
 ghost use Rattle.grammar.specs.Grammar.{subTerm};
 
@@ -35,6 +36,22 @@ pub fn line<'a>(r: Reader<'a>) -> Line
     line_at(r.sheet, r.line)
 }
 
+// What its next line says, and the reader at the line after.
+pub struct Step<'a> {
+    pub line: Line,
+    pub reader: Reader<'a>,
+}
+
+pub fn next<'a>(r: Reader<'a>) -> Step<'a>
+    requires { ⌜ r .line + 1 < 2 ^ 64 ⌝ }
+    ensures { λ q. ⌜ (q .line ≡ lineAt (now (r .entry .sheet)) (r .entry .line)) × (q .reader .sheet ≡ r .entry .sheet) × (q .reader .line ≡ r .entry .line + 1) ⌝ }
+{
+    Step {
+        line: line(r),
+        reader: moved(r, r.line + 1),
+    }
+}
+
 // The lines of the term that starts at its next line.
 pub fn term<'a>(r: Reader<'a>) -> &'a [u8]
     ensures { λ q. ⌜ now q ≡ subTerm (now (r .entry .sheet)) (r .entry .line) ⌝ }
@@ -42,11 +59,21 @@ pub fn term<'a>(r: Reader<'a>) -> &'a [u8]
     sub_term(r.sheet, r.line)
 }
 
-// What line i of a sheet says.
-pub fn line_of_sheet(s: &[u8], i: usize) -> Line
-    ensures { λ r. ⌜ r ≡ lineAt (now (s .entry)) i ⌝ }
+// What a line of a sheet says, and the line that the reader is at then.
+pub struct Lined {
+    pub line: Line,
+    pub next: usize,
+}
+
+pub fn next_of_sheet(s: &[u8], i: usize) -> Lined
+    requires { ⌜ i + 1 < 2 ^ 64 ⌝ }
+    ensures { λ r. ⌜ (r .line ≡ lineAt (now (s .entry)) i) × (r .next ≡ i + 1) ⌝ }
 {
-    line(moved(new(s), i))
+    let n = next(moved(new(s), i));
+    Lined {
+        line: n.line,
+        next: n.reader.line,
+    }
 }
 
 // The lines of the term that starts at a line of a sheet.

@@ -15,7 +15,7 @@ use Rattle.kinds.specs.declared.Head.{Head}
 use Rattle.kinds.specs.declared.Head.the-variants.{Parts, No}
 use Rattle.kinds.specs.Kinds.{aType, aTerm, aPattern, anArm, nothing, rowOf, begins, headOf, eachParts, partsOf, table}
 use Rattle.kinds.proofs.Rows.{row-passes}
-use Rattle.grammar.specs.Grammar.{Item, part, entries, goal, ok, due, arms, repeated, following, fits, partsDue, headIn, read}
+use Rattle.grammar.specs.Grammar.{Item, part, entries, ok, due, arms, repeated, following, fits, partsDue, headIn, read}
 use Rattle.grammar.specs.declared.Got.the-variants.{Next}
 use Rattle.grammar.proofs.Laws.{one, no-line, bounds}
 use Rattle.sheet.specs.Plan.{tripleOf}
@@ -26,13 +26,11 @@ abbrev pub AllParts : List Item → Type 0
 AllParts [] = Unit {0}
 AllParts (part x ∷ ahead) = AllParts ahead
 AllParts (entries k n ∷ ahead) = ⊥
-AllParts (goal ∷ ahead) = ⊥
 
 pub parts-append : (a b : List Item) → AllParts a → AllParts b → AllParts (a ++ b)
 parts-append [] b p q = q
 parts-append (part x ∷ a) b p q = parts-append a b p q
 parts-append (entries k n ∷ a) b p q = absurd p
-parts-append (goal ∷ a) b p q = absurd p
 
 parts-replicate : (n x : ℕ) → AllParts (replicate n (part x))
 parts-replicate zero x = tt
@@ -116,13 +114,11 @@ split (t ∷ ts) (part x ∷ a) b p f =
     let r = split ts (d ++ a) b (parts-append d a (n .1) p) (forms-move ts (sym (append-assoc d a b)) (f .1)) in
     ((f .0, rw l at (r .0)), rw l at (r .1))
 split (t ∷ ts) (entries k n ∷ a) b p f = absurd p
-split (t ∷ ts) (goal ∷ a) b p f = absurd p
 
 -- ---- lines that were read to their end
-misspelt-none : (x : Item) → ok x Misspelt ≡ true → ⊥
+pub misspelt-none : (x : Item) → ok x Misspelt ≡ true → ⊥
 misspelt-none (part k) e = let z : _≡_ {A = ℕ} 0 1 = cc in omega arith
 misspelt-none (entries k n) e = let z : _≡_ {A = ℕ} 0 1 = cc in omega arith
-misspelt-none goal e = let z : _≡_ {A = ℕ} 0 1 = cc in omega arith
 
 pub read-forms : (ls : List Line) (ahead : List Item) (at : ℕ) → read ls ahead at ≡ Next (at + length ls) → Forms (map tripleOf ls) ahead
 read-forms [] [] at e = tt

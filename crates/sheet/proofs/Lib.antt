@@ -9,3 +9,4 @@ pub mod LineKinds
 pub mod TypeLines
 pub mod Copies
 pub mod Ranges
+mod TermLines

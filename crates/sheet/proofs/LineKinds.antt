@@ -14,10 +14,10 @@ use Rattle.spelling.specs.declared.Triple.{Triple}
 use Rattle.spelling.specs.declared.Line.the-variants.{Spelt}
 use Rattle.kinds.specs.declared.Head.{Head}
 use Rattle.kinds.specs.declared.Head.the-variants.{Parts, No}
-use Rattle.kinds.specs.Kinds.{aType, aTerm, aPattern, anArm, table, find, rowOf, begins, headOf}
+use Rattle.kinds.specs.Kinds.{aType, aTerm, aPattern, anArm, anEntry, anExpected, table, find, rowOf, begins, headOf}
 use Rattle.grammar.specs.declared.Declared.{Declared}
 use Rattle.grammar.specs.declared.Check.the-variants.{Plan}
-use Rattle.grammar.specs.Grammar.{Item, part, entries, goal, ok, due, arms, repeated, following, fits, partsDue, stands, entryDue, isGoal}
+use Rattle.grammar.specs.Grammar.{Item, part, entries, ok, due, arms, repeated, following, fits, partsDue, stands, entryDue}
 use Rattle.grammar.specs.Check.{check}
 use Rattle.sheet.specs.Plan.{triples, isEntry, isPlain}
 use Rattle.sheet.specs.Form.{Forms}
@@ -27,7 +27,6 @@ use Rattle.sheet.proofs.Formed.{Kinded, Says, an-entry, expects, neithe
 abbrev Sorted : Item → Type 0
 Sorted (part x) = x ≢ 0
 Sorted (entries k n) = Kinded k
-Sorted goal = Unit {0}
 
 sorted-replicate : (n x : ℕ) → x ≢ 0 → All Sorted (replicate n (part x))
 sorted-replicate zero x h = tt
@@ -52,15 +51,14 @@ sorted-head : (h : Head) → All Sorted (partsDue h)
 sorted-head (Parts ty te e n) = sorted-following ty te e n
 sorted-head No = tt
 
-sorted-entry : {t : Triple} {d : Declared} → Says t d → All Sorted (entryDue d)
-sorted-entry (an-entry k n e kd) = (omega arith, (kd, tt))
-sorted-entry (expects e) = (omega arith, (tt, tt))
-sorted-entry neither = tt
+sorted-entry : (t : Triple) {d : Declared} → Says t d → All Sorted (entryDue d (Spelt t))
+sorted-entry t (an-entry k n b e kd) = all-append Sorted (partsDue (headOf anEntry t)) _ (sorted-head (headOf anEntry t)) (kd, tt)
+sorted-entry t (expects b e) = all-append Sorted (partsDue (headOf anExpected t)) _ (sorted-head (headOf anExpected t)) (omega arith, tt)
+sorted-entry t neither = tt
 
 sorted-due : (x : Item) (t : Triple) → Sorted x → All Sorted (due x (Spelt t))
 sorted-due (part x) t h = sorted-head (headOf x t)
-sorted-due (entries k n) t h = sorted-entry (says k n t h)
-sorted-due goal t h = (omega arith, tt)
+sorted-due (entries k n) t h = sorted-entry t (says k n t h)
 
 -- ---- a line that may stand is not of kind 17
 begins-kind : (x : ℕ) (t : Triple) → x ≢ 0 → begins x t ≡ true → t .kind ≢ 17
@@ -79,17 +77,15 @@ head-kind x t h = go (begins x t) refl
     go false e f = absurd (let z : _≡_ {A = ℕ} 0 1 = cc in omega arith)
 
 entry-kind : {t : Triple} {d : Declared} → Says t d → stands d ≡ true → t .kind ≢ 17
-entry-kind {t} (an-entry k n e kd) o q =
+entry-kind {t} (an-entry k n b e kd) o q =
     let z : isEntry t ≡ false = rw q in
     let y : _≡_ {A = ℕ} 0 1 = cc in omega arith
-entry-kind (expects e) o q = omega arith
+entry-kind (expects b e) o q = omega arith
 entry-kind neither o q = let z : _≡_ {A = ℕ} 0 1 = cc in omega arith
 
 ok-kind : (x : Item) (t : Triple) → Sorted x → ok x (Spelt t) ≡ true → t .kind ≢ 17
-unfolding isGoal
 ok-kind (part x) t h e = head-kind x t h e
 ok-kind (entries k n) t h e = entry-kind (says k n t h) e
-ok-kind goal t h e = λ q. (let s = eqb-true (t .kind) 4 (and-eq-true-iff (eqb (t .kind) 4) _ .0 e .0) in omega arith)
 
 forms-kinds : (ts : List Triple) (ahead : List Item) → All Sorted ahead → Forms ts ahead → All (λ t. t .kind ≢ 17) ts
 forms-kinds [] ahead s f = tt

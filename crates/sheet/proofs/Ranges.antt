@@ -17,7 +17,7 @@ use Rattle.kinds.specs.Kinds.{aTerm, number, table, rowOf, unlisted, countOk}
 use Rattle.kinds.proofs.Rows.{listed-passes}
 use Rattle.grammar.specs.declared.Check.{Check}
 use Rattle.grammar.specs.declared.Check.the-variants.{Plan, Length}
-use Rattle.grammar.specs.Grammar.{Item, part, entries, goal, ok, due}
+use Rattle.grammar.specs.Grammar.{Item, part, entries, ok, due}
 use Rattle.grammar.specs.Check.{lengthOk, check}
 use Rattle.grammar.proofs.Lines.{few-lines}
 use Rattle.sheet.specs.Plan.{triples, placesOf, isUse, names}
@@ -71,7 +71,6 @@ forms-in-range (t ∷ ts) (part x ∷ ahead) p f = (
   forms-in-range ts (due (part x) (Spelt t) ++ ahead) (parts-append (due (part x) (Spelt t)) ahead (due-parts x t (f .0) .1) p) (f .1),
 )
 forms-in-range (t ∷ ts) (entries k n ∷ ahead) p f = absurd p
-forms-in-range (t ∷ ts) (goal ∷ ahead) p f = absurd p
 
 -- every line of one whole type, term or pattern
 pub part-in-range : (x : ℕ) (ts : List Triple) → IsPart x ts → All InRange ts

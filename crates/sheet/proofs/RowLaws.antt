@@ -7,15 +7,17 @@ use native.Mathlib.Nat.{zero-add, add-zero}
 use native.Mathlib.Omega.{arith}
 use lib.Dec.{T, ltb, eqb, eqb→eq}
 use borrow.Author.Tests.{ltb-true, ltb-false, eqb-false}
-use lib.ListN.{length, getD, set, drop, length-set, length-replicate, getD-replicate, List·getD-eq-default}
-use lib.Seq.{getD-set-same, getD-set-other, getD-drop, ext-getD}
+use lib.ListN.{length, getD, set, drop, length-set, length-replicate, getD-replicate, drop-of-length-le, List·getD-eq-default}
+use lib.Seq.{getD-set-same, getD-set-other, getD-drop, drop-cons, ext-getD}
 use Rattle.sizes.specs.Sizes.{lineLength, mostLines}
 use Rattle.nodes.specs.Nodes.{zeros}
 use Rattle.spelling.specs.declared.Triple.{Triple}
+use Rattle.spelling.specs.declared.Line.{Line}
+use Rattle.spelling.specs.Spelling.{lineAt}
 use Rattle.kinds.specs.Kinds.{partsOf}
-use Rattle.sheet.specs.Plan.{noTriple, triples, partLine}
-use Rattle.sheet.specs.Rows.{packed, rowTriple, rowsFrom, rows, lineCount, EndsFrom, setRow, Unlinked, rowWords, unlinkedWords}
-use Rattle.sheet.proofs.Lines.{length-triples, kind-small, count-small, line-turn, line-within}
+use Rattle.sheet.specs.Plan.{noTriple, tripleOf, triples, partLine}
+use Rattle.sheet.specs.Rows.{packed, rowTriple, rowsFrom, rows, lineCount, EndsFrom, setRow, putRows, RowIs, Bare, Unlinked, rowWords, unlinkedWords}
+use Rattle.sheet.proofs.Lines.{triple-is, kind-small, count-small, line-turn, line-within}
 
 -- ---- what a row holds
 length-from : (n : ℕ) (d : List ℕ) → length (rowsFrom n d) ≡ n
@@ -126,70 +128,106 @@ module _ (ls : List Triple) where
 
   -- from line `at` on, the rows are those of the lines ls, and nothing is linked
   abbrev pub RowsFrom : List ℕ → ℕ → Type 0
-  RowsFrom d at =
-      (i : ℕ) → at ≤ i → i < length ls
-      → (getD d (2 * i) 0 ≡ getD ls i noTriple .value)
-      × (getD d (2 * i + 1) 0 ≡ packed (getD ls i noTriple) (partLine ls i 1))
-      × (getD d (2 * length ls + i) 0 ≡ 0)
-      × (getD d (3 * length ls + i) 0 ≡ 0)
+  RowsFrom d at = (i : ℕ) → at ≤ i → i < length ls → RowIs ls d i (partLine ls i 1)
 
   abbrev pub Small : Type 0
   Small = (i : ℕ) → (getD ls i noTriple .kind < 1024) × (getD ls i noTriple .count < 131072)
 
+  -- row i written with the end e: it is so, and the others stay
+  module _ (d : List ℕ) (i e : ℕ) (h : i < length ls) (r : length d ≡ 4 * length ls) where
+    abbrev n : ℕ
+    n = length ls
+
+    abbrev v : ℕ
+    v = getD ls i noTriple .value
+
+    abbrev p : ℕ
+    p = packed (getD ls i noTriple) e
+
+    abbrev d₁ : List ℕ
+    d₁ = set d (2 * i) v
+
+    abbrev d₂ : List ℕ
+    d₂ = set d₁ (2 * i + 1) p
+
+    abbrev d₃ : List ℕ
+    d₃ = set d₂ (2 * n + i) 0
+
+    row-same : RowIs ls (setRow d (length ls) i (getD ls i noTriple) e) i e
+    row-same =
+        let b1 = length-set d (2 * i) v in
+        let b2 = length-set d₁ (2 * i + 1) p in
+        let b3 = length-set d₂ (2 * n + i) 0 in (
+          getD-set-other d₃ (3 * n + i) (2 * i) 0 0 (λ x. omega arith) ∙ getD-set-other d₂ (2 * n + i) (2 * i) 0 0 (λ x. omega arith) ∙ getD-set-other d₁ (2 * i + 1) (2 * i) p 0 (λ x. omega arith) ∙ getD-set-same d (2 * i) v 0 (omega arith),
+          getD-set-other d₃ (3 * n + i) (2 * i + 1) 0 0 (λ x. omega arith) ∙ getD-set-other d₂ (2 * n + i) (2 * i + 1) 0 0 (λ x. omega arith) ∙ getD-set-same d₁ (2 * i + 1) p 0 (omega arith),
+          getD-set-other d₃ (3 * n + i) (2 * n + i) 0 0 (λ x. omega arith) ∙ getD-set-same d₂ (2 * n + i) 0 0 (omega arith),
+          getD-set-same d₃ (3 * n + i) 0 0 (omega arith),
+        )
+
+    row-other : (j f : ℕ) → j < length ls → (j ≡ i → ⊥) → RowIs ls d j f → RowIs ls (setRow d (length ls) i (getD ls i noTriple) e) j f
+    row-other j f l ne w =
+        let same : (m : ℕ) → (m ≡ 2 * i → ⊥) → (m ≡ 2 * i + 1 → ⊥) → (m ≡ 2 * n + i → ⊥) → (m ≡ 3 * n + i → ⊥) → getD (set d₃ (3 * n + i) 0) m 0 ≡ getD d m 0 = other d (2 * i) (2 * i + 1) (2 * n + i) (3 * n + i) v p in (
+          same (2 * j) (λ x. ne (omega arith)) (λ x. omega arith) (λ x. omega arith) (λ x. omega arith) ∙ w .0,
+          same (2 * j + 1) (λ x. omega arith) (λ x. ne (omega arith)) (λ x. omega arith) (λ x. omega arith) ∙ w .1,
+          same (2 * n + j) (λ x. omega arith) (λ x. omega arith) (λ x. ne (omega arith)) (λ x. omega arith) ∙ w .2,
+          same (3 * n + j) (λ x. omega arith) (λ x. omega arith) (λ x. omega arith) (λ x. ne (omega arith)) ∙ w .3,
+        )
+
+  -- the rows of the lines from line `at` on written one after the other
+  pub rows-bare : (ts : List Triple) (at : ℕ) (d : List ℕ) → length d ≡ 4 * length ls → at + length ts ≡ length ls → ((i : ℕ) → i < length ts → getD ts i noTriple ≡ getD ls (at + i) noTriple) → Bare ls d at → Bare ls (putRows d at ts) (length ls)
+  unfolding putRows
+  rows-bare [] at d r e same f = let z : at ≡ length ls = omega arith in rw z at f
+  rows-bare (t ∷ ts) at d r e same f =
+      let h : at < length ls = omega arith in
+      let n : length d / 4 ≡ length ls = omega arith in
+      let t₀ : t ≡ getD ls at noTriple = rw add-zero at (same 0 (omega arith)) in
+      let d′ : List ℕ = setRow d (length ls) at (getD ls at noTriple) 0 in
+      let l : length d′ ≡ length d = simp length-set in
+      let w : Bare ls d′ (at + 1) = λ j k. row-below d at h r f j k (eqb j at) refl in
+      rw (n, t₀) (rows-bare ts (at + 1) d′ (l ∙ r) (omega arith) (λ i k. let z : at + suc i ≡ at + 1 + i = omega arith in same (suc i) (omega arith) ∙ ap (λ (m : ℕ). getD ls m noTriple) z) w)
+    where
+      row-below : (d : List ℕ) (at : ℕ) (h : at < length ls) (r : length d ≡ 4 * length ls) → Bare ls d at → (j : ℕ) → j < at + 1 → (b : Bool) → eqb j at ≡ b → RowIs ls (setRow d (length ls) at (getD ls at noTriple) 0) j 0
+      row-below d at h r f j k true q = let z = eqb→eq j at (subst⁻¹ T q tt) in rw z (row-same d at 0 h r)
+      row-below d at h r f j k false q = let ne = eqb-false j at q in row-other d at 0 h r j 0 (omega arith) ne (f j (omega (arith, ne)))
+
+  -- the end of line i written: its row has it, and the others stay
+  module _ (d : List ℕ) (i e : ℕ) (h : i < length ls) (r : length d ≡ 4 * length ls) where
+    abbrev ended : List ℕ
+    ended = set d (2 * i + 1) (packed (getD ls i noTriple) e)
+
+    pub end-same : RowIs ls d i 0 → RowIs ls ended i e
+    end-same w = (
+      getD-set-other d (2 * i + 1) (2 * i) _ 0 (λ x. omega arith) ∙ w .0,
+      getD-set-same d (2 * i + 1) _ 0 (omega arith),
+      getD-set-other d (2 * i + 1) (2 * length ls + i) _ 0 (λ x. omega arith) ∙ w .2,
+      getD-set-other d (2 * i + 1) (3 * length ls + i) _ 0 (λ x. omega arith) ∙ w .3,
+    )
+
+    pub end-other : (j f : ℕ) → (j ≡ i → ⊥) → RowIs ls d j f → RowIs ls ended j f
+    end-other j f ne w = (
+      getD-set-other d (2 * i + 1) (2 * j) _ 0 (λ x. omega arith) ∙ w .0,
+      getD-set-other d (2 * i + 1) (2 * j + 1) _ 0 (λ x. ne (omega arith)) ∙ w .1,
+      getD-set-other d (2 * i + 1) (2 * length ls + j) _ 0 (λ x. omega arith) ∙ w .2,
+      getD-set-other d (2 * i + 1) (3 * length ls + j) _ 0 (λ x. omega arith) ∙ w .3,
+    )
+
+  -- so the rows below i stay bare, and those from i on have their ends
   module _ (d : List ℕ) (i : ℕ) (h : i < length ls) (r : length d ≡ 4 * length ls) where
-    pub row-set : RowsFrom d (i + 1) → RowsFrom (setRow d (length ls) i (getD ls i noTriple) (partLine ls i 1)) i
-    row-set f j k l = go (eqb j i) refl
+    pub end-bare : Bare ls d (i + 1) → Bare ls (set d (2 * i + 1) (packed (getD ls i noTriple) (partLine ls i 1))) i
+    end-bare f j l = end-other d i (partLine ls i 1) h r j 0 (λ q. omega arith) (f j (omega arith))
+
+    pub end-rows : Bare ls d (i + 1) → RowsFrom d (i + 1) → RowsFrom (set d (2 * i + 1) (packed (getD ls i noTriple) (partLine ls i 1))) i
+    end-rows f g j k l = go (eqb j i) refl
       where
-        n : ℕ
-        n = length ls
+        go : (b : Bool) → eqb j i ≡ b → RowIs ls (set d (2 * i + 1) (packed (getD ls i noTriple) (partLine ls i 1))) j (partLine ls j 1)
+        go true q = let z = eqb→eq j i (subst⁻¹ T q tt) in rw z (end-same d i (partLine ls i 1) h r (f i (omega arith)))
+        go false q = let ne = eqb-false j i q in end-other d i (partLine ls i 1) h r j (partLine ls j 1) ne (g j (omega (arith, ne)) l)
 
-        v : ℕ
-        v = getD ls i noTriple .value
-
-        p : ℕ
-        p = packed (getD ls i noTriple) (partLine ls i 1)
-
-        d₁ : List ℕ
-        d₁ = set d (2 * i) v
-
-        d₂ : List ℕ
-        d₂ = set d₁ (2 * i + 1) p
-
-        d₃ : List ℕ
-        d₃ = set d₂ (2 * n + i) 0
-
-        long : (length d₂ ≡ length d) × (length d₃ ≡ length d)
-        long =
-            let a = length-set d (2 * i) v in
-            let b = length-set d₁ (2 * i + 1) p in
-            let c = length-set d₂ (2 * n + i) 0 in
-            (b ∙ a, c ∙ b ∙ a)
-
-        go : (b : Bool) → eqb j i ≡ b
-            → (getD (set d₃ (3 * n + i) 0) (2 * j) 0 ≡ getD ls j noTriple .value)
-            × (getD (set d₃ (3 * n + i) 0) (2 * j + 1) 0 ≡ packed (getD ls j noTriple) (partLine ls j 1))
-            × (getD (set d₃ (3 * n + i) 0) (2 * n + j) 0 ≡ 0)
-            × (getD (set d₃ (3 * n + i) 0) (3 * n + j) 0 ≡ 0)
-        go true e =
-            let q : j ≡ i = eqb→eq j i (subst⁻¹ T e tt) in
-            let b2 = long .0 in
-            let b3 = long .1 in
-            let b1 = length-set d (2 * i) v in
-            rw q (
-              getD-set-other d₃ (3 * n + i) (2 * i) 0 0 (λ x. omega arith) ∙ getD-set-other d₂ (2 * n + i) (2 * i) 0 0 (λ x. omega arith) ∙ getD-set-other d₁ (2 * i + 1) (2 * i) p 0 (λ x. omega arith) ∙ getD-set-same d (2 * i) v 0 (omega arith),
-              getD-set-other d₃ (3 * n + i) (2 * i + 1) 0 0 (λ x. omega arith) ∙ getD-set-other d₂ (2 * n + i) (2 * i + 1) 0 0 (λ x. omega arith) ∙ getD-set-same d₁ (2 * i + 1) p 0 (omega arith),
-              getD-set-other d₃ (3 * n + i) (2 * n + i) 0 0 (λ x. omega arith) ∙ getD-set-same d₂ (2 * n + i) 0 0 (omega arith),
-              getD-set-same d₃ (3 * n + i) 0 0 (omega arith),
-            )
-        go false e =
-            let ne : j ≡ i → ⊥ = eqb-false j i e in
-            let w = f j (omega (arith, ne)) l in
-            let same : (m : ℕ) → (m ≡ 2 * i → ⊥) → (m ≡ 2 * i + 1 → ⊥) → (m ≡ 2 * n + i → ⊥) → (m ≡ 3 * n + i → ⊥) → getD (set d₃ (3 * n + i) 0) m 0 ≡ getD d m 0 = other d (2 * i) (2 * i + 1) (2 * n + i) (3 * n + i) v p in (
-              same (2 * j) (λ x. ne (omega arith)) (λ x. omega arith) (λ x. omega arith) (λ x. omega arith) ∙ w .0,
-              same (2 * j + 1) (λ x. omega arith) (λ x. ne (omega arith)) (λ x. omega arith) (λ x. omega arith) ∙ w .1,
-              same (2 * n + j) (λ x. omega arith) (λ x. omega arith) (λ x. ne (omega arith)) (λ x. omega arith) ∙ w .2,
-              same (3 * n + j) (λ x. omega arith) (λ x. omega arith) (λ x. omega arith) (λ x. ne (omega arith)) ∙ w .3,
-            )
+  -- a bare row is its line
+  pub bare-line : (d : List ℕ) (i : ℕ) → Small → RowIs ls d i 0 → rowTriple (getD d (2 * i) 0) (getD d (2 * i + 1) 0) ≡ getD ls i noTriple
+  bare-line d i m w =
+      let t = getD ls i noTriple in
+      ap₂ rowTriple (w .0) (w .1) ∙ unpack (t .kind) (t .negative) (t .value) (t .count) 0 (m i .0) (m i .1) .0
 
   module _ (d : List ℕ) (m : Small) where
     pub row-ends : (at : ℕ) → RowsFrom d at → EndsFrom ls d at
@@ -246,7 +284,38 @@ module _ (s : List ℕ) (i : ℕ) (h : i < length (triples s)) (t : Triple) (e :
       let r = row-end in
       rw e (kind-small s i, count-small s i, omega arith)
 
--- the four stores of `read_row`
-pub row-stored : (d s : List ℕ) (i : ℕ) {t : Triple} {end p : ℕ} → t ≡ getD (triples s) i noTriple → p ≡ packed t end → end ≡ partLine (triples s) i 1
-    → set (set (set (set d (2 * i) (t .value)) (2 * i + 1) p) (2 * (length s / lineLength) + i) 0) (3 * (length s / lineLength) + i) 0 ≡ setRow d (length (triples s)) i (getD (triples s) i noTriple) (partLine (triples s) i 1)
-row-stored d s i {t} {end} e q f = rw (q, f) (ap₂ (λ (u : Triple) (n : ℕ). setRow d n i u (partLine (triples s) i 1)) e (sym (length-triples s)))
+-- ---- rows written one after the other: what is written, and what is left
+module _ (s : List ℕ) (at : ℕ) {l : Line} {t : Triple} (e : t ≡ tripleOf l) (f : l ≡ lineAt s at) where
+  pub line-said : t ≡ getD (triples s) at noTriple
+  line-said = e ∙ ap tripleOf f ∙ sym (triple-is s at)
+
+  pub line-fits : (t .kind < 1000) × (t .count < 100000)
+  line-fits = rw line-said (kind-small s at, count-small s at)
+
+module _ (ts : List Triple) (d : List ℕ) (i at : ℕ) where
+  pub put-turn : at < length ts → putRows d i (drop at ts) ≡ putRows (setRow d (lineCount d) i (getD ts at noTriple) 0) (i + 1) (drop (at + 1) ts)
+  unfolding putRows
+  put-turn h = let b : at + 1 ≡ suc at = omega arith in rw (drop-cons ts at noTriple h, b)
+
+  pub put-end : length ts ≤ at → putRows d i (drop at ts) ≡ d
+  unfolding putRows
+  put-end h = rw (drop-of-length-le ts h)
+
+-- the next row of those from row `first` on
+pub part-step : (ts : List Triple) (first : ℕ) (d₀ d : List ℕ) {at at′ : ℕ} {d′ : List ℕ} {t : Triple} → at < length ts → t ≡ getD ts at noTriple → at′ ≡ at + 1 → d′ ≡ setRow d (lineCount d) (first + at) t 0
+    → length d ≡ length d₀ → putRows d (first + at) (drop at ts) ≡ putRows d₀ first ts
+    → (at′ ≤ length ts) × (length d′ ≡ length d₀) × (putRows d′ (first + at′) (drop at′ ts) ≡ putRows d₀ first ts)
+part-step ts first d₀ d {at} h et ea ed l p =
+    let a : first + (at + 1) ≡ first + at + 1 = omega arith in
+    rw (ed, et, ea, a) (omega arith, simp length-set l, sym (put-turn ts d (first + at) at h) ∙ p)
+
+-- and of those from the sheet's first on
+pub head-step : (ts : List Triple) (d₀ d : List ℕ) {at at′ : ℕ} {d′ : List ℕ} {t : Triple} → at < length ts → t ≡ getD ts at noTriple → at′ ≡ at + 1 → d′ ≡ setRow d (lineCount d) at t 0
+    → length d ≡ length d₀ → putRows d at (drop at ts) ≡ putRows d₀ 0 ts
+    → (at′ ≤ length ts) × (length d′ ≡ length d₀) × (putRows d′ at′ (drop at′ ts) ≡ putRows d₀ 0 ts)
+head-step ts d₀ d {at} h et ea ed l p = rw (ed, et, ea) (omega arith, simp length-set l, sym (put-turn ts d at at h) ∙ p)
+
+pub length-put : (ts : List Triple) (d : List ℕ) (i : ℕ) → length (putRows d i ts) ≡ length d
+unfolding putRows
+length-put [] d i = refl
+length-put (t ∷ ts) d i = let l : length (setRow d (lineCount d) i t 0) ≡ length d = simp length-set in length-put ts (setRow d (lineCount d) i t 0) (i + 1) ∙ l

@@ -18,7 +18,7 @@ use Rattle.kinds.specs.declared.Row.{Row}
 use Rattle.kinds.specs.Kinds.{aType, aTerm, nothing, number, table, rowOf, unlisted, valueOk, countOk, begins}
 use Rattle.nodes.proofs.ListLaws.{cond-ind}
 use Rattle.kinds.proofs.Rows.{everyListed, listed-passes}
-use Rattle.grammar.specs.Grammar.{Item, part, entries, goal, ok, due, following}
+use Rattle.grammar.specs.Grammar.{Item, part, entries, ok, due, following}
 use Rattle.sheet.specs.Plan.{lineNode, nodesOf, Narrow}
 use Rattle.sheet.specs.Form.{Forms, IsPart}
 use Rattle.sheet.proofs.Forming.{due-following}
@@ -28,13 +28,11 @@ abbrev pub Only : ℕ → List Item → Type 0
 Only x [] = Unit {0}
 Only x (part y ∷ ahead) = (y ≡ x) × Only x ahead
 Only x (entries k n ∷ ahead) = ⊥
-Only x (goal ∷ ahead) = ⊥
 
 pub only-append : (x : ℕ) (a b : List Item) → Only x a → Only x b → Only x (a ++ b)
 only-append x [] b p q = q
 only-append x (part y ∷ a) b p q = (p .0, only-append x a b (p .1) q)
 only-append x (entries k n ∷ a) b p q = absurd p
-only-append x (goal ∷ a) b p q = absurd p
 
 pub only-replicate : (x n : ℕ) → Only x (replicate n (part x))
 only-replicate x zero = tt
@@ -101,7 +99,7 @@ module _ (x : ℕ) (t : Triple) (h : begins x t ≡ true) where
       go (inl u) = absurd (let z : _≡_ {A = ℕ} nothing x = sym (ap (λ (r : Row). r .sort) u) ∙ sort-is in omega arith)
       go (inr h) = h
 
-type-line : (t : Triple) → ok (part aType) (Spelt t) ≡ true → Only aType (due (part aType) (Spelt t)) × (length (due (part aType) (Spelt t)) ≡ nodeParts (lineNode t))
+pub type-line : (t : Triple) → ok (part aType) (Spelt t) ≡ true → Only aType (due (part aType) (Spelt t)) × (length (due (part aType) (Spelt t)) ≡ nodeParts (lineNode t))
 unfolding table
 type-line t e =
     let d = due-following aType t e in
@@ -139,7 +137,6 @@ types-all [] [] f ty = (refl, tt)
 types-all [] (x ∷ ahead) f ty = absurd f
 types-all (t ∷ ts) [] f ty = absurd f
 types-all (t ∷ ts) (entries k n ∷ ahead) f ty = absurd ty
-types-all (t ∷ ts) (goal ∷ ahead) f ty = absurd ty
 types-all (t ∷ ts) (part x ∷ ahead) f ty =
     let g : (ok (part aType) (Spelt t) ≡ true) × Forms ts (due (part aType) (Spelt t) ++ ahead) = rw (ty .0) at f in
     let l = type-line t (g .0) in

@@ -2,23 +2,28 @@
 // A sheet is read once into rows, and the rules read those. A function that looks for a part's end asks for rows that have their ends, as `read_rows` gives them; the others take any words. What
 // they mean as a plan is for a sheet that `grammar::check_sheet` takes.
 use kinds::parts_of;
-use reading::line_of_sheet;
+use reading::next_of_sheet;
 use sizes::HIGHEST_NAME;
 use sizes::LINE_LENGTH;
 use spelling::Line;
 use spelling::Triple;
 ghost use mathlib.Core.Path.{_≡_};
 ghost use mathlib.Core.Bool.{not, cond, _||_};
-ghost use mathlib.Core.List.{List};
+ghost use mathlib.Core.List.{List, [], _∷_};
 ghost use Prim.Native.Nat.{_+_, _*_, _-_, _/_, _%_, _≤_, _<_};
-ghost use lib.ListN.{length, getD, take, drop};
+ghost use lib.ListN.{length, getD, set, take, drop};
 ghost use lib.Seq.{sets};
 ghost use Rattle.sizes.specs.Sizes.{lineLength, mostLines};
+ghost use Rattle.kinds.specs.Kinds.{aTerm};
+ghost use Rattle.grammar.specs.declared.Got.the-variants.{Next};
+ghost use Rattle.grammar.specs.declared.Check.the-variants.{Plan};
+ghost use Rattle.grammar.specs.Grammar.{part, readAt, subTerm};
+ghost use Rattle.grammar.specs.Check.{check};
 ghost use Rattle.nodes.specs.Nodes.{number, words};
 ghost use Rattle.nodes.specs.Lists.{All};
-ghost use Rattle.sheet.specs.Plan.{noTriple, triples, partLine, lineNode, nodesOf, Narrow, isEntry, named, declarations, findEntry, entriesEnd, placesOf, isPlain, isUse, plainEntries, plainPlan};
+ghost use Rattle.sheet.specs.Plan.{noTriple, tripleOf, triples, partLine, lineNode, nodesOf, Narrow, isEntry, named, declarations, findEntry, entriesEnd, placesOf, isPlain, isUse, plainEntries, plainPlan};
 ghost use Rattle.sheet.specs.Used.{tableLength, markName, marked, isMarked, Tells, SmallNames};
-ghost use Rattle.sheet.specs.Rows.{packed, rowTriple, rows, endAt, EndsFrom, Ended, setRow, RowAsk, linked, linkEntry, Unlinked, unlinkedWords, linkAll, sheetWords};
+ghost use Rattle.sheet.specs.Rows.{packed, rowTriple, lineCount, rows, endAt, EndsFrom, Ended, setRow, putRows, Bare, afterGoal, RowAsk, linked, linkEntry, Unlinked, unlinkedWords, linkAll, sheetWords};
 
 // How many lines there are: each has a row of two words, and behind the rows two words that link the entries.
 pub fn line_count(s: &[u64]) -> usize
@@ -87,11 +92,11 @@ pub fn part_line(s: &[u64], first: usize, n: usize) -> usize
     after_parts(s, line_count(s), first, n)
 }
 
-// What a line of the sheet itself says; all 0 where it is misspelt or there is none.
-fn read_line(s: &[u8], i: usize) -> Triple
-    ensures { λ r. ⌜ r ≡ getD (triples (now (s .entry))) i noTriple ⌝ }
+// What a line of the sheet itself says; all 0 where it is misspelt.
+fn triple_of(l: Line) -> Triple
+    ensures { λ r. ⌜ r ≡ tripleOf l ⌝ }
 {
-    match line_of_sheet(s, i) {
+    match l {
         Line::Spelt(t) => t,
         Line::Misspelt => Triple {
             kind: 0,
@@ -116,39 +121,93 @@ fn pack(t: Triple, end: usize) -> u64
     t.kind + 1024 * (sign + 2 * (t.count + 131072 * (end as u64)))
 }
 
-// Reads line i to its row; those after it are read. A part ends where its own parts end. No entry is linked yet.
-fn read_row(d: &mut [u64], s: &[u8], i: usize)
-    requires { ⌜ RowAsk (now d) (now s) i ⌝ }
-    ensures { λ _. ⌜ now (d .exit) ≡ setRow (now (d .entry)) (length (triples (now (s .entry)))) i (getD (triples (now (s .entry))) i noTriple) (partLine (triples (now (s .entry))) i 1) ⌝ }
+// Writes a line to row i, with no end yet. No entry is linked yet.
+fn put_row(d: &mut [u64], i: usize, t: Triple)
+    requires { ⌜ (i < length (now d) / 4) × (t .kind < 1000) × (t .count < 100000) ⌝ }
+    ensures { λ _. ⌜ now (d .exit) ≡ setRow (now (d .entry)) (lineCount (now (d .entry))) i t 0 ⌝ }
 {
-    let lines = s.len() / LINE_LENGTH;
-    let t = read_line(s, i);
-    let parts = parts_of(t) as usize;
-    let end = after_parts(d, lines, i + 1, parts);
+    let lines = d.len() / 4;
     d[2 * i] = t.value;
-    d[2 * i + 1] = pack(t, end);
+    d[2 * i + 1] = pack(t, 0);
     d[2 * lines + i] = 0;
     d[3 * lines + i] = 0;
 }
 
-// The lines of a sheet, the last one first.
-fn read_lines(d: &mut [u64], s: &[u8])
-    requires { ⌜ (length (now d) ≡ 4 * (length (now s) / lineLength)) × (length (now s) / lineLength ≤ mostLines) ⌝ }
+// Reads the lines up to that of kind 4, and gives the line after it.
+fn read_head(d: &mut [u64], s: &[u8]) -> usize
+    requires { ⌜ length (now d) ≡ 4 * (length (now s) / lineLength) ⌝ }
+    ensures { λ r. ⌜ (r ≡ afterGoal (triples (now (s .entry)))) × (length (now (d .exit)) ≡ length (now (d .entry))) × (putRows (now (d .exit)) r (drop r (triples (now (s .entry)))) ≡ putRows (now (d .entry)) 0 (triples (now (s .entry)))) ⌝ }
+{
+    let lines = s.len() / LINE_LENGTH;
+    let mut at = 0;
+    while at < lines {
+        let n = next_of_sheet(s, at);
+        let line = n.line;
+        let t = triple_of(line);
+        put_row(d, at, t);
+        at = n.next;
+        if t.kind == 4 {
+            return at;
+        }
+    }
+    at
+}
+
+// The lines of the plan's term, with which the sheet ends.
+fn term_lines(s: &[u8], at: usize) -> &[u8]
+    requires { ⌜ (at ≤ length (now s) / lineLength) × (length (now s) % lineLength ≡ 0) × (readAt (now s) (part aTerm ∷ []) at ≡ Next (length (now s) / lineLength)) ⌝ }
+    ensures { λ r. ⌜ now r ≡ subTerm (now (s .entry)) at ⌝ }
+{
+    &s[LINE_LENGTH * at..]
+}
+
+// Reads the lines of a part of a sheet to the rows from row `first` on.
+fn read_part(d: &mut [u64], first: usize, s: &[u8])
+    requires { ⌜ first + length (now s) / lineLength ≤ length (now d) / 4 ⌝ }
+    ensures { λ _. ⌜ now (d .exit) ≡ putRows (now (d .entry)) first (triples (now (s .entry))) ⌝ }
+{
+    let lines = s.len() / LINE_LENGTH;
+    let mut at = 0;
+    while at < lines {
+        let n = next_of_sheet(s, at);
+        let line = n.line;
+        put_row(d, first + at, triple_of(line));
+        at = n.next;
+    }
+}
+
+// The end of the part that starts at line i, where its own parts end; the ends of those after it stand in the rows.
+fn set_end(d: &mut [u64], s: &[u8], i: usize)
+    requires { ⌜ RowAsk (now d) (now s) i ⌝ }
+    ensures { λ _. ⌜ now (d .exit) ≡ set (now (d .entry)) (2 * i + 1) (packed (getD (triples (now (s .entry))) i noTriple) (partLine (triples (now (s .entry))) i 1)) ⌝ }
+{
+    let lines = s.len() / LINE_LENGTH;
+    let t = row_triple(d[2 * i], d[2 * i + 1]);
+    let parts = parts_of(t) as usize;
+    let end = after_parts(d, lines, i + 1, parts);
+    d[2 * i + 1] = pack(t, end);
+}
+
+// The ends of all lines, the last one's first.
+fn set_ends(d: &mut [u64], s: &[u8])
+    requires { ⌜ (length (now d) ≡ 4 * length (triples (now s))) × (length (triples (now s)) ≤ mostLines) × Bare (triples (now s)) (now d) (length (triples (now s))) ⌝ }
     ensures { λ _. ⌜ (rows (now (d .exit)) ≡ triples (now (s .entry))) × EndsFrom (rows (now (d .exit))) (now (d .exit)) 0 × Unlinked (now (d .exit)) × (now (d .exit) ≡ unlinkedWords (triples (now (s .entry)))) ⌝ }
 {
     let mut i = s.len() / LINE_LENGTH;
     while 0 < i {
         i -= 1;
-        read_row(d, s, i);
+        set_end(d, s, i);
     }
 }
 
-// Reads a sheet: every word is fixed, those of the links too.
+// Reads the sheet of a plan: every word is fixed, those of the links too. The term is read from its own part of the sheet.
 pub fn read_rows(d: &mut [u64], s: &[u8])
-    requires { ⌜ (length (now d) ≡ 4 * (length (now s) / lineLength)) × (length (now s) / lineLength ≤ mostLines) ⌝ }
+    requires { ⌜ (length (now d) ≡ 4 * (length (now s) / lineLength)) × (check (now s) ≡ Plan) ⌝ }
     ensures { λ _. ⌜ (rows (now (d .exit)) ≡ triples (now (s .entry))) × Ended (now (d .exit)) × (now (d .exit) ≡ sheetWords (triples (now (s .entry)))) ⌝ }
 {
-    read_lines(d, s);
+    let term = read_head(d, s);
+    read_part(d, term, term_lines(s, term));
+    set_ends(d, s);
     link_entries(d);
 }
 

@@ -9,7 +9,7 @@ use Rattle.checker.proofs.run_rows.Statement.{statement}
 use Rattle.checker.proofs.run_rows.Tie as tie
 
 read-rows-requires : tie.Need-read-rows-requires
-read-rows-requires c κs = (c .before .before .before .before .before .before .before .before .before .pre .rows, plan-lines (now (c .before .before .before .before .before .before .before .before .before .args .s)) (c .before .before .before .before .before .before .before .before .before .pre .run .plan))
+read-rows-requires c κs = (c .before .before .before .before .before .before .before .before .before .pre .rows, c .before .before .before .before .before .before .before .before .before .pre .run .plan)
 
 check-plan-requires : tie.Need-check-plan-requires
 check-plan-requires c κs =
