@@ -76,7 +76,7 @@ module _ (k x : ℕ) where
 
     -- it may be copied and pushed
     pub entry-asks : {b : List ℕ} {c : Run} {out t : List ℕ} {tn : ℕ} → VarAsk b c s out t tn → {line count : ℕ} → r ≡ At line count
-        → Stacked b (c .board) × (2 * tn ≤ length t) × (2 * count ≤ length out) × LinesAsk s line count
+        → Stacked b (c .counters .board) × (2 * tn ≤ length t) × (2 * count ≤ length out) × LinesAsk s line count
     entry-asks a q =
         let l = entry-lines (a .sheet) q in
         let w = l .within in
@@ -123,7 +123,7 @@ module _ (x : ℕ) (w : List ℕ) where
 
 -- ---- the rule by the three types that a name may have
 pub looked : {w : Way} {b k rep : List ℕ} {c : Run} {b' k' rep' : List ℕ} {r : Run} (s : List ℕ) (x : ℕ) (t : Ty)
-    → Does w (rows s) b k rep c (variable (envOn s) x t (entryIn 2 x s) (findVar x (entriesOf (rows s) b (c .board .entries))) (entryIn 1 x s)) b' k' rep' r
+    → Does w (rows s) b k rep c (variable (envOn s) x t (entryIn 2 x s) (findVar x (entriesOf (rows s) b (c .counters .board .entries))) (entryIn 1 x s)) b' k' rep' r
     → Does w (rows s) b k rep c (inferBy (envOn s) t (isVar x)) b' k' rep' r
 unfolding planOf
 looked s x t d = look-then {f = λ (Γ : Entries). variable (envOn s) x t (entryIn 2 x s) (findVar x Γ) (entryIn 1 x s)} d

@@ -36,7 +36,7 @@ applyReport rep u isOther = rep
 
 -- InfApp of types that are f and t when written out
 abbrev pub appReport : List ℕ → Run → Ty → Ty → ℕ → List ℕ
-appReport rep c f t w = twiceReport rep c f t w (λ out. applyReport out (c .fresh) (view f))
+appReport rep c f t w = twiceReport rep c f t w (λ out. applyReport out (c .counters .fresh) (view f))
 
 -- the type that a Var is found to have is copied to the front
 abbrev pub foundOut : List ℕ → Option Ty → List ℕ
@@ -47,7 +47,7 @@ foundOut out (some t) = sets out 0 (words t)
 -- A sheet with types on its entries, room to copy any of them or any of the board's, and the taken type: the tn nodes at the front of t.
 pub record VarAsk (b : List ℕ) (c : Run) (s out t : List ℕ) (tn : ℕ) : Type 0 where
   pub formed : Bookable b c
-  pub board : Stacked b (c .board)
+  pub board : Stacked b (c .counters .board)
   pub sheet : Formed (rows s)
   pub ended : Ended s
   pub lines : 2 * length (rows s) ≤ length out

@@ -50,7 +50,7 @@ fn apply_shapes(
     n: usize,
 ) -> Run
     requires { ⌜ SubAsk (now board) (now book) (now report) c f n ⌝ }
-    ensures { λ r. ⌜ ((w : Way) (ls : List Triple) (E : Env) → Scoped w → Does w ls (now (board .entry)) (now (book .entry)) (now (report .entry)) c (applyBy E (nodesAt (now (report .entry)) 0 f) (termAt ls line) (nodesAt (now (report .entry)) (2 * f) n) (view (nodesAt (now (report .entry)) 0 f))) (now (board .exit)) (now (book .exit)) (now (report .exit)) r) × (now (report .exit) ≡ applyReport (now (report .entry)) (c .fresh) (view (nodesAt (now (report .entry)) 0 f))) ⌝ }
+    ensures { λ r. ⌜ ((w : Way) (ls : List Triple) (E : Env) → Scoped w → Does w ls (now (board .entry)) (now (book .entry)) (now (report .entry)) c (applyBy E (nodesAt (now (report .entry)) 0 f) (termAt ls line) (nodesAt (now (report .entry)) (2 * f) n) (view (nodesAt (now (report .entry)) 0 f))) (now (board .exit)) (now (book .exit)) (now (report .exit)) r) × (now (report .exit) ≡ applyReport (now (report .entry)) (c .counters .fresh) (view (nodesAt (now (report .entry)) 0 f))) ⌝ }
 {
     let ct = 2 * f;
     let s = shape(report, 0, f);
@@ -110,7 +110,7 @@ fn push_entry(
     t: &[u32],
     tn: usize,
 ) -> Run
-    requires { ⌜ Stacked (now board) (c .board) × (2 * tn ≤ length (now t)) × (2 * n ≤ length (now out)) × LinesAsk (now s) first n ⌝ }
+    requires { ⌜ Stacked (now board) (c .counters .board) × (2 * tn ≤ length (now t)) × (2 * n ≤ length (now out)) × LinesAsk (now s) first n ⌝ }
     ensures { λ r. ⌜ ((w : Way) (k rep : List ℕ) → WellFormed (now (board .entry)) k c → Does w (rows (now (s .entry))) (now (board .entry)) k rep c (pushRule (sub (typeOn (now (s .entry)) first n) (nodesAt (now (t .entry)) 0 tn)) done) (now (board .exit)) k rep r) × (now (out .exit) ≡ foundOut (now (out .entry)) (some (typeOn (now (s .entry)) first n))) ⌝ }
 {
     copy_type(out, 0, s, first, n);
@@ -147,9 +147,9 @@ fn infer_on_board(
     tn: usize,
 ) -> Run
     requires { ⌜ VarAsk (now board) c (now s) (now out) (now t) tn ⌝ }
-    ensures { λ r. ⌜ ((w : Way) (k rep : List ℕ) → WellFormed (now (board .entry)) k c → Does w (rows (now (s .entry))) (now (board .entry)) k rep c (variable (envOn (now (s .entry))) name (nodesAt (now (t .entry)) 0 tn) none (findVar name (entriesOf (rows (now (s .entry))) (now (board .entry)) (c .board .entries))) (entryIn 1 name (now (s .entry)))) (now (board .exit)) k rep r) × (now (out .exit) ≡ foundOut (now (out .entry)) (orElse (findVar name (entriesOf (rows (now (s .entry))) (now (board .entry)) (c .board .entries))) (entryIn 1 name (now (s .entry))))) ⌝ }
+    ensures { λ r. ⌜ ((w : Way) (k rep : List ℕ) → WellFormed (now (board .entry)) k c → Does w (rows (now (s .entry))) (now (board .entry)) k rep c (variable (envOn (now (s .entry))) name (nodesAt (now (t .entry)) 0 tn) none (findVar name (entriesOf (rows (now (s .entry))) (now (board .entry)) (c .counters .board .entries))) (entryIn 1 name (now (s .entry)))) (now (board .exit)) k rep r) × (now (out .exit) ≡ foundOut (now (out .entry)) (orElse (findVar name (entriesOf (rows (now (s .entry))) (now (board .entry)) (c .counters .board .entries))) (entryIn 1 name (now (s .entry))))) ⌝ }
 {
-    let b = c.board;
+    let b = c.counters.board;
     match find_var(board, b, name) {
         board::Found::At(place) => {
             let n = place.count;
@@ -171,7 +171,7 @@ pub fn infer_variable(
     tn: usize,
 ) -> Run
     requires { ⌜ VarAsk (now board) c (now s) (now out) (now t) tn ⌝ }
-    ensures { λ r. ⌜ ((w : Way) (k rep : List ℕ) → WellFormed (now (board .entry)) k c → Does w (rows (now (s .entry))) (now (board .entry)) k rep c (inferBy (envOn (now (s .entry))) (nodesAt (now (t .entry)) 0 tn) (isVar name)) (now (board .exit)) k rep r) × (now (out .exit) ≡ foundOut (now (out .entry)) (orElse (entryIn 2 name (now (s .entry))) (orElse (findVar name (entriesOf (rows (now (s .entry))) (now (board .entry)) (c .board .entries))) (entryIn 1 name (now (s .entry)))))) ⌝ }
+    ensures { λ r. ⌜ ((w : Way) (k rep : List ℕ) → WellFormed (now (board .entry)) k c → Does w (rows (now (s .entry))) (now (board .entry)) k rep c (inferBy (envOn (now (s .entry))) (nodesAt (now (t .entry)) 0 tn) (isVar name)) (now (board .exit)) k rep r) × (now (out .exit) ≡ foundOut (now (out .entry)) (orElse (entryIn 2 name (now (s .entry))) (orElse (findVar name (entriesOf (rows (now (s .entry))) (now (board .entry)) (c .counters .board .entries))) (entryIn 1 name (now (s .entry)))))) ⌝ }
 {
     match find_entry(s, 2, name as u64) {
         sheet::Found::At { line, count } => push_entry(board, c, s, line, count, out, t, tn),

@@ -36,8 +36,8 @@ fresh-ready {b} c h e =
     let l = h .numbers in
     rw e
     (cond-ind (Ready b) (going (c .halt))
-    (λ _. cond-ind (Ready b) (ltb (c .fresh) mostNumbers)
-    (λ q. record { board = h .board; numbers = omega (arith, ltb-true (c .fresh) mostNumbers q) }) (λ _. record { board = h .board; numbers = l }))
+    (λ _. cond-ind (Ready b) (ltb (c .counters .fresh) mostNumbers)
+    (λ q. record { board = h .board; numbers = omega (arith, ltb-true (c .counters .fresh) mostNumbers q) }) (λ _. record { board = h .board; numbers = l }))
     (λ _. h))
 
 pub tvar-ready : {b : List ℕ} {c : Run} {a : ℕ} {b' : List ℕ} {r : Run} → Ready b c → Pushes b c 17 a [] [] (λ ls. tvar (node 17 a)) b' r → Ready b' r

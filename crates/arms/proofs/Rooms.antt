@@ -60,5 +60,5 @@ module _ (ls : List Triple) (u : ℕ) (t : Ty) where
 
 -- ---- a Case
 pub room-case : (ls : List Triple) (t : Ty) (n line : ℕ) (c : Run) (w v l r : List ℕ) {c₁ c₂ c₃ : Run} → c₁ ≡ freshRun c → c₂ ≡ pushRun c₁ 0 → c₃ ≡ pushRun c₂ 1
-    → armsRoom ls (c .fresh) t n line (room c₃ w v l r) ≡ caseRoom ls t n line (room c w v l r)
+    → armsRoom ls (c .counters .fresh) t n line (room c₃ w v l r) ≡ caseRoom ls t n line (room c w v l r)
 room-case ls t n line c w v l r e₁ e₂ e₃ = rw (e₃, e₂, e₁)

@@ -48,4 +48,4 @@ armsRoom ls u t (suc n) line s = armsRoom ls u t n (afterArm ls line) (armRoom l
 
 -- a Case: a fresh unknown, its TVar and the scrutinee's Chk come first
 abbrev pub caseRoom : List Triple → Ty → ℕ → ℕ → Room → Room
-caseRoom ls t n line s = armsRoom ls (s .run .fresh) t n line (room (pushRun (pushRun (freshRun (s .run)) 0) 1) (s .frames) (s .bindings) (s .left) (s .right))
+caseRoom ls t n line s = armsRoom ls (s .run .counters .fresh) t n line (room (pushRun (pushRun (freshRun (s .run)) 0) 1) (s .frames) (s .bindings) (s .left) (s .right))

@@ -127,7 +127,7 @@ pub fn infer_case(
     requires { ⌜ CaseAsk (now board) c (rows (now s)) line n (now w) (now v) (now l) (now r) (now t) tn × Ended (now s) ⌝ }
     ensures { λ o. ⌜ ((m : Way) (k rep : List ℕ) → WellFormed (now (board .entry)) k c → Does m (rows (now (s .entry))) (now (board .entry)) k rep c (inferBy (envAt (rows (now (s .entry)))) (nodesAt (now (t .entry)) 0 tn) (isCase n (termAt (rows (now (s .entry))) e) (fromLine (rows (now (s .entry))) line))) (now (board .exit)) k rep o) × (room o (now (w .exit)) (now (v .exit)) (now (l .exit)) (now (r .exit)) ≡ caseRoom (rows (now (s .entry))) (nodesAt (now (t .entry)) 0 tn) n line (room c (now (w .entry)) (now (v .entry)) (now (l .entry)) (now (r .entry)))) ⌝ }
 {
-    let a = c.fresh;
+    let a = c.counters.fresh;
     let c1 = fresh_evar(c);
     let c2 = push_tvar(board, c1, 17, a);
     let u = [17u32, a];

@@ -45,11 +45,11 @@ module _ (L : Levels → Limits) (E : Env) (C : ℕ) where
 -- T is what the run from the words at its start comes to
 pub record Loop (strict : Bool) (m : ℕ) (s : List ℕ) (C : ℕ) (T : Told) (b k rep : List ℕ) (c : Run) : Type 0 where
   pub standing : Standing s b k c
-  pub left : leftOf (limitsFor (modeOf strict) m) (envOn s) C (c .taken) (levelsOf k) (outcomeOf (rows s) b k rep c) ≡ T
+  pub left : leftOf (limitsFor (modeOf strict) m) (envOn s) C (c .counters .taken) (levelsOf k) (outcomeOf (rows s) b k rep c) ≡ T
 
 -- the run from the words at the start
 abbrev pub wholeRun : Bool → ℕ → List ℕ → ℕ → List ℕ → List ℕ → Run → Told
-wholeRun strict m s C b k c = told (c .taken) (levelsOf k) (runFrom (limitsFor (modeOf strict) m) (envOn s) (C - c .taken) (levelsOf k) (stateOf (rows s) b k c))
+wholeRun strict m s C b k c = told (c .counters .taken) (levelsOf k) (runFrom (limitsFor (modeOf strict) m) (envOn s) (C - c .counters .taken) (levelsOf k) (stateOf (rows s) b k c))
 
 pub loop-start : {strict : Bool} {m : ℕ} {s : List ℕ} (C : ℕ) {b k rep : List ℕ} {c : Run} → Standing s b k c → going (c .halt) ≡ true → Loop strict m s C (wholeRun strict m s C b k c) b k rep c
 loop-start {strict} {m} {s} C {b} {k} {rep} {c} r g = record {
@@ -58,24 +58,24 @@ loop-start {strict} {m} {s} C {b} {k} {rep} {c} r g = record {
 }
 
 -- what the test tells
-pub more-facts : (c : Run) (C : ℕ) → takesMore c C ≡ true → (going (c .halt) ≡ true) × (0 < c .board .entries) × (c .taken < C)
+pub more-facts : (c : Run) (C : ℕ) → takesMore c C ≡ true → (going (c .halt) ≡ true) × (0 < c .counters .board .entries) × (c .counters .taken < C)
 more-facts c C e =
-    let x = and-eq-true-iff (going (c .halt)) (ltb 0 (c .board .entries) && ltb (c .taken) C) .0 e in
-    let y = and-eq-true-iff (ltb 0 (c .board .entries)) (ltb (c .taken) C) .0 (x .1) in
-    (x .0, ltb-true 0 (c .board .entries) (y .0), ltb-true (c .taken) C (y .1))
+    let x = and-eq-true-iff (going (c .halt)) (ltb 0 (c .counters .board .entries) && ltb (c .counters .taken) C) .0 e in
+    let y = and-eq-true-iff (ltb 0 (c .counters .board .entries)) (ltb (c .counters .taken) C) .0 (x .1) in
+    (x .0, ltb-true 0 (c .counters .board .entries) (y .0), ltb-true (c .counters .taken) C (y .1))
 
-pub loop-turn : {strict : Bool} {m : ℕ} {s : List ℕ} {C : ℕ} {T : Told} {b k : List ℕ} {c : Run} {x : Room} {b' k' : List ℕ} {q : Run} {x' : Room} → (going (c .halt) ≡ true) × (0 < c .board .entries) × (c .taken < C)
+pub loop-turn : {strict : Bool} {m : ℕ} {s : List ℕ} {C : ℕ} {T : Told} {b k : List ℕ} {c : Run} {x : Room} {b' k' : List ℕ} {q : Run} {x' : Room} → (going (c .halt) ≡ true) × (0 < c .counters .board .entries) × (c .counters .taken < C)
     → Loop strict m s C T b k (x .report) c → Stepping strict m s b k c x b' k' q x' → Loop strict m s C T b' k' (x' .report) q
 loop-turn {strict} {m} {s} {C} {T} {b} {k} {c} {x} {b'} {k'} {q} {x'} f h r =
     let E = envOn s in
     let L : Levels → Limits = limitsFor (modeOf strict) m in
     let v = levelsOf k in
     let o = outcomeOf (rows s) b k (x .report) c in
-    let t : leftOf L E C (c .taken + 1) (stepL (L v) E o v) (stepO (L v) E o) ≡ leftOf L E C (c .taken) v o =
-    rw (f .0) (turn-entries L E C (rows s) b (c .board .entries) (f .1) (c .taken) (f .2) v (sols k) (c .fresh)) in
+    let t : leftOf L E C (c .counters .taken + 1) (stepL (L v) E o v) (stepO (L v) E o) ≡ leftOf L E C (c .counters .taken) v o =
+    rw (f .0) (turn-entries L E C (rows s) b (c .counters .board .entries) (f .1) (c .counters .taken) (f .2) v (sols k) (c .counters .fresh)) in
     record {
       standing = r .standing;
-      left = ap₂ (λ (n : ℕ) (o : Outcome). leftOf L E C n (levelsOf k') o) (r .taken) (r .outcome) ∙ ap (λ (u : Levels). leftOf L E C (c .taken + 1) u (stepO (L v) E o)) (r .levels) ∙ t ∙ h .left;
+      left = ap₂ (λ (n : ℕ) (o : Outcome). leftOf L E C n (levelsOf k') o) (r .taken) (r .outcome) ∙ ap (λ (u : Levels). leftOf L E C (c .counters .taken + 1) u (stepO (L v) E o)) (r .levels) ∙ t ∙ h .left;
     }
 
 -- no more is taken
@@ -93,6 +93,6 @@ ended L E C ls b rep h i m v σ n e = by (going h) refl
     by false g = rw g refl
 
 pub loop-end : {strict : Bool} {m : ℕ} {s : List ℕ} {C : ℕ} {T : Told} {b k rep : List ℕ} {c : Run} → Loop strict m s C T b k rep c → takesMore c C ≡ false
-    → T ≡ record { end = endOf rep c; taken = c .taken; last = stateOf (rows s) b k c; levels = levelsOf k }
+    → T ≡ record { end = endOf rep c; taken = c .counters .taken; last = stateOf (rows s) b k c; levels = levelsOf k }
 loop-end {strict} {m} {s} {C} {T} {b} {k} {rep} {c} h e =
-    sym (h .left) ∙ ended (limitsFor (modeOf strict) m) (envOn s) C (rows s) b rep (c .halt) (c .board .entries) (c .taken) (levelsOf k) (sols k) (c .fresh) e
+    sym (h .left) ∙ ended (limitsFor (modeOf strict) m) (envOn s) C (rows s) b rep (c .halt) (c .counters .board .entries) (c .counters .taken) (levelsOf k) (sols k) (c .counters .fresh) e

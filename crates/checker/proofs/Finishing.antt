@@ -55,9 +55,9 @@ result-told plain v (steps ss e (state Γ σ n)) =
     ap (λ (m : ℕ). resultTold plain (record { end = e; taken = m; last = state Γ σ n; levels = levelsAfter (events ss) v })) (sym (zero-add (length ss)))
 
 pub judged : (m : Mode) (s : List ℕ) (C limit : ℕ) (b k rep : List ℕ) (c : Run)
-    → told 0 ownLevels (runFrom (limitsFor m limit) (envOn s) C ownLevels (startOf (rows s))) ≡ record { end = endOf rep c; taken = c .taken; last = stateOf (rows s) b k c; levels = levelsOf k }
+    → told 0 ownLevels (runFrom (limitsFor m limit) (envOn s) C ownLevels (startOf (rows s))) ≡ record { end = endOf rep c; taken = c .counters .taken; last = stateOf (rows s) b k c; levels = levelsOf k }
     → judge (limitsFor m limit) C (rows s) ≡ record {
-      answer = answerBy (planOf (rows s) .plain) (endOf rep c) (c .taken) (c .fresh);
+      answer = answerBy (planOf (rows s) .plain) (endOf rep c) (c .counters .taken) (c .counters .fresh);
       report = endReport (endOf rep c);
       solutions = sols k;
       levels = levelsOf k;
@@ -77,9 +77,9 @@ all-set l vs e =
 pub whole-board : (b b' : List ℕ) → length b ≡ boardSize → b' ≡ sets b 0 boardWords → b' ≡ boardWords
 whole-board b b' l e = e ∙ all-set b boardWords (l ∙ sym length-board)
 
-pub whole-book : {b k : List ℕ} {c : Run} → WellFormed b k c → length k ≡ bookSize → levelsWritten k (c .fresh) ≡ bookWords (sols k) (levelsOf k) (c .fresh)
+pub whole-book : {b k : List ℕ} {c : Run} → WellFormed b k c → length k ≡ bookSize → levelsWritten k (c .counters .fresh) ≡ bookWords (sols k) (levelsOf k) (c .counters .fresh)
 whole-book {b} {k} {c} h e =
-    sym (take-all bookSize (levelsWritten k (c .fresh)) (omega (arith, length-written k (c .fresh)))) ∙ book-words k (c .book) (h .book) (c .fresh) (h .numbers) (λ j l i. h .unmade j l i .1)
+    sym (take-all bookSize (levelsWritten k (c .counters .fresh)) (omega (arith, length-written k (c .counters .fresh)))) ∙ book-words k (c .book) (h .book) (c .counters .fresh) (h .numbers) (λ j l i. h .unmade j l i .1)
 
 -- the report: n nodes, and then 0
 module _ (limit : ℕ) (rep : List ℕ) (len : length rep ≡ reportStride * limit) (n : ℕ) where
@@ -165,17 +165,17 @@ end-clears h e q = let x = end-within h e in omega arith
 
 -- ---- all of it
 pub ran : (m : Mode) (s : List ℕ) (C limit : ℕ) {b k : List ℕ} (rep : List ℕ) (c : Run) {b' k' rep' : List ℕ} {a : Answer} {plain : Bool} {size n : ℕ}
-    → WellFormed b k c × (told 0 ownLevels (runFrom (limitsFor m limit) (envOn s) C ownLevels (startOf (rows s))) ≡ record { end = endOf rep c; taken = c .taken; last = stateOf (rows s) b k c; levels = levelsOf k })
-    → length k ≡ bookSize → k' ≡ levelsWritten k (c .fresh) → length rep ≡ reportStride * limit → b' ≡ boardWords → size ≡ length rep → n ≡ reportEnd size (c .halt) → rep' ≡ sets rep n (zeros (size - n))
-    → plain ≡ plainPlan (rows s) → ((rep : List ℕ) → a ≡ answerBy plain (endOf rep c) (c .taken) (c .fresh)) → Ran limit (judge (limitsFor m limit) C (rows s)) b' k' rep' a
+    → WellFormed b k c × (told 0 ownLevels (runFrom (limitsFor m limit) (envOn s) C ownLevels (startOf (rows s))) ≡ record { end = endOf rep c; taken = c .counters .taken; last = stateOf (rows s) b k c; levels = levelsOf k })
+    → length k ≡ bookSize → k' ≡ levelsWritten k (c .counters .fresh) → length rep ≡ reportStride * limit → b' ≡ boardWords → size ≡ length rep → n ≡ reportEnd size (c .halt) → rep' ≡ sets rep n (zeros (size - n))
+    → plain ≡ plainPlan (rows s) → ((rep : List ℕ) → a ≡ answerBy plain (endOf rep c) (c .counters .taken) (c .counters .fresh)) → Ran limit (judge (limitsFor m limit) C (rows s)) b' k' rep' a
 unfolding planOf
 ran m s C limit {b} {k} rep c {size} {n} h lk ek lr eb es en er ep ea =
     let j = judged m s C limit b k rep c (h .1) in
     let z : size ≡ reportStride * limit = es ∙ lr in
     record {
-      answer = ea rep ∙ ap (λ (p : Bool). answerBy p (endOf rep c) (c .taken) (c .fresh)) ep ∙ sym (ap (λ (r : Result). r .answer) j);
+      answer = ea rep ∙ ap (λ (p : Bool). answerBy p (endOf rep c) (c .counters .taken) (c .counters .fresh)) ep ∙ sym (ap (λ (r : Result). r .answer) j);
       board = eb;
       book = ek ∙ whole-book (h .0) lk ∙ sym (ap (λ (r : Result). bookWords (r .solutions) (r .levels) (r .answer .fresh)) j);
       report = er ∙ ap (λ (m : ℕ). sets rep m (zeros (size - m))) en ∙ ap (λ (m : ℕ). sets rep (reportEnd m (c .halt)) (zeros (m - reportEnd m (c .halt)))) z
-          ∙ ended-report limit rep lr (c .halt) (c .board .entries) ∙ sym (ap (λ (r : Result). reportWords limit (r .report)) j);
+          ∙ ended-report limit rep lr (c .halt) (c .counters .board .entries) ∙ sym (ap (λ (r : Result). reportWords limit (r .report)) j);
     }

@@ -112,7 +112,7 @@ module _ (s : List ℕ) (h : Read s) where
     words-after = laid b none 5 (placesOf ls .term) T []
 
     abbrev begun : Run
-    begun = record { taken = 0; fresh = 0; board = grown none (n + 0); book = record { nodes = 0 }; halt = noHalt }
+    begun = record { counters = record { taken = 0; fresh = 0; board = grown none (n + 0) }; book = record { nodes = 0 }; halt = noHalt }
 
     few : 0 + (length T + 0) ≤ mostNodes
     few =
@@ -172,7 +172,7 @@ module _ {s b k t : List ℕ} (a : StartAsk s b k t) {p : Places} (ep : p ≡ pl
         y ∙ z
 
     pub begun-is : {b' k' : List ℕ} {q : Board} {bk : Book} → (b' ≡ laid b d 5 (p .term) (nodesAt t' 0 (e - p .expected)) (nodesAt t' 0 0)) × (q ≡ grown d (e - p .expected + 0)) → k' ≡ sets k 0 (bookWords [] ownLevels 0) → bk ≡ record { nodes = 0 } → {h : Halt} → h ≡ noHalt
-        → (let r : Run = record { taken = 0; fresh = 0; board = q; book = bk; halt = h } in WellFormed b' k' r × (r .taken ≡ 0) × (levelsOf k' ≡ ownLevels) × ((rep : List ℕ) → outcomeOf (rows s) b' k' rep r ≡ finished (startOf (rows s))))
+        → (let r : Run = record { counters = record { taken = 0; fresh = 0; board = q }; book = bk; halt = h } in WellFormed b' k' r × (r .counters .taken ≡ 0) × (levelsOf k' ≡ ownLevels) × ((rep : List ℕ) → outcomeOf (rows s) b' k' rep r ≡ finished (startOf (rows s))))
     unfolding nodesAt
     begun-is u ek eb eh =
         let f = begun-formed s (a .plan) b k t' (a .board) (a .book) (e - p .expected) count-is expected-nodes in
@@ -189,7 +189,7 @@ abbrev goesOn : Outcome → Bool
 goesOn (finished s) = true
 goesOn (refused e ts s) = false
 
-pub start-is : (s b k : List ℕ) (c : Run) → WellFormed b k c × (c .taken ≡ 0) × (levelsOf k ≡ ownLevels) × ((rep : List ℕ) → outcomeOf (rows s) b k rep c ≡ finished (startOf (rows s))) → (going (c .halt) ≡ true) × (stateOf (rows s) b k c ≡ startOf (rows s))
+pub start-is : (s b k : List ℕ) (c : Run) → WellFormed b k c × (c .counters .taken ≡ 0) × (levelsOf k ≡ ownLevels) × ((rep : List ℕ) → outcomeOf (rows s) b k rep c ≡ finished (startOf (rows s))) → (going (c .halt) ≡ true) × (stateOf (rows s) b k c ≡ startOf (rows s))
 start-is s b k c q = go (going (c .halt)) refl (q .3 [])
   where
     go : (g : Bool) → going (c .halt) ≡ g → cond g (finished (stateOf (rows s) b k c)) (refused (errorOf (c .halt)) (nodesAt [] 0 (reported (errorOf (c .halt)))) (stateOf (rows s) b k c)) ≡ finished (startOf (rows s))
@@ -197,20 +197,20 @@ start-is s b k c q = go (going (c .halt)) refl (q .3 [])
     go true p e = (p, ap stateIn e)
     go false p e = absurd (true≢false (sym (ap goesOn e)))
 
-pub start-stands : (s b k : List ℕ) (c : Run) → Read s → WellFormed b k c × (c .taken ≡ 0) × (levelsOf k ≡ ownLevels) × ((rep : List ℕ) → outcomeOf (rows s) b k rep c ≡ finished (startOf (rows s))) → Standing s b k c × (going (c .halt) ≡ true)
+pub start-stands : (s b k : List ℕ) (c : Run) → Read s → WellFormed b k c × (c .counters .taken ≡ 0) × (levelsOf k ≡ ownLevels) × ((rep : List ℕ) → outcomeOf (rows s) b k rep c ≡ finished (startOf (rows s))) → Standing s b k c × (going (c .halt) ≡ true)
 start-stands s b k c h q =
     let p = planOf (rows s) in
     let w = read-whole h in
     let e = start-is s b k c q in
-    let o = of-outcome ⊥ (c .halt) [] (entriesOf (rows s) b (c .board .entries)) (sols k) (c .fresh)
+    let o = of-outcome ⊥ (c .halt) [] (entriesOf (rows s) b (c .counters .board .entries)) (sols k) (c .counters .fresh)
     (subst⁻¹ (OutcomeOK ⊥) (q .3 []) (record { inv = plan-inv p (read-good h); entries = (w .1, tt); solutions = tt })) in
     (record { plan = h; formed = q .0; good = o }, e .0)
 
 -- its run is the sheet's
-pub start-told : (L : Levels → Limits) (s b k : List ℕ) (c : Run) (C : ℕ) → WellFormed b k c × (c .taken ≡ 0) × (levelsOf k ≡ ownLevels) × ((rep : List ℕ) → outcomeOf (rows s) b k rep c ≡ finished (startOf (rows s)))
-    → told 0 ownLevels (runFrom L (envOn s) C ownLevels (startOf (rows s))) ≡ told (c .taken) (levelsOf k) (runFrom L (envOn s) (C - c .taken) (levelsOf k) (stateOf (rows s) b k c))
+pub start-told : (L : Levels → Limits) (s b k : List ℕ) (c : Run) (C : ℕ) → WellFormed b k c × (c .counters .taken ≡ 0) × (levelsOf k ≡ ownLevels) × ((rep : List ℕ) → outcomeOf (rows s) b k rep c ≡ finished (startOf (rows s)))
+    → told 0 ownLevels (runFrom L (envOn s) C ownLevels (startOf (rows s))) ≡ told (c .counters .taken) (levelsOf k) (runFrom L (envOn s) (C - c .counters .taken) (levelsOf k) (stateOf (rows s) b k c))
 start-told L s b k c C q =
     let e = start-is s b k c q in
     let z : C ≡ C - 0 = omega arith in
-    sym (ap (λ (v : Levels). told (c .taken) v (runFrom L (envOn s) (C - c .taken) v (stateOf (rows s) b k c))) (q .2)
+    sym (ap (λ (v : Levels). told (c .counters .taken) v (runFrom L (envOn s) (C - c .counters .taken) v (stateOf (rows s) b k c))) (q .2)
     ∙ ap₂ (λ (m : ℕ) (x : State). told m ownLevels (runFrom L (envOn s) (C - m) ownLevels x)) (q .1) (e .1) ∙ ap (λ (m : ℕ). told 0 ownLevels (runFrom L (envOn s) m ownLevels (startOf (rows s)))) (sym z))

@@ -31,6 +31,7 @@ use grammar::Check;
 use grammar::check_sheet;
 use judgment::Answer;
 use nodes::clear_words;
+use operations::Counters;
 use operations::Halt;
 use operations::Run;
 use sheet::copy_type;
@@ -70,7 +71,7 @@ fn solve(
     v: &mut [usize],
 ) -> Run
     requires { ⌜ Standing (now s) (now board) (now book) c × (going (c .halt) ≡ true) × (limit ≤ mostNodes) × (4 * limit ≤ length (now report)) × Lent (now s) (now t) (now l) (now r) (now w) (now v) ⌝ }
-    ensures { λ q. ⌜ WellFormed (now (board .exit)) (now (book .exit)) q × (told (c .taken) (levelsOf (now (book .entry))) (runFrom (limitsFor (modeOf strict) limit) (envOn (now (s .entry))) (ceiling - c .taken) (levelsOf (now (book .entry))) (stateOf (rows (now (s .entry))) (now (board .entry)) (now (book .entry)) c)) ≡ record { end = endOf (now (report .exit)) q; taken = q .taken; last = stateOf (rows (now (s .entry))) (now (board .exit)) (now (book .exit)) q; levels = levelsOf (now (book .exit)) }) ⌝ }
+    ensures { λ q. ⌜ WellFormed (now (board .exit)) (now (book .exit)) q × (told (c .counters .taken) (levelsOf (now (book .entry))) (runFrom (limitsFor (modeOf strict) limit) (envOn (now (s .entry))) (ceiling - c .counters .taken) (levelsOf (now (book .entry))) (stateOf (rows (now (s .entry))) (now (board .entry)) (now (book .entry)) c)) ≡ record { end = endOf (now (report .exit)) q; taken = q .counters .taken; last = stateOf (rows (now (s .entry))) (now (board .exit)) (now (book .exit)) q; levels = levelsOf (now (book .exit)) }) ⌝ }
 {
     let mut run = c;
     while takes_more(run, ceiling) {
@@ -82,7 +83,7 @@ fn solve(
 // The Chk of term and expected type on the board, and no solution.
 fn start(board: &mut [u32], book: &mut [u32], s: &[u64], t: &mut [u32]) -> Run
     requires { ⌜ StartAsk (now s) (now board) (now book) (now t) ⌝ }
-    ensures { λ r. ⌜ WellFormed (now (board .exit)) (now (book .exit)) r × (r .taken ≡ 0) × (levelsOf (now (book .exit)) ≡ ownLevels) × ((rep : List ℕ) → outcomeOf (rows (now (s .entry))) (now (board .exit)) (now (book .exit)) rep r ≡ finished (startOf (rows (now (s .entry))))) ⌝ }
+    ensures { λ r. ⌜ WellFormed (now (board .exit)) (now (book .exit)) r × (r .counters .taken ≡ 0) × (levelsOf (now (book .exit)) ≡ ownLevels) × ((rep : List ℕ) → outcomeOf (rows (now (s .entry))) (now (board .exit)) (now (book .exit)) rep r ≡ finished (startOf (rows (now (s .entry))))) ⌝ }
 {
     clear_book(book);
     let places = find_places(s);
@@ -93,10 +94,13 @@ fn start(board: &mut [u32], book: &mut [u32], s: &[u64], t: &mut [u32]) -> Run
     copy_type(t, 0, s, first, n);
     let empty = Board::new();
     let one = board::push(board, empty, 5, term as u32, t, 0, n, t, 0, 0);
-    Run {
+    let counters = Counters {
         taken: 0,
         fresh: 0,
         board: one,
+    };
+    Run {
+        counters,
         book: Book::new(),
         halt: Halt::none(),
     }
@@ -137,7 +141,7 @@ fn check_plan(
         v,
     );
     clear_board(board);
-    write_levels(book, o.fresh);
+    write_levels(book, o.counters.fresh);
     let halt = o.halt;
     let size = report.len();
     let end = report_end(halt, size);

@@ -42,7 +42,7 @@ checkedOut out f isOther = out
 -- A whole term from this line of the sheet on, the taken type at the front of t, and room to copy any type of the sheet.
 pub record CheckAsk (b : List ℕ) (c : Run) (s : List ℕ) (line : ℕ) (t : List ℕ) (tn : ℕ) (out : List ℕ) : Type 0 where
   pub formed : Bookable b c
-  pub board : Stacked b (c .board)
+  pub board : Stacked b (c .counters .board)
   pub ended : Ended s
   pub stands : line < length (rows s)
   pub few : length (rows s) ≤ mostLines

@@ -64,7 +64,7 @@ pub fn solve_checking(
     out: &mut [u32],
 ) -> Run
     requires { ⌜ WellFormed (now board) (now book) c × CheckAsk (now board) c (now s) line (now t) tn (now out) ⌝ }
-    ensures { λ r. ⌜ ((w : Way) (E : Env) (rep : List ℕ) → Does w (rows (now (s .entry))) (now (board .entry)) (now (book .entry)) rep c (checkBy E (termAt (rows (now (s .entry))) line) (nodesAt (now (t .entry)) 0 tn) (view (nodesAt (now (t .entry)) 0 tn))) (now (board .exit)) (now (book .exit)) rep r) × (now (t .exit) ≡ checkedType (now (t .entry)) (c .fresh) (view (nodesAt (now (t .entry)) 0 tn))) × (now (out .exit) ≡ checkedOut (now (out .entry)) (lambdaOf (termAt (rows (now (s .entry))) line)) (view (nodesAt (now (t .entry)) 0 tn))) ⌝ }
+    ensures { λ r. ⌜ ((w : Way) (E : Env) (rep : List ℕ) → Does w (rows (now (s .entry))) (now (board .entry)) (now (book .entry)) rep c (checkBy E (termAt (rows (now (s .entry))) line) (nodesAt (now (t .entry)) 0 tn) (view (nodesAt (now (t .entry)) 0 tn))) (now (board .exit)) (now (book .exit)) rep r) × (now (t .exit) ≡ checkedType (now (t .entry)) (c .counters .fresh) (view (nodesAt (now (t .entry)) 0 tn))) × (now (out .exit) ≡ checkedOut (now (out .entry)) (lambdaOf (termAt (rows (now (s .entry))) line)) (view (nodesAt (now (t .entry)) 0 tn))) ⌝ }
 {
     let k = shape(t, 0, tn);
     if k == ARROW {

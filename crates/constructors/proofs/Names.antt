@@ -26,37 +26,37 @@ use Rattle.constructors.specs.Opening.{namedRun, namedWords, Named}
 
 -- ---- a run after an operation
 abbrev Follows : Run → Run → Type 0
-Follows c r = (r .taken ≡ c .taken) × (going (r .halt) ≡ true → going (c .halt) ≡ true)
+Follows c r = (r .counters .taken ≡ c .counters .taken) × (going (r .halt) ≡ true → going (c .halt) ≡ true)
 
-fresh-follows : (c : Run) → Follows c (freshRun c) × (freshRun c .board ≡ c .board)
+fresh-follows : (c : Run) → Follows c (freshRun c) × (freshRun c .counters .board ≡ c .counters .board)
 fresh-follows c =
-    cond-ind (λ (r : Run). Follows c r × (r .board ≡ c .board)) (going (c .halt))
-    (λ g. cond-ind (λ (r : Run). Follows c r × (r .board ≡ c .board)) (ltb (c .fresh) mostNumbers) (λ _. ((refl, λ _. g), refl)) (λ _. ((refl, λ _. g), refl)))
+    cond-ind (λ (r : Run). Follows c r × (r .counters .board ≡ c .counters .board)) (going (c .halt))
+    (λ g. cond-ind (λ (r : Run). Follows c r × (r .counters .board ≡ c .counters .board)) (ltb (c .counters .fresh) mostNumbers) (λ _. ((refl, λ _. g), refl)) (λ _. ((refl, λ _. g), refl)))
     (λ _. ((refl, λ z. z), refl))
 
-fresh-numbers : (c : Run) → c .fresh ≤ mostNumbers → freshRun c .fresh ≤ mostNumbers
+fresh-numbers : (c : Run) → c .counters .fresh ≤ mostNumbers → freshRun c .counters .fresh ≤ mostNumbers
 fresh-numbers c l =
-    cond-ind (λ (r : Run). r .fresh ≤ mostNumbers) (going (c .halt))
-    (λ _. cond-ind (λ (r : Run). r .fresh ≤ mostNumbers) (ltb (c .fresh) mostNumbers) (λ h. omega (arith, ltb-true (c .fresh) mostNumbers h)) (λ _. l))
+    cond-ind (λ (r : Run). r .counters .fresh ≤ mostNumbers) (going (c .halt))
+    (λ _. cond-ind (λ (r : Run). r .counters .fresh ≤ mostNumbers) (ltb (c .counters .fresh) mostNumbers) (λ h. omega (arith, ltb-true (c .counters .fresh) mostNumbers h)) (λ _. l))
     (λ _. l)
 
-push-follows : (c : Run) (n : ℕ) → Follows c (pushRun c n) × (pushRun c n .fresh ≡ c .fresh)
+push-follows : (c : Run) (n : ℕ) → Follows c (pushRun c n) × (pushRun c n .counters .fresh ≡ c .counters .fresh)
 push-follows c n =
-    cond-ind (λ (r : Run). Follows c r × (r .fresh ≡ c .fresh)) (going (c .halt))
-    (λ g. cond-ind (λ (r : Run). Follows c r × (r .fresh ≡ c .fresh)) (fitsBoard (c .board) n) (λ _. ((refl, λ _. g), refl)) (λ _. ((refl, λ _. g), refl)))
+    cond-ind (λ (r : Run). Follows c r × (r .counters .fresh ≡ c .counters .fresh)) (going (c .halt))
+    (λ g. cond-ind (λ (r : Run). Follows c r × (r .counters .fresh ≡ c .counters .fresh)) (fitsBoard (c .counters .board) n) (λ _. ((refl, λ _. g), refl)) (λ _. ((refl, λ _. g), refl)))
     (λ _. ((refl, λ z. z), refl))
 
-tvar-stacked : (b : List ℕ) (c : Run) (a : ℕ) → Stacked b (c .board) → Stacked (pushWords b c 17 a [] []) (pushRun c 0 .board)
+tvar-stacked : (b : List ℕ) (c : Run) (a : ℕ) → Stacked b (c .counters .board) → Stacked (pushWords b c 17 a [] []) (pushRun c 0 .counters .board)
 unfolding entryOf
-tvar-stacked b c a s = by (going (c .halt)) refl (fitsBoard (c .board) 0) refl
+tvar-stacked b c a s = by (going (c .halt)) refl (fitsBoard (c .counters .board) 0) refl
   where
-    by : (x : Bool) → going (c .halt) ≡ x → (y : Bool) → fitsBoard (c .board) 0 ≡ y → Stacked (pushWords b c 17 a [] []) (pushRun c 0 .board)
-    by true p true q = let f = fits-facts (c .board) 0 q in rw (p, q) (laid-stacked s 17 a [] [] (f .0) (f .1) (λ ls. refl))
+    by : (x : Bool) → going (c .halt) ≡ x → (y : Bool) → fitsBoard (c .counters .board) 0 ≡ y → Stacked (pushWords b c 17 a [] []) (pushRun c 0 .counters .board)
+    by true p true q = let f = fits-facts (c .counters .board) 0 q in rw (p, q) (laid-stacked s 17 a [] [] (f .0) (f .1) (λ ls. refl))
     by true p false q = rw (p, q) s
     by false p y q = rw p s
 
 -- ---- one unknown, and then the others
-named-none : (b : List ℕ) (c : Run) → Stacked b (c .board) → Named b c 0 b c
+named-none : (b : List ℕ) (c : Run) → Stacked b (c .counters .board) → Named b c 0 b c
 unfolding namedRun namedWords pairs openNames
 named-none b c s = record {
   run = refl;
@@ -71,43 +71,43 @@ named-none b c s = record {
 }
   where
     none : (w : Way) (k rep : List ℕ) (f : Renaming → Rule) (m : Renaming) (xs : List ℕ) → length xs ≡ 0 → (ls : List Triple)
-        → performC w ls (f (pairs xs (c .fresh) m)) (cameTo ls b k rep c) ≡ performC w ls (openNames xs m f) (cameTo ls b k rep c)
+        → performC w ls (f (pairs xs (c .counters .fresh) m)) (cameTo ls b k rep c) ≡ performC w ls (openNames xs m f) (cameTo ls b k rep c)
     none w k rep f m [] l ls = refl
     none w k rep f m (x ∷ xs) l ls = absurd (omega arith)
 
-pub named-end : {b : List ℕ} {c : Run} {n : ℕ} → Stacked b (c .board) → n ≡ 0 → Named b c n b c
+pub named-end : {b : List ℕ} {c : Run} {n : ℕ} → Stacked b (c .counters .board) → n ≡ 0 → Named b c n b c
 named-end {b} {c} {n} s e = rw e (named-none b c s)
 
-pub made-stacked : {b : List ℕ} (c r : Run) → r ≡ freshRun c → Stacked b (c .board) → Stacked b (r .board)
+pub made-stacked : {b : List ℕ} (c r : Run) → r ≡ freshRun c → Stacked b (c .counters .board) → Stacked b (r .counters .board)
 made-stacked c r e s = rw (e, fresh-follows c .1) s
 
 module _ {b b₂ : List ℕ} {c c₁ c₂ : Run} (d : (c₁ ≡ freshRun c) × Performs c (λ rep. fresh own (λ n. done)) c₁)
-    (p : Pushes b c₁ 17 (c .fresh) [] [] (λ ls. tvar (node 17 (c .fresh))) b₂ c₂) where
-  first-follows : Follows c c₁ × (c₁ .board ≡ c .board)
-  first-follows = subst⁻¹ (λ (r : Run). Follows c r × (r .board ≡ c .board)) (d .0) (fresh-follows c)
+    (p : Pushes b c₁ 17 (c .counters .fresh) [] [] (λ ls. tvar (node 17 (c .counters .fresh))) b₂ c₂) where
+  first-follows : Follows c c₁ × (c₁ .counters .board ≡ c .counters .board)
+  first-follows = subst⁻¹ (λ (r : Run). Follows c r × (r .counters .board ≡ c .counters .board)) (d .0) (fresh-follows c)
 
-  then-follows : Follows c₁ c₂ × (c₂ .fresh ≡ c₁ .fresh)
-  then-follows = subst⁻¹ (λ (r : Run). Follows c₁ r × (r .fresh ≡ c₁ .fresh)) (p .0) (push-follows c₁ 0)
+  then-follows : Follows c₁ c₂ × (c₂ .counters .fresh ≡ c₁ .counters .fresh)
+  then-follows = subst⁻¹ (λ (r : Run). Follows c₁ r × (r .counters .fresh ≡ c₁ .counters .fresh)) (p .0) (push-follows c₁ 0)
 
   -- the numbers follow each other
-  next : going (c₂ .halt) ≡ true → c₂ .fresh ≡ c .fresh + 1
+  next : going (c₂ .halt) ≡ true → c₂ .counters .fresh ≡ c .counters .fresh + 1
   next g = then-follows .1 ∙ fresh-made c c₁ (d .0) (then-follows .0 .1 g)
 
-  pub named-stacked : Stacked b (c .board) → Stacked b₂ (c₂ .board)
-  named-stacked s = rw (p .1, p .0) (tvar-stacked b c₁ (c .fresh) (made-stacked c c₁ (d .0) s))
+  pub named-stacked : Stacked b (c .counters .board) → Stacked b₂ (c₂ .counters .board)
+  named-stacked s = rw (p .1, p .0) (tvar-stacked b c₁ (c .counters .fresh) (made-stacked c c₁ (d .0) s))
 
   module _ {b₃ : List ℕ} {c₃ : Run} {n : ℕ} (g : Named b₂ c₂ n b₃ c₃) where
     more : (w : Way) (k rep : List ℕ) → WellFormed b k c → (f : Renaming → Rule) (m : Renaming) (xs : List ℕ) → length xs ≡ suc n → (ls : List Triple)
-        → performC w ls (f (pairs xs (c .fresh) m)) (cameTo ls b₃ k rep c₃) ≡ performC w ls (openNames xs m f) (cameTo ls b k rep c)
+        → performC w ls (f (pairs xs (c .counters .fresh) m)) (cameTo ls b₃ k rep c₃) ≡ performC w ls (openNames xs m f) (cameTo ls b k rep c)
     unfolding pairs openNames
     more w k rep h f m [] l ls = absurd (omega arith)
     more w k rep h f m (x ∷ xs) l ls =
         let D1 = d .1 w ls b k rep h in
         let D2 = p .2 w ls k rep (D1 .kept) in
-        let m₂ : Renaming = (x, c .fresh) ∷ m in
-        same-going w ls b₃ k rep c₃ (f (pairs xs (c .fresh + 1) m₂)) (f (pairs xs (c₂ .fresh) m₂)) (λ z. ap (λ (a : ℕ). f (pairs xs a m₂)) (sym (next (g .alive z))))
+        let m₂ : Renaming = (x, c .counters .fresh) ∷ m in
+        same-going w ls b₃ k rep c₃ (f (pairs xs (c .counters .fresh + 1) m₂)) (f (pairs xs (c₂ .counters .fresh) m₂)) (λ z. ap (λ (a : ℕ). f (pairs xs a m₂)) (sym (next (g .alive z))))
         ∙ g .outcome w k rep (D2 .kept) f m₂ xs (omega arith) ls
-        ∙ ap (performC w ls (openNames xs m₂ f)) (D2 .outcome ∙ ap (performC w ls (push (tvar (node 17 (c .fresh))) done)) (D1 .outcome))
+        ∙ ap (performC w ls (openNames xs m₂ f)) (D2 .outcome ∙ ap (performC w ls (push (tvar (node 17 (c .counters .fresh))) done)) (D1 .outcome))
         ∙ sym (fresh-is w ls b k rep c own (λ a. push (tvar (node 17 a)) (openNames xs ((x, a) ∷ m) f)))
 
     named-more : Named b c (suc n) b₃ c₃
@@ -116,7 +116,7 @@ module _ {b b₂ : List ℕ} {c c₁ c₂ : Run} (d : (c₁ ≡ freshRun c) × P
       run = g .run ∙ rw (p .0, d .0);
       words = g .words ∙ rw (p .1, p .0, d .0);
       stacked = g .stacked;
-      numbers = λ l. g .numbers (let z : c₁ .fresh ≤ mostNumbers = subst⁻¹ (λ (r : Run). r .fresh ≤ mostNumbers) (d .0) (fresh-numbers c l) in rw (then-follows .1) z);
+      numbers = λ l. g .numbers (let z : c₁ .counters .fresh ≤ mostNumbers = subst⁻¹ (λ (r : Run). r .counters .fresh ≤ mostNumbers) (d .0) (fresh-numbers c l) in rw (then-follows .1) z);
       taken = g .taken ∙ then-follows .0 .0 ∙ first-follows .0 .0;
       alive = λ z. first-follows .0 .1 (then-follows .0 .1 (g .alive z));
       made = λ z. let i = g .made z in let j = next (g .alive z) in omega arith;

@@ -63,7 +63,7 @@ module _ (o : List ℕ) (t : Ty) (n : ℕ) (o₁ : List ℕ) (q : ℕ) (e : o₁
         ∙ ap₂ (λ (xs : List ℕ) (u : Ty). rename (pairs xs a []) u) front-named front-left;
   }
 
-pub opens : {t : Ty} {n : ℕ} {o o₂ : List ℕ} {q : ℕ} {b b' : List ℕ} {c d : Run} → 2 * n ≤ length o → Copied t n (c .fresh) o o₂ q → Named b c q b' d
+pub opens : {t : Ty} {n : ℕ} {o o₂ : List ℕ} {q : ℕ} {b b' : List ℕ} {c d : Run} → 2 * n ≤ length o → Copied t n (c .counters .fresh) o o₂ q → Named b c q b' d
     → Opens b c t n o b' o₂ (record { run = d; at = 2 * q; nodes = n - q })
 opens {t} {n} {o} {o₂} {q} {b} {b'} {c} {d} room x g = record {
   at = ap (λ (k : ℕ). 2 * k) (x .names);

@@ -27,25 +27,25 @@ namedRun (suc n) c = namedRun n (pushRun (freshRun c) 0)
 
 unfoldable pub namedWords : ℕ → List ℕ → Run → List ℕ
 namedWords zero b c = b
-namedWords (suc n) b c = namedWords n (pushWords b (freshRun c) 17 (c .fresh) [] []) (pushRun (freshRun c) 0)
+namedWords (suc n) b c = namedWords n (pushWords b (freshRun c) 17 (c .counters .fresh) [] []) (pushRun (freshRun c) 0)
 
 -- Every word of the board after is fixed, those above its entries too. `outcome` takes any n names, and any rule that goes on with them and their unknowns.
 pub record Named (b : List ℕ) (c : Run) (n : ℕ) (b' : List ℕ) (r : Run) : Type 0 where
   pub run : r ≡ namedRun n c
   pub words : b' ≡ namedWords n b c
-  pub stacked : Stacked b' (r .board)
-  pub numbers : c .fresh ≤ mostNumbers → r .fresh ≤ mostNumbers
-  pub taken : r .taken ≡ c .taken
+  pub stacked : Stacked b' (r .counters .board)
+  pub numbers : c .counters .fresh ≤ mostNumbers → r .counters .fresh ≤ mostNumbers
+  pub taken : r .counters .taken ≡ c .counters .taken
   pub alive : going (r .halt) ≡ true → going (c .halt) ≡ true
-  pub made : going (r .halt) ≡ true → r .fresh ≡ c .fresh + n
+  pub made : going (r .halt) ≡ true → r .counters .fresh ≡ c .counters .fresh + n
   pub kept : (k : List ℕ) → WellFormed b k c → WellFormed b' k r
   pub outcome : (w : Way) (k rep : List ℕ) → WellFormed b k c → (f : Renaming → Rule) (m : Renaming) (xs : List ℕ) → length xs ≡ n → (ls : List Triple)
-      → performC w ls (f (pairs xs (c .fresh) m)) (cameTo ls b' k rep r) ≡ performC w ls (openNames xs m f) (cameTo ls b k rep c)
+      → performC w ls (f (pairs xs (c .counters .fresh) m)) (cameTo ls b' k rep r) ≡ performC w ls (openNames xs m f) (cameTo ls b k rep c)
 
 -- ---- a type, opened
 pub record OpenAsk (b : List ℕ) (c : Run) (ls : List Triple) (first n : ℕ) (o : List ℕ) : Type 0 where
-  pub board : Stacked b (c .board)
-  pub numbers : c .fresh ≤ mostNumbers
+  pub board : Stacked b (c .counters .board)
+  pub numbers : c .counters .fresh ≤ mostNumbers
   pub room : 2 * n ≤ length o
   pub few : n ≤ mostNodes
   pub lines : first + n ≤ length ls
@@ -71,8 +71,8 @@ pub record Opens (b : List ℕ) (c : Run) (t : Ty) (n : ℕ) (o b' o' : List ℕ
   pub at : r .at ≡ 2 * length (frontNames t)
   pub nodes : r .nodes ≡ n - length (frontNames t)
   pub within : r .at + 2 * r .nodes ≤ length o'
-  pub out : o' ≡ openedOut t (c .fresh) o
-  pub type : nodesAt o' (r .at) (r .nodes) ≡ rename (pairs (frontNames t) (c .fresh) []) (afterFront t)
+  pub out : o' ≡ openedOut t (c .counters .fresh) o
+  pub type : nodesAt o' (r .at) (r .nodes) ≡ rename (pairs (frontNames t) (c .counters .fresh) []) (afterFront t)
   pub named : Named b c (length (frontNames t)) b' (r .run)
   pub outcome : (w : Way) (k rep : List ℕ) → WellFormed b k c → (f : Ty → Rule) (ls : List Triple)
       → performC w ls (f (nodesAt o' (r .at) (r .nodes))) (cameTo ls b' k rep (r .run)) ≡ performC w ls (instantiateConstructor t f) (cameTo ls b k rep c)

@@ -23,13 +23,13 @@ use sheet::copy_type;
 
 // Makes n unknowns, each with its TVar pushed.
 fn open_names(board: &mut [u32], c: Run, n: usize) -> Run
-    requires { ⌜ Stacked (now board) (c .board) ⌝ }
+    requires { ⌜ Stacked (now board) (c .counters .board) ⌝ }
     ensures { λ r. ⌜ Named (now (board .entry)) c n (now (board .exit)) r ⌝ }
 {
     let mut run = c;
     let mut left = n;
     while 0 < left {
-        let a = run.fresh;
+        let a = run.counters.fresh;
         let made = fresh_evar(run);
         run = push_tvar(board, made, 17, a);
         left -= 1;
@@ -68,7 +68,7 @@ pub fn instantiate_constructor_type(
     requires { ⌜ OpenAsk (now board) c (rows (now s)) first n (now out) ⌝ }
     ensures { λ o. ⌜ Opens (now (board .entry)) c (nodesOf (take n (drop first (rows (now (s .entry)))))) n (now (out .entry)) (now (board .exit)) (now (out .exit)) o ⌝ }
 {
-    let q = copy_opened(out, s, first, n, c.fresh);
+    let q = copy_opened(out, s, first, n, c.counters.fresh);
     let run = open_names(board, c, q);
     Opened {
         run,
@@ -90,7 +90,7 @@ pub fn infer_constructor(
     tn: usize,
 ) -> Run
     requires { ⌜ OpenAsk (now board) c (rows (now s)) first n (now out) × (ta + 2 * tn ≤ length (now t)) × Bookable (now board) c ⌝ }
-    ensures { λ r. ⌜ ((E : Env) (x : ℕ) → PerformsOnBoard (now (board .entry)) c (λ ls. constructor E x (nodesAt (now (t .entry)) ta tn) (some (nodesOf (take n (drop first (rows (now (s .entry)))))))) (now (board .exit)) r) × (now (out .exit) ≡ openedOut (nodesOf (take n (drop first (rows (now (s .entry)))))) (c .fresh) (now (out .entry))) ⌝ }
+    ensures { λ r. ⌜ ((E : Env) (x : ℕ) → PerformsOnBoard (now (board .entry)) c (λ ls. constructor E x (nodesAt (now (t .entry)) ta tn) (some (nodesOf (take n (drop first (rows (now (s .entry)))))))) (now (board .exit)) r) × (now (out .exit) ≡ openedOut (nodesOf (take n (drop first (rows (now (s .entry)))))) (c .counters .fresh) (now (out .entry))) ⌝ }
 {
     let o = instantiate_constructor_type(board, c, s, first, n, out);
     let run = o.run;

@@ -13,7 +13,7 @@ use Rattle.operations.specs.State.{reported, errorOf, going}
 
 -- not refused, an entry remains, and the ceiling is not reached
 abbrev pub takesMore : Run → ℕ → Bool
-takesMore c C = going (c .halt) && (ltb 0 (c .board .entries) && ltb (c .taken) C)
+takesMore c C = going (c .halt) && (ltb 0 (c .counters .board .entries) && ltb (c .counters .taken) C)
 
 -- the end, by how many entries remain and by the refusal
 abbrev pub endAt : ℕ → End
@@ -24,7 +24,7 @@ abbrev pub endBy : Halt → ℕ → List ℕ → End
 endBy h n rep = cond (going h) (endAt n) (refusedBy (errorOf h) (nodesAt rep 0 (reported (errorOf h))))
 
 abbrev pub endOf : List ℕ → Run → End
-endOf rep c = endBy (c .halt) (c .board .entries) rep
+endOf rep c = endBy (c .halt) (c .counters .board .entries) rep
 
 -- the word after an end's types in a report of so many words; a type that does not fit is cut off
 unfoldable pub reportEnd : ℕ → Halt → ℕ

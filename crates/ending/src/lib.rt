@@ -23,9 +23,9 @@ pub fn takes_more(c: Run, ceiling: u32) -> bool
 {
     let halt = c.halt;
     if is_going(halt) {
-        let b = c.board;
-        if 0 < b.entries {
-            return c.taken < ceiling;
+        let n = c.counters;
+        if 0 < n.board.entries {
+            return n.taken < ceiling;
         }
     }
     false
@@ -95,18 +95,18 @@ fn plain_number(plain: bool) -> u32
 
 // The seven numbers of a run where no more is taken.
 pub fn answer(c: Run, plain: bool) -> Answer
-    ensures { λ r. ⌜ ((rep : List ℕ) → r ≡ answerBy plain (endOf rep c) (c .taken) (c .fresh)) ⌝ }
+    ensures { λ r. ⌜ ((rep : List ℕ) → r ≡ answerBy plain (endOf rep c) (c .counters .taken) (c .counters .fresh)) ⌝ }
 {
     let halt = c.halt;
-    let b = c.board;
-    let end = end_number(halt, b.entries);
+    let n = c.counters;
+    let end = end_number(halt, n.board.entries);
     let details = end_details(halt);
     let mark = plain_number(plain);
     Answer {
         number: end,
         line: 0,
-        taken: c.taken,
-        fresh: c.fresh,
+        taken: n.taken,
+        fresh: n.fresh,
         detail1: details.0,
         detail2: details.1,
         plain: mark,

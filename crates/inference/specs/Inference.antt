@@ -28,4 +28,4 @@ pub record LinesAsk (s : List ℕ) (at n : ℕ) : Type 0 where
 
 -- an unknown that was made and is not solved
 abbrev pub Open : List ℕ → Run → ℕ → Type 0
-Open k c x = (x < c .fresh) × Free (solvedUnknowns (sols k)) (node 17 x)
+Open k c x = (x < c .counters .fresh) × Free (solvedUnknowns (sols k)) (node 17 x)

@@ -37,19 +37,19 @@ use operations::refuse;
 use operations::solve_evar;
 use sheet::copy_type;
 
-// A fresh unknown, c.fresh, and its TVar.
+// A fresh unknown, c.counters.fresh, and its TVar.
 fn fresh_unknown(board: &mut [u32], c: Run) -> Run
-    requires { ⌜ Stacked (now board) (c .board) ⌝ }
-    ensures { λ r. ⌜ Stacked (now (board .exit)) (r .board) × PerformsOnBoard (now (board .entry)) c (λ ls. freshUnknown (λ a. done)) (now (board .exit)) r ⌝ }
+    requires { ⌜ Stacked (now board) (c .counters .board) ⌝ }
+    ensures { λ r. ⌜ Stacked (now (board .exit)) (r .counters .board) × PerformsOnBoard (now (board .entry)) c (λ ls. freshUnknown (λ a. done)) (now (board .exit)) r ⌝ }
 {
-    let a = c.fresh;
+    let a = c.counters.fresh;
     let c1 = fresh_evar(c);
     push_tvar(board, c1, 17, a)
 }
 
 // LitInt.
 pub fn infer_lit_int(board: &mut [u32], c: Run, t: &[u32], tn: usize) -> Run
-    requires { ⌜ Stacked (now board) (c .board) × (2 * tn ≤ length (now t)) × Bookable (now board) c ⌝ }
+    requires { ⌜ Stacked (now board) (c .counters .board) × (2 * tn ≤ length (now t)) × Bookable (now board) c ⌝ }
     ensures { λ r. ⌜ ((E : Env) → PerformsOnBoard (now (board .entry)) c (λ ls. inferBy E (nodesAt (now (t .entry)) 0 tn) isLitInt) (now (board .exit)) r) ⌝ }
 {
     let int = [12u32, 1];
@@ -58,10 +58,10 @@ pub fn infer_lit_int(board: &mut [u32], c: Run, t: &[u32], tn: usize) -> Run
 
 // Sub: the term's type is a fresh unknown, which is compared with the taken type.
 pub fn synthesize(board: &mut [u32], c: Run, line: u32, t: &[u32], tn: usize) -> Run
-    requires { ⌜ Stacked (now board) (c .board) × (2 * tn ≤ length (now t)) × Bookable (now board) c ⌝ }
+    requires { ⌜ Stacked (now board) (c .counters .board) × (2 * tn ≤ length (now t)) × Bookable (now board) c ⌝ }
     ensures { λ r. ⌜ ((E : Env) → PerformsOnBoard (now (board .entry)) c (λ ls. synthesizeRule E (termAt ls line) (nodesAt (now (t .entry)) 0 tn)) (now (board .exit)) r) ⌝ }
 {
-    let a = c.fresh;
+    let a = c.counters.fresh;
     let c1 = fresh_unknown(board, c);
     let u = [17u32, a];
     let c2 = push_sub(board, c1, &u, 0, 1, t, 0, tn);
@@ -70,10 +70,10 @@ pub fn synthesize(board: &mut [u32], c: Run, line: u32, t: &[u32], tn: usize) ->
 
 // App: the function's type is a fresh unknown.
 pub fn infer_apply(board: &mut [u32], c: Run, f: u32, e: u32, t: &[u32], tn: usize) -> Run
-    requires { ⌜ Stacked (now board) (c .board) × (2 * tn ≤ length (now t)) × Bookable (now board) c ⌝ }
+    requires { ⌜ Stacked (now board) (c .counters .board) × (2 * tn ≤ length (now t)) × Bookable (now board) c ⌝ }
     ensures { λ r. ⌜ ((E : Env) → PerformsOnBoard (now (board .entry)) c (λ ls. inferBy E (nodesAt (now (t .entry)) 0 tn) (isApply (termAt ls f) (termAt ls e))) (now (board .exit)) r) ⌝ }
 {
-    let a = c.fresh;
+    let a = c.counters.fresh;
     let c1 = fresh_unknown(board, c);
     let u = [17u32, a];
     let c2 = push_inf_app(board, c1, e, &u, 0, 1, t, 0, tn);
@@ -82,7 +82,7 @@ pub fn infer_apply(board: &mut [u32], c: Run, f: u32, e: u32, t: &[u32], tn: usi
 
 // If.
 pub fn infer_if(board: &mut [u32], c: Run, e1: u32, e2: u32, e3: u32, t: &[u32], tn: usize) -> Run
-    requires { ⌜ Stacked (now board) (c .board) × (2 * tn ≤ length (now t)) × Bookable (now board) c ⌝ }
+    requires { ⌜ Stacked (now board) (c .counters .board) × (2 * tn ≤ length (now t)) × Bookable (now board) c ⌝ }
     ensures { λ r. ⌜ ((E : Env) → PerformsOnBoard (now (board .entry)) c (λ ls. inferBy E (nodesAt (now (t .entry)) 0 tn) (isIf (termAt ls e1) (termAt ls e2) (termAt ls e3))) (now (board .exit)) r) ⌝ }
 {
     let truth = [12u32, 2];
@@ -108,7 +108,7 @@ pub fn infer_bin_op(
     t: &[u32],
     tn: usize,
 ) -> Run
-    requires { ⌜ Stacked (now board) (c .board) × (2 * tn ≤ length (now t)) × Bookable (now board) c ⌝ }
+    requires { ⌜ Stacked (now board) (c .counters .board) × (2 * tn ≤ length (now t)) × Bookable (now board) c ⌝ }
     ensures { λ r. ⌜ ((E : Env) → PerformsOnBoard (now (board .entry)) c (λ ls. inferBy E (nodesAt (now (t .entry)) 0 tn) (isBinOp op (termAt ls e1) (termAt ls e2))) (now (board .exit)) r) ⌝ }
 {
     let result = result_name(op);
@@ -120,10 +120,10 @@ pub fn infer_bin_op(
 
 // TypeLambda: its type is a Forall of a fresh unknown.
 pub fn infer_type_lambda(board: &mut [u32], c: Run, name: u32, e: u32, t: &[u32], tn: usize) -> Run
-    requires { ⌜ Stacked (now board) (c .board) × (2 * tn ≤ length (now t)) × Bookable (now board) c ⌝ }
+    requires { ⌜ Stacked (now board) (c .counters .board) × (2 * tn ≤ length (now t)) × Bookable (now board) c ⌝ }
     ensures { λ r. ⌜ ((E : Env) → PerformsOnBoard (now (board .entry)) c (λ ls. inferBy E (nodesAt (now (t .entry)) 0 tn) (isTypeLambda name (termAt ls e))) (now (board .exit)) r) ⌝ }
 {
-    let b = c.fresh;
+    let b = c.counters.fresh;
     let c1 = fresh_unknown(board, c);
     let types = [14u32, name, 17, b];
     let c2 = push_sub(board, c1, &types, 0, 2, t, 0, tn);
@@ -141,7 +141,7 @@ pub fn infer_intrinsic(
     t: &[u32],
     tn: usize,
 ) -> Run
-    requires { ⌜ Stacked (now board) (c .board) × (2 * tn ≤ length (now t)) × Bookable (now board) c ⌝ }
+    requires { ⌜ Stacked (now board) (c .counters .board) × (2 * tn ≤ length (now t)) × Bookable (now board) c ⌝ }
     ensures { λ r. ⌜ ((E : Env) → PerformsOnBoard (now (board .entry)) c (λ ls. inferBy E (nodesAt (now (t .entry)) 0 tn) (isIntrinsic name count (termAt ls e))) (now (board .exit)) r) ⌝ }
 {
     if name != 4 {
@@ -181,10 +181,10 @@ pub fn infer_lambda(
     t: &[u32],
     tn: usize,
 ) -> Run
-    requires { ⌜ Stacked (now board) (c .board) × (2 * tn ≤ length (now t)) × (2 * n + 4 ≤ length (now out)) × LinesAsk (now s) first n × Bookable (now board) c ⌝ }
-    ensures { λ r. ⌜ (now (out .exit) ≡ sets (now (out .entry)) 0 (words (arrow (typeOn (now (s .entry)) first n) (unknown (c .fresh))))) × ((w : Way) (E : Env) (k rep : List ℕ) → WellFormed (now (board .entry)) k c → Does w (rows (now (s .entry))) (now (board .entry)) k rep c (inferBy E (nodesAt (now (t .entry)) 0 tn) (isLambda name (typeOn (now (s .entry)) first n) (termAt (rows (now (s .entry))) body))) (now (board .exit)) k rep r) ⌝ }
+    requires { ⌜ Stacked (now board) (c .counters .board) × (2 * tn ≤ length (now t)) × (2 * n + 4 ≤ length (now out)) × LinesAsk (now s) first n × Bookable (now board) c ⌝ }
+    ensures { λ r. ⌜ (now (out .exit) ≡ sets (now (out .entry)) 0 (words (arrow (typeOn (now (s .entry)) first n) (unknown (c .counters .fresh))))) × ((w : Way) (E : Env) (k rep : List ℕ) → WellFormed (now (board .entry)) k c → Does w (rows (now (s .entry))) (now (board .entry)) k rep c (inferBy E (nodesAt (now (t .entry)) 0 tn) (isLambda name (typeOn (now (s .entry)) first n) (termAt (rows (now (s .entry))) body))) (now (board .exit)) k rep r) ⌝ }
 {
-    let b = c.fresh;
+    let b = c.counters.fresh;
     let nodes = n + 2;
     let end = 2 + 2 * n;
     let c1 = fresh_unknown(board, c);
@@ -209,7 +209,7 @@ pub fn check_lambda(
     an: usize,
     bn: usize,
 ) -> Run
-    requires { ⌜ Stacked (now board) (c .board) × (a + 2 * an + 2 * bn ≤ length (now t)) × (2 * n ≤ length (now out)) × LinesAsk (now s) first n × Bookable (now board) c ⌝ }
+    requires { ⌜ Stacked (now board) (c .counters .board) × (a + 2 * an + 2 * bn ≤ length (now t)) × (2 * n ≤ length (now out)) × LinesAsk (now s) first n × Bookable (now board) c ⌝ }
     ensures { λ r. ⌜ (now (out .exit) ≡ sets (now (out .entry)) 0 (words (typeOn (now (s .entry)) first n))) × ((w : Way) (E : Env) (e : Term) (T : Ty) (k rep : List ℕ) → WellFormed (now (board .entry)) k c → Does w (rows (now (s .entry))) (now (board .entry)) k rep c (checkArrow E e T (nodesAt (now (t .entry)) a an) (nodesAt (now (t .entry)) (a + 2 * an) bn) (some (lambdaOn (now (s .entry)) name first n body))) (now (board .exit)) k rep r) ⌝ }
 {
     let b = a + 2 * an;
@@ -231,9 +231,9 @@ pub fn check_forall(
     n: usize,
 ) -> Run
     requires { ⌜ WellFormed (now board) (now book) c × (at + 2 * n ≤ length (now t)) × (n ≤ mostNodes) ⌝ }
-    ensures { λ r. ⌜ (now (t .exit) ≡ sets (now (t .entry)) at (words (substitute name (node 18 (c .fresh)) (nodesAt (now (t .entry)) at n)))) × ((w : Way) (ls : List Triple) (E : Env) (T : Ty) (rep : List ℕ) → Does w ls (now (board .entry)) (now (book .entry)) rep c (checkBy E (termAt ls line) T (isForall name (nodesAt (now (t .entry)) at n))) (now (board .exit)) (now (book .exit)) rep r) ⌝ }
+    ensures { λ r. ⌜ (now (t .exit) ≡ sets (now (t .entry)) at (words (substitute name (node 18 (c .counters .fresh)) (nodesAt (now (t .entry)) at n)))) × ((w : Way) (ls : List Triple) (E : Env) (T : Ty) (rep : List ℕ) → Does w ls (now (board .entry)) (now (book .entry)) rep c (checkBy E (termAt ls line) T (isForall name (nodesAt (now (t .entry)) at n))) (now (board .exit)) (now (book .exit)) rep r) ⌝ }
 {
-    let u = c.fresh;
+    let u = c.counters.fresh;
     let c1 = fresh_universal(book, c);
     let c2 = push_tvar(board, c1, 18, u);
     substitute_type(t, at, n, name, 18, u);
@@ -252,7 +252,7 @@ pub fn apply_arrow(
     ct: usize,
     cn: usize,
 ) -> Run
-    requires { ⌜ Stacked (now board) (c .board) × (a + 2 * an + 2 * bn ≤ length (now t)) × (ct + 2 * cn ≤ length (now t)) × Bookable (now board) c ⌝ }
+    requires { ⌜ Stacked (now board) (c .counters .board) × (a + 2 * an + 2 * bn ≤ length (now t)) × (ct + 2 * cn ≤ length (now t)) × Bookable (now board) c ⌝ }
     ensures { λ r. ⌜ ((E : Env) (F : Ty) → PerformsOnBoard (now (board .entry)) c (λ ls. applyBy E F (termAt ls line) (nodesAt (now (t .entry)) ct cn) (isArrow (nodesAt (now (t .entry)) a an) (nodesAt (now (t .entry)) (a + 2 * an) bn))) (now (board .exit)) r) ⌝ }
 {
     let b = a + 2 * an;
@@ -272,10 +272,10 @@ pub fn apply_forall(
     ct: usize,
     cn: usize,
 ) -> Run
-    requires { ⌜ Stacked (now board) (c .board) × (at + 2 * n ≤ length (now t)) × (n ≤ mostNodes) × (ct + 2 * cn ≤ length (now t)) × ((ct + 2 * cn ≤ at) ⊎ (at + 2 * n ≤ ct)) × Bookable (now board) c ⌝ }
-    ensures { λ r. ⌜ (now (t .exit) ≡ sets (now (t .entry)) at (words (substitute name (node 17 (c .fresh)) (nodesAt (now (t .entry)) at n)))) × ((E : Env) (F : Ty) → PerformsOnBoard (now (board .entry)) c (λ ls. applyBy E F (termAt ls line) (nodesAt (now (t .entry)) ct cn) (isForall name (nodesAt (now (t .entry)) at n))) (now (board .exit)) r) ⌝ }
+    requires { ⌜ Stacked (now board) (c .counters .board) × (at + 2 * n ≤ length (now t)) × (n ≤ mostNodes) × (ct + 2 * cn ≤ length (now t)) × ((ct + 2 * cn ≤ at) ⊎ (at + 2 * n ≤ ct)) × Bookable (now board) c ⌝ }
+    ensures { λ r. ⌜ (now (t .exit) ≡ sets (now (t .entry)) at (words (substitute name (node 17 (c .counters .fresh)) (nodesAt (now (t .entry)) at n)))) × ((E : Env) (F : Ty) → PerformsOnBoard (now (board .entry)) c (λ ls. applyBy E F (termAt ls line) (nodesAt (now (t .entry)) ct cn) (isForall name (nodesAt (now (t .entry)) at n))) (now (board .exit)) r) ⌝ }
 {
-    let a = c.fresh;
+    let a = c.counters.fresh;
     let c1 = fresh_unknown(board, c);
     substitute_type(t, at, n, name, 17, a);
     push_inf_app(board, c1, line, t, at, n, t, ct, cn)
@@ -295,9 +295,9 @@ pub fn apply_unknown(
     requires { ⌜ WellFormed (now board) (now book) c × Open (now book) c x × (ct + 2 * cn ≤ length (now t)) ⌝ }
     ensures { λ r. ⌜ ((w : Way) (ls : List Triple) (E : Env) (F : Ty) (rep : List ℕ) → Scoped w → Does w ls (now (board .entry)) (now (book .entry)) rep c (applyBy E F (termAt ls line) (nodesAt (now (t .entry)) ct cn) (isUnknown x)) (now (board .exit)) (now (book .exit)) rep r) ⌝ }
 {
-    let a = c.fresh;
+    let a = c.counters.fresh;
     let c1 = fresh_part(book, c, x);
-    let b = c1.fresh;
+    let b = c1.counters.fresh;
     let c2 = fresh_part(book, c1, x);
     let c3 = push_tvar(board, c2, 17, a);
     let c4 = push_tvar(board, c3, 17, b);

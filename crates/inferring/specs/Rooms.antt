@@ -37,15 +37,15 @@ withLeft x l = scratch l (x .right) (x .frames) (x .bindings)
 
 -- a Var x: its type is copied, where it has one
 abbrev pub variableOut : List ℕ → Run → List ℕ → ℕ → List ℕ → List ℕ
-variableOut b c s x l = foundOut l (orElse (entryIn 2 x s) (orElse (findVar x (entriesOf (rows s) b (c .board .entries))) (entryIn 1 x s)))
+variableOut b c s x l = foundOut l (orElse (entryIn 2 x s) (orElse (findVar x (entriesOf (rows s) b (c .counters .board .entries))) (entryIn 1 x s)))
 
 -- a Lambda: the arrow from its type, whose lines end where its body starts, to a fresh unknown
 abbrev pub lambdaOut : Run → List ℕ → ℕ → List ℕ → List ℕ
-lambdaOut c s at l = sets l 0 (words (arrow (typeOn s (at + 1) (partLine (rows s) (at + 1) 1 - (at + 1))) (unknown (c .fresh))))
+lambdaOut c s at l = sets l 0 (words (arrow (typeOn s (at + 1) (partLine (rows s) (at + 1) 1 - (at + 1))) (unknown (c .counters .fresh))))
 
 -- a Constructor: its type opened, where the sheet has one
 abbrev pub constructorOut : Run → List Triple → List ℕ → Found → List ℕ
-constructorOut c ls l (At line n) = openedOut (nodesOf (take n (drop line ls))) (c .fresh) l
+constructorOut c ls l (At line n) = openedOut (nodesOf (take n (drop line ls))) (c .counters .fresh) l
 constructorOut c ls l Nothing = l
 
 -- a Case of n arms, the first at `line`; the taken type is t

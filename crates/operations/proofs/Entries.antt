@@ -16,17 +16,17 @@ use Rattle.operations.specs.State.{WellFormed, Does, Pushes, PushAsk}
 module _ {b : List ℕ} {c : Run} (kind number : ℕ) where
   -- an entry of two types
   pub two-types : {l : List ℕ} {la ln : ℕ} {r : List ℕ} {ra rn : ℕ} → ((ls : List Triple) (t u : Ty) → slotOf (entryOf ls kind number t u) ≡ record { kind = kind; number = number; left = t; right = u })
-      → Stacked b (c .board) → la + 2 * ln ≤ length l → ra + 2 * rn ≤ length r → PushAsk b c kind number l la ln r ra rn
+      → Stacked b (c .counters .board) → la + 2 * ln ≤ length l → ra + 2 * rn ≤ length r → PushAsk b c kind number l la ln r ra rn
   two-types {l} {la} {ln} {r} {ra} {rn} h s x y = record { board = s; left = x; right = y; entry = λ ls. h ls (nodesAt l la ln) (nodesAt r ra rn) }
 
   -- an entry of one type
   pub one-type : {l : List ℕ} {la ln : ℕ} → ((ls : List Triple) (t u : Ty) → slotOf (entryOf ls kind number t u) ≡ record { kind = kind; number = number; left = t; right = [] })
-      → Stacked b (c .board) → la + 2 * ln ≤ length l → PushAsk b c kind number l la ln l 0 0
+      → Stacked b (c .counters .board) → la + 2 * ln ≤ length l → PushAsk b c kind number l la ln l 0 0
   unfolding nodesAt
   one-type {l} {la} {ln} h s x = record { board = s; left = x; right = omega arith; entry = λ ls. h ls (nodesAt l la ln) [] }
 
   -- a TVar
-  pub no-type : {l : List ℕ} → 6 < kind → Stacked b (c .board) → PushAsk b c kind number l 0 0 l 0 0
+  pub no-type : {l : List ℕ} → 6 < kind → Stacked b (c .counters .board) → PushAsk b c kind number l 0 0 l 0 0
   unfolding nodesAt
   no-type {l} h s = record { board = s; left = omega arith; right = omega arith; entry = λ ls. ap slotOf (tvar-is ls kind number [] [] h) }
 

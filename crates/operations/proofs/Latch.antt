@@ -79,13 +79,13 @@ pub words-stay : (w : Way) (ls : List Triple) (p : Rule) (x : Words) → going (
 unfolding refuseW freshW pushW solveW zonkW
 words-stay w ls done x g = refl
 words-stay w ls (refuse e ts) x g = rw g
-words-stay w ls (fresh own f) x g = rw g (words-stay w ls (f (x .run .fresh)) x g)
-words-stay w ls (fresh universal f) x g = rw g (words-stay w ls (f (x .run .fresh)) x g)
-words-stay w ls (fresh (splits j) f) x g = rw g (words-stay w ls (f (x .run .fresh)) x g)
+words-stay w ls (fresh own f) x g = rw g (words-stay w ls (f (x .run .counters .fresh)) x g)
+words-stay w ls (fresh universal f) x g = rw g (words-stay w ls (f (x .run .counters .fresh)) x g)
+words-stay w ls (fresh (splits j) f) x g = rw g (words-stay w ls (f (x .run .counters .fresh)) x g)
 words-stay w ls (push e p) x g = rw g (words-stay w ls p x g)
 words-stay w ls (solve k t p) x g = cond-ind (λ (y : Words). performW w ls p y ≡ x) (w .scope k t) (λ _. rw g (words-stay w ls p x g)) (λ _. rw g (words-stay w ls p x g))
 words-stay w ls (zonk t f) x g = rw g (words-stay w ls (f (writeOut (sols (x .book)) t)) x g)
-words-stay w ls (look f) x g = words-stay w ls (f (entriesOf ls (x .board) (x .run .board .entries))) x g
+words-stay w ls (look f) x g = words-stay w ls (f (entriesOf ls (x .board) (x .run .counters .board .entries))) x g
 
 pub refused-stays : (L : Limits) (h : Halt) → going h ≡ false → (rep : List ℕ) (s : State) (p : Rule) → outcomeBy h rep s ≡ performO L p (outcomeBy h rep s)
 refused-stays L h e rep s p = rw e (sym (stays L p (errorOf h) (nodesAt rep 0 (reported (errorOf h))) s))
@@ -138,52 +138,52 @@ module _ {b k : List ℕ} {c : Run} (f : WellFormed b k c) (w : Way) (ls : List 
   refuse-does g e = stops-does g e (refuse e (nodesAt rep 0 (reported e))) refl (rw g) refl
 
   -- ---- a fresh number
-  no-word : (o : Origin) → going (c .halt) ≡ true → ltb (c .fresh) mostNumbers ≡ false → freshWords o k c ≡ k
+  no-word : (o : Origin) → going (c .halt) ≡ true → ltb (c .counters .fresh) mostNumbers ≡ false → freshWords o k c ≡ k
   no-word own g e = refl
   no-word universal g e = rw (g, e)
   no-word (splits x) g e = rw (g, e)
 
-  no-level : (o : Origin) → ltb (c .fresh) mostNumbers ≡ false → levelsOf k ≡ freshL (limitsIn w) o (finished (stateOf ls b k c)) (levelsOf k)
+  no-level : (o : Origin) → ltb (c .counters .fresh) mostNumbers ≡ false → levelsOf k ≡ freshL (limitsIn w) o (finished (stateOf ls b k c)) (levelsOf k)
   unfolding freshL
   no-level own e = refl
   no-level universal e = rw e
   no-level (splits x) e = rw e
 
-  fresh-stops : (o : Origin) → going (c .halt) ≡ true → ltb (c .fresh) mostNumbers ≡ false → Does w ls b k rep c (fresh o (λ n. done)) b k rep (stopped c NoFreshNumber)
+  fresh-stops : (o : Origin) → going (c .halt) ≡ true → ltb (c .counters .fresh) mostNumbers ≡ false → Does w ls b k rep c (fresh o (λ n. done)) b k rep (stopped c NoFreshNumber)
   unfolding freshO freshW nodesAt
   fresh-stops o g e = stops-does g NoFreshNumber (fresh o (λ n. done)) (rw e) (rw (no-word o g e, g, e)) (no-level o e)
 
   -- a number that is made, k' being the book with its level
-  fresh-by : (o : Origin) (k' : List ℕ) → going (c .halt) ≡ true → ltb (c .fresh) mostNumbers ≡ true → freshWords o k c ≡ k' → Booked k' (c .book) → sols k' ≡ sols k
-      → ((j : ℕ) → c .fresh < j → j < mostNumbers → (startOf k' j < bookBase) × (levelWordOf k' j ≡ 0)) → levelsOf k' ≡ freshL (limitsIn w) o (finished (stateOf ls b k c)) (levelsOf k)
+  fresh-by : (o : Origin) (k' : List ℕ) → going (c .halt) ≡ true → ltb (c .counters .fresh) mostNumbers ≡ true → freshWords o k c ≡ k' → Booked k' (c .book) → sols k' ≡ sols k
+      → ((j : ℕ) → c .counters .fresh < j → j < mostNumbers → (startOf k' j < bookBase) × (levelWordOf k' j ≡ 0)) → levelsOf k' ≡ freshL (limitsIn w) o (finished (stateOf ls b k c)) (levelsOf k)
       → Does w ls b k rep c (fresh o (λ n. done)) b k' rep (made c)
   unfolding freshO freshW
   fresh-by o k' g e q booked same unmade v = record {
     kept = record {
       board = f .board;
       book = booked;
-      numbers = let l = ltb-true (c .fresh) mostNumbers e in omega arith;
+      numbers = let l = ltb-true (c .counters .fresh) mostNumbers e in omega arith;
       unmade = λ j h. unmade j (omega arith);
     };
     taken = refl;
-    outcome = came (rw (g, e, same, add-one (c .fresh))) (rw (q, g, e)) (v ∙ rw g refl);
+    outcome = came (rw (g, e, same, add-one (c .counters .fresh))) (rw (q, g, e)) (v ∙ rw g refl);
   }
 
   -- of the level m
-  fresh-level : (o : Origin) (m : ℕ) → m < mostNumbers → freshWords o k c ≡ makes k c m → put (c .fresh) m (levelsOf k) ≡ freshL (limitsIn w) o (finished (stateOf ls b k c)) (levelsOf k) → going (c .halt) ≡ true → ltb (c .fresh) mostNumbers ≡ true
-      → Does w ls b k rep c (fresh o (λ n. done)) b (levelled k (c .fresh) m) rep (made c)
+  fresh-level : (o : Origin) (m : ℕ) → m < mostNumbers → freshWords o k c ≡ makes k c m → put (c .counters .fresh) m (levelsOf k) ≡ freshL (limitsIn w) o (finished (stateOf ls b k c)) (levelsOf k) → going (c .halt) ≡ true → ltb (c .counters .fresh) mostNumbers ≡ true
+      → Does w ls b k rep c (fresh o (λ n. done)) b (levelled k (c .counters .fresh) m) rep (made c)
   fresh-level o m h q v g e =
-      let l = ltb-true (c .fresh) mostNumbers e in
-      fresh-by o (levelled k (c .fresh) m) g e (q ∙ rw (g, e)) (level-booked k (c .fresh) m l (f .book) h) (level-sols k (c .fresh) m l)
+      let l = ltb-true (c .counters .fresh) mostNumbers e in
+      fresh-by o (levelled k (c .counters .fresh) m) g e (q ∙ rw (g, e)) (level-booked k (c .counters .fresh) m l (f .book) h) (level-sols k (c .counters .fresh) m l)
       (λ j i n.
       let u = f .unmade j (omega arith) n in
-      let z : j ≢ c .fresh = λ x. omega arith in
-      (rw (level-start k (c .fresh) m j) (u .0), level-other k (c .fresh) m j z ∙ u .1))
-      (levels-put k (c .fresh) m (f .book .room) l ∙ v)
+      let z : j ≢ c .counters .fresh = λ x. omega arith in
+      (rw (level-start k (c .counters .fresh) m j) (u .0), level-other k (c .counters .fresh) m j z ∙ u .1))
+      (levels-put k (c .counters .fresh) m (f .book .room) l ∙ v)
 
   pub fresh-does : (o : Origin) → Earlier mostNumbers o → Does w ls b k rep c (fresh o (λ n. done)) b (freshWords o k c) rep (freshRun c)
   unfolding freshL
-  fresh-does o x = by (going (c .halt)) refl (ltb (c .fresh) mostNumbers) refl
+  fresh-does o x = by (going (c .halt)) refl (ltb (c .counters .fresh) mostNumbers) refl
     where
       same : (k' : List ℕ) (r : Run) → freshWords o k c ≡ k' → freshRun c ≡ r → Does w ls b k rep c (fresh o (λ n. done)) b k' rep r
           → Does w ls b k rep c (fresh o (λ n. done)) b (freshWords o k c) rep (freshRun c)
@@ -194,12 +194,12 @@ module _ {b k : List ℕ} {c : Run} (f : WellFormed b k c) (w : Way) (ls : List 
       stays universal g = rw g
       stays (splits x) g = rw g
 
-      makes-level : (o : Origin) → Earlier mostNumbers o → going (c .halt) ≡ true → ltb (c .fresh) mostNumbers ≡ true → Does w ls b k rep c (fresh o (λ n. done)) b (freshWords o k c) rep (made c)
+      makes-level : (o : Origin) → Earlier mostNumbers o → going (c .halt) ≡ true → ltb (c .counters .fresh) mostNumbers ≡ true → Does w ls b k rep c (fresh o (λ n. done)) b (freshWords o k c) rep (made c)
       makes-level own x g e = fresh-by own k g e refl (f .book) refl (λ j i n. f .unmade j (omega arith) n) refl
       makes-level universal x g e = let d = fresh-level universal 0 (omega arith) refl (rw e) g e in rw (g, e) d
       makes-level (splits y) x g e = let d = fresh-level (splits y) (levelOf k y) (level-below k y (f .book) x) refl (rw e) g e in rw (g, e) d
 
-      by : (y : Bool) → going (c .halt) ≡ y → (z : Bool) → ltb (c .fresh) mostNumbers ≡ z → Does w ls b k rep c (fresh o (λ n. done)) b (freshWords o k c) rep (freshRun c)
+      by : (y : Bool) → going (c .halt) ≡ y → (z : Bool) → ltb (c .counters .fresh) mostNumbers ≡ z → Does w ls b k rep c (fresh o (λ n. done)) b (freshWords o k c) rep (freshRun c)
       by true g true e = same (freshWords o k c) (made c) refl (rw (g, e)) (makes-level o x g e)
       by true g false e = same k (stopped c NoFreshNumber) (no-word o g e) (rw (g, e)) (fresh-stops o g e)
       by false g z e = same k c (stays o g) (rw g) (stays-does g (fresh o (λ n. done)))
@@ -215,15 +215,15 @@ module _ {b k : List ℕ} {c : Run} (f : WellFormed b k c) (w : Way) (ls : List 
     counts : (ls : List Triple) → entryNodes (entry ls) ≡ n
     counts ls = slot-nodes (entry ls) ∙ ap (λ (s : Slot). length (s .left) + length (s .right)) (slots ls)
 
-    pub push-stops : fitsBoard (c .board) n ≡ false → Does w ls b k rep c (push (entry ls) done) b k rep (stopped c BoardFull)
+    pub push-stops : fitsBoard (c .counters .board) n ≡ false → Does w ls b k rep c (push (entry ls) done) b k rep (stopped c BoardFull)
     unfolding pushO pushW nodesAt
     push-stops e = stops-does g BoardFull (push (entry ls) done) (rw (fits-room ls (f .board) (limitsIn w) refl refl (entry ls) n (counts ls), e)) (rw (slots ls, g, e)) refl
 
-    pub push-does : fitsBoard (c .board) n ≡ true → Does w ls b k rep c (push (entry ls) done) (laid b (c .board) kind number t u) k rep (withBoard c (boardGrown (c .board) n))
+    pub push-does : fitsBoard (c .counters .board) n ≡ true → Does w ls b k rep c (push (entry ls) done) (laid b (c .counters .board) kind number t u) k rep (withBoard c (boardGrown (c .counters .board) n))
     unfolding pushO pushW
     push-does e =
-        let few = fits-facts (c .board) n e .0 in
-        let fits = fits-facts (c .board) n e .1 in
+        let few = fits-facts (c .counters .board) n e .0 in
+        let fits = fits-facts (c .counters .board) n e .1 in
         record {
           kept = record {
             board = laid-stacked (f .board) kind number t u few fits counts;
@@ -271,7 +271,7 @@ module _ {b k : List ℕ} {c : Run} (f : WellFormed b k c) (w : Way) (ls : List 
                 let r = f .book .room in
                 let u = f .unmade j h l in (
                   rw (lowered-start (levelOf k x) t (given k (c .book) x t) listed j, start-old k (c .book) x t small (omega arith) j l (λ y. omega arith)) (u .0),
-                  lowered-other (levelOf k x) t (given k (c .book) x t) j (older-not (c .fresh) j t h (s .older)) ∙ given-level k (c .book) x t small (omega arith) j l ∙ u .1,
+                  lowered-other (levelOf k x) t (given k (c .book) x t) j (older-not (c .counters .fresh) j t h (s .older)) ∙ given-level k (c .book) x t small (omega arith) j l ∙ u .1,
                 );
           };
           taken = refl;
@@ -291,37 +291,37 @@ module _ (c : Run) (g : going (c .halt) ≡ false) where
 
 module _ (c : Run) (g : going (c .halt) ≡ true) where
   pub refuse-returns : (e : TypeError) (h : Halt) → h ≡ haltOf e
-      → (let r : Run = record { taken = c .taken; fresh = c .fresh; board = c .board; book = c .book; halt = h } in (r ≡ refusedRun c e) × Performs c (λ rep. refuse e (nodesAt rep 0 (reported e))) r)
+      → (let r : Run = record { counters = c .counters; book = c .book; halt = h } in (r ≡ refusedRun c e) × Performs c (λ rep. refuse e (nodesAt rep 0 (reported e))) r)
   refuse-returns e h q = rw q (rw g refl, λ w ls b k rep f. refuse-does f w ls rep g e)
 
 -- a fresh number, by the two tests
 module _ (c : Run) where
-  pub made-run : going (c .halt) ≡ true → c .fresh < mostNumbers → made c ≡ freshRun c
-  made-run g l = rw (g, lt-ltb (c .fresh) mostNumbers l) refl
+  pub made-run : going (c .halt) ≡ true → c .counters .fresh < mostNumbers → made c ≡ freshRun c
+  made-run g l = rw (g, lt-ltb (c .counters .fresh) mostNumbers l) refl
 
-  pub full-run : {r : Run} → going (c .halt) ≡ true → mostNumbers ≤ c .fresh → r ≡ refusedRun c NoFreshNumber → r ≡ freshRun c
-  full-run g l q = rw (q, g, le-ltb (c .fresh) mostNumbers l) refl
+  pub full-run : {r : Run} → going (c .halt) ≡ true → mostNumbers ≤ c .counters .fresh → r ≡ refusedRun c NoFreshNumber → r ≡ freshRun c
+  full-run g l q = rw (q, g, le-ltb (c .counters .fresh) mostNumbers l) refl
 
   pub halted-run : going (c .halt) ≡ false → c ≡ freshRun c
   halted-run g = rw g refl
 
   -- a run that goes on has made it
-  pub goes-on : {r : Run} → r ≡ freshRun c → going (r .halt) ≡ true → (going (c .halt) ≡ true) × (ltb (c .fresh) mostNumbers ≡ true)
-  goes-on {r} e h = by (going (c .halt)) refl (ltb (c .fresh) mostNumbers) refl
+  pub goes-on : {r : Run} → r ≡ freshRun c → going (r .halt) ≡ true → (going (c .halt) ≡ true) × (ltb (c .counters .fresh) mostNumbers ≡ true)
+  goes-on {r} e h = by (going (c .halt)) refl (ltb (c .counters .fresh) mostNumbers) refl
     where
-      by : (x : Bool) → going (c .halt) ≡ x → (y : Bool) → ltb (c .fresh) mostNumbers ≡ y → (going (c .halt) ≡ true) × (ltb (c .fresh) mostNumbers ≡ true)
+      by : (x : Bool) → going (c .halt) ≡ x → (y : Bool) → ltb (c .counters .fresh) mostNumbers ≡ y → (going (c .halt) ≡ true) × (ltb (c .counters .fresh) mostNumbers ≡ true)
       by true p true q = (p, q)
       by true p false q = let z : r ≡ stopped c NoFreshNumber = e ∙ rw (p, q) in absurd (true≢false (sym h ∙ ap (λ (d : Run). going (d .halt)) z))
       by false p y q = let z : r ≡ c = e ∙ rw p in absurd (true≢false (sym h ∙ ap (λ (d : Run). going (d .halt)) z ∙ p))
 
   -- and the word of its level is written, or none is
-  pub level-word : {r : Run} → r ≡ freshRun c → going (r .halt) ≡ true → (k : List ℕ) (m : ℕ) {k' : List ℕ} → k' ≡ levelled k (c .fresh) m → k' ≡ makes k c m
+  pub level-word : {r : Run} → r ≡ freshRun c → going (r .halt) ≡ true → (k : List ℕ) (m : ℕ) {k' : List ℕ} → k' ≡ levelled k (c .counters .fresh) m → k' ≡ makes k c m
   level-word e h k m q = let z = goes-on e h in q ∙ rw (z .0, z .1) refl
 
   pub no-level-word : {r : Run} → r ≡ freshRun c → going (r .halt) ≡ false → (k : List ℕ) (m : ℕ) → k ≡ makes k c m
-  no-level-word {r} e h k m = by (going (c .halt)) refl (ltb (c .fresh) mostNumbers) refl
+  no-level-word {r} e h k m = by (going (c .halt)) refl (ltb (c .counters .fresh) mostNumbers) refl
     where
-      by : (x : Bool) → going (c .halt) ≡ x → (y : Bool) → ltb (c .fresh) mostNumbers ≡ y → k ≡ makes k c m
+      by : (x : Bool) → going (c .halt) ≡ x → (y : Bool) → ltb (c .counters .fresh) mostNumbers ≡ y → k ≡ makes k c m
       by true p true q = let z : r ≡ made c = e ∙ rw (p, q) in absurd (true≢false (sym p ∙ ap (λ (d : Run). going (d .halt)) (sym z) ∙ h))
       by true p false q = rw (p, q)
       by false p y q = rw p
@@ -349,20 +349,20 @@ module _ {c : Run} {b : List ℕ} {kind number : ℕ} {l : List ℕ} {la ln : �
   pub push-stays : going (c .halt) ≡ false → Pushes b c kind number t u pushed b c
   push-stays g = (rw g refl, rw g refl, λ w ls k rep f. stays-does f w ls rep g (push (pushed ls) done))
 
-  pub push-asks : fitsBoard (c .board) (ln + rn) ≡ true → BoardAsk b (c .board) l la ln r ra rn
+  pub push-asks : fitsBoard (c .counters .board) (ln + rn) ≡ true → BoardAsk b (c .counters .board) l la ln r ra rn
   push-asks e =
-      let q = fits-facts (c .board) (ln + rn) e in
+      let q = fits-facts (c .counters .board) (ln + rn) e in
       record { room = a .board .room; few = q .0; fits = q .1; left = a .left; right = a .right }
 
-  pub push-returns : {b' : List ℕ} {d : Board} → going (c .halt) ≡ true → fitsBoard (c .board) (ln + rn) ≡ true → (b' ≡ laid b (c .board) kind number t u) × (d ≡ boardGrown (c .board) (ln + rn))
+  pub push-returns : {b' : List ℕ} {d : Board} → going (c .halt) ≡ true → fitsBoard (c .counters .board) (ln + rn) ≡ true → (b' ≡ laid b (c .counters .board) kind number t u) × (d ≡ boardGrown (c .counters .board) (ln + rn))
       → Pushes b c kind number t u pushed b' (withBoard c d)
   push-returns g e q =
-      let f : fitsBoard (c .board) (length t + length u) ≡ true = subst (λ (m : ℕ). fitsBoard (c .board) m ≡ true) sizes e in
+      let f : fitsBoard (c .counters .board) (length t + length u) ≡ true = subst (λ (m : ℕ). fitsBoard (c .counters .board) m ≡ true) sizes e in
       rw (q .0, q .1, sizes) (rw (g, f) refl, rw (g, f) refl, λ w ls k rep h. push-does h w ls rep kind number t u (a .entry) g f)
 
-  pub push-refuses : {p : Run} → going (c .halt) ≡ true → fitsBoard (c .board) (ln + rn) ≡ false → p ≡ refusedRun c BoardFull → Pushes b c kind number t u pushed b p
+  pub push-refuses : {p : Run} → going (c .halt) ≡ true → fitsBoard (c .counters .board) (ln + rn) ≡ false → p ≡ refusedRun c BoardFull → Pushes b c kind number t u pushed b p
   push-refuses g e q =
-      let f : fitsBoard (c .board) (length t + length u) ≡ false = subst (λ (m : ℕ). fitsBoard (c .board) m ≡ false) sizes e in
+      let f : fitsBoard (c .counters .board) (length t + length u) ≡ false = subst (λ (m : ℕ). fitsBoard (c .counters .board) m ≡ false) sizes e in
       rw (q ∙ refused-run c BoardFull g) (rw (g, f) refl, rw (g, f) refl, λ w ls k rep h. push-stops h w ls rep kind number t u (a .entry) g f)
 
 module _ {k : List ℕ} {c : Run} {x : ℕ} {s : List ℕ} {from n : ℕ} (a : SolveAsk k c x s from n) (g : going (c .halt) ≡ true) where

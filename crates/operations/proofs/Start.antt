@@ -13,7 +13,7 @@ use Rattle.operations.specs.declared.Run.{Run}
 use Rattle.operations.specs.State.{noHalt, WellFormed}
 
 abbrev pub started : Run
-started = record { taken = 0; fresh = 0; board = record { entries = 0; nodes = 0 }; book = record { nodes = 0 }; halt = noHalt }
+started = record { counters = record { taken = 0; fresh = 0; board = record { entries = 0; nodes = 0 } }; book = record { nodes = 0 }; halt = noHalt }
 
 pub start-formed : (b k : List ℕ) → boardSize ≤ length b → bookSize ≤ length k → WellFormed b (sets k 0 (bookWords [] ownLevels 0)) started
 start-formed b k lb lk = record {

@@ -59,9 +59,9 @@ same-going w ls b k rep c p q e = by (going (c .halt)) refl
 
 -- a fresh number, and then the rest with it
 pub fresh-is : (w : Way) (ls : List Triple) (b k rep : List ℕ) (c : Run) (o : Origin) (f : ℕ → Rule)
-    → performC w ls (fresh o f) (cameTo ls b k rep c) ≡ performC w ls (f (c .fresh)) (performC w ls (fresh o (λ n. done)) (cameTo ls b k rep c))
+    → performC w ls (fresh o f) (cameTo ls b k rep c) ≡ performC w ls (f (c .counters .fresh)) (performC w ls (fresh o (λ n. done)) (cameTo ls b k rep c))
 fresh-is w ls b k rep c o f =
-    let n = counter-is (c .halt) rep (entriesOf ls b (c .board .entries)) (sols k) (c .fresh) in
+    let n = counter-is (c .halt) rep (entriesOf ls b (c .counters .board .entries)) (sols k) (c .counters .fresh) in
     let O = outcomeOf ls b k rep c in
     came (ap (λ (n : ℕ). performO (limitsIn w) (f n) (freshO (limitsIn w) O)) n) refl (ap (λ (n : ℕ). performL (limitsIn w) (f n) (freshO (limitsIn w) O) (freshL (limitsIn w) o O (levelsOf k))) n)
 
@@ -99,14 +99,14 @@ module _ {w : Way} {ls : List Triple} {b k rep : List ℕ} {c : Run} {b₂ k₂ 
   }
 
   -- a look at the board
-  pub look-then : {f : Entries → Rule} → Does w ls b k rep c (f (entriesOf ls b (c .board .entries))) b₂ k₂ rep₂ c₂ → Does w ls b k rep c (look f) b₂ k₂ rep₂ c₂
+  pub look-then : {f : Entries → Rule} → Does w ls b k rep c (f (entriesOf ls b (c .counters .board .entries))) b₂ k₂ rep₂ c₂ → Does w ls b k rep c (look f) b₂ k₂ rep₂ c₂
   look-then {f} d = record {
     kept = d .kept;
     taken = d .taken;
     outcome =
         d .outcome
-        ∙ came (ap (λ (Γ : Entries). performO (limitsIn w) (f Γ) (outcomeOf ls b k rep c)) (sym (board-is (c .halt) rep (entriesOf ls b (c .board .entries)) (sols k) (c .fresh)))) refl
-        (ap (λ (Γ : Entries). performL (limitsIn w) (f Γ) (outcomeOf ls b k rep c) (levelsOf k)) (sym (board-is (c .halt) rep (entriesOf ls b (c .board .entries)) (sols k) (c .fresh))));
+        ∙ came (ap (λ (Γ : Entries). performO (limitsIn w) (f Γ) (outcomeOf ls b k rep c)) (sym (board-is (c .halt) rep (entriesOf ls b (c .counters .board .entries)) (sols k) (c .counters .fresh)))) refl
+        (ap (λ (Γ : Entries). performL (limitsIn w) (f Γ) (outcomeOf ls b k rep c) (levelsOf k)) (sym (board-is (c .halt) rep (entriesOf ls b (c .counters .board .entries)) (sols k) (c .counters .fresh))));
   }
 
   -- a write-out, and then the rest with the type that it left in the report
@@ -121,8 +121,8 @@ module _ {w : Way} {ls : List Triple} {b k rep : List ℕ} {c : Run} {b₂ k₂ 
             d .outcome
             ∙ same-going w ls b k rep₁ (z .run) (f (nodesAt rep₁ (2 * to) (z .nodes))) (f (writeOut (sols k) t)) (λ g. ap f (q .nodes g))
             ∙ ap (performC w ls (f (writeOut (sols k) t))) (e .outcome)
-            ∙ came (ap (λ (σ : Solutions). performO (limitsIn w) (f (writeOut σ t)) (zonkO (limitsIn w) t (outcomeOf ls b k rep c))) (sym (solutions-are (c .halt) rep (entriesOf ls b (c .board .entries)) (sols k) (c .fresh)))) refl
-            (ap (λ (σ : Solutions). performL (limitsIn w) (f (writeOut σ t)) (zonkO (limitsIn w) t (outcomeOf ls b k rep c)) (levelsOf k)) (sym (solutions-are (c .halt) rep (entriesOf ls b (c .board .entries)) (sols k) (c .fresh))));
+            ∙ came (ap (λ (σ : Solutions). performO (limitsIn w) (f (writeOut σ t)) (zonkO (limitsIn w) t (outcomeOf ls b k rep c))) (sym (solutions-are (c .halt) rep (entriesOf ls b (c .counters .board .entries)) (sols k) (c .counters .fresh)))) refl
+            (ap (λ (σ : Solutions). performL (limitsIn w) (f (writeOut σ t)) (zonkO (limitsIn w) t (outcomeOf ls b k rep c)) (levelsOf k)) (sym (solutions-are (c .halt) rep (entriesOf ls b (c .counters .board .entries)) (sols k) (c .counters .fresh))));
       }
 
   module _ {b₁ k₁ rep₁ : List ℕ} {c₁ : Run} where
@@ -142,8 +142,8 @@ module _ {w : Way} {ls : List Triple} {b k rep : List ℕ} {c : Run} {b₂ k₂ 
     pub solve-then : {j : ℕ} {t : Ty} {p : Rule} → Does w ls b k rep c (solve j t done) b₁ k₁ rep₁ c₁ → Does w ls b₁ k₁ rep₁ c₁ p b₂ k₂ rep₂ c₂ → Does w ls b k rep c (solve j t p) b₂ k₂ rep₂ c₂
     solve-then {j} {t} {p} x y = does-then {p = solve j t done} {q = p} {r = solve j t p} x y refl
 
-    pub fresh-then : {o : Origin} {f : ℕ → Rule} → Does w ls b k rep c (fresh o (λ n. done)) b₁ k₁ rep₁ c₁ → Does w ls b₁ k₁ rep₁ c₁ (f (c .fresh)) b₂ k₂ rep₂ c₂ → Does w ls b k rep c (fresh o f) b₂ k₂ rep₂ c₂
-    fresh-then {o} {f} x y = does-then {p = fresh o (λ n. done)} {q = f (c .fresh)} {r = fresh o f} x y (fresh-is w ls b k rep c o f)
+    pub fresh-then : {o : Origin} {f : ℕ → Rule} → Does w ls b k rep c (fresh o (λ n. done)) b₁ k₁ rep₁ c₁ → Does w ls b₁ k₁ rep₁ c₁ (f (c .counters .fresh)) b₂ k₂ rep₂ c₂ → Does w ls b k rep c (fresh o f) b₂ k₂ rep₂ c₂
+    fresh-then {o} {f} x y = does-then {p = fresh o (λ n. done)} {q = f (c .counters .fresh)} {r = fresh o f} x y (fresh-is w ls b k rep c o f)
 
 -- ---- what every rule leaves
 -- an operation keeps what is well formed, whatever the run is told, the lines and the report
@@ -219,24 +219,24 @@ counter-grows L (zonk t f) o = le-trans (one o) (counter-grows L (f (writeOut (s
     one (refused x us (state Γ σ n)) = le-refl n
 counter-grows L (look f) o = counter-grows L (f (boardOf o)) o
 
-pub grows : {w : Way} {ls : List Triple} {b k rep : List ℕ} {c : Run} {p : Rule} {b' k' rep' : List ℕ} {r : Run} → Does w ls b k rep c p b' k' rep' r → c .fresh ≤ r .fresh
+pub grows : {w : Way} {ls : List Triple} {b k rep : List ℕ} {c : Run} {p : Rule} {b' k' rep' : List ℕ} {r : Run} → Does w ls b k rep c p b' k' rep' r → c .counters .fresh ≤ r .counters .fresh
 grows {w} {ls} {b} {k} {rep} {c} {p} {b'} {k'} {rep'} {r} d =
     let h = counter-grows (limitsIn w) p (outcomeOf ls b k rep c) in
-    let x = counter-is (c .halt) rep (entriesOf ls b (c .board .entries)) (sols k) (c .fresh) in
+    let x = counter-is (c .halt) rep (entriesOf ls b (c .counters .board .entries)) (sols k) (c .counters .fresh) in
     let y = ap (λ (x : Came). counterOf (x .outcome)) (d .outcome) in
-    let z = counter-is (r .halt) rep' (entriesOf ls b' (r .board .entries)) (sols k') (r .fresh) in
+    let z = counter-is (r .halt) rep' (entriesOf ls b' (r .counters .board .entries)) (sols k') (r .counters .fresh) in
     omega arith
 
 -- ---- fresh numbers
 -- a number that is not made is none of the solved unknowns
-pub unmade-free : {b k : List ℕ} {c : Run} → WellFormed b k c → (j : ℕ) → c .fresh ≤ j → Free (solvedUnknowns (sols k)) (node 17 j)
+pub unmade-free : {b k : List ℕ} {c : Run} → WellFormed b k c → (j : ℕ) → c .counters .fresh ≤ j → Free (solvedUnknowns (sols k)) (node 17 j)
 unmade-free {k = k} {c = c} f j h = free-of k (c .book) j (f .book) (λ l. f .unmade j h l .0)
 
-pub fresh-made : (c r : Run) → r ≡ freshRun c → going (r .halt) ≡ true → r .fresh ≡ c .fresh + 1
-fresh-made c r e g = by (going (c .halt)) refl (ltb (c .fresh) mostNumbers) refl
+pub fresh-made : (c r : Run) → r ≡ freshRun c → going (r .halt) ≡ true → r .counters .fresh ≡ c .counters .fresh + 1
+fresh-made c r e g = by (going (c .halt)) refl (ltb (c .counters .fresh) mostNumbers) refl
   where
-    by : (x : Bool) → going (c .halt) ≡ x → (y : Bool) → ltb (c .fresh) mostNumbers ≡ y → r .fresh ≡ c .fresh + 1
-    by true p true q = let z : r ≡ made c = e ∙ rw (p, q) in ap (λ (d : Run). d .fresh) z
+    by : (x : Bool) → going (c .halt) ≡ x → (y : Bool) → ltb (c .counters .fresh) mostNumbers ≡ y → r .counters .fresh ≡ c .counters .fresh + 1
+    by true p true q = let z : r ≡ made c = e ∙ rw (p, q) in ap (λ (d : Run). d .counters .fresh) z
     by true p false q = let z : r ≡ stopped c NoFreshNumber = e ∙ rw (p, q) in absurd (true≢false (sym g ∙ ap (λ (d : Run). going (d .halt)) z))
     by false p y q = let z : r ≡ c = e ∙ rw p in absurd (true≢false (sym g ∙ ap (λ (d : Run). going (d .halt)) z ∙ p))
 
@@ -248,20 +248,20 @@ kept-sols L (refused e ts s) = refl
 
 pub fresh-sols : {w : Way} {ls : List Triple} {b k rep : List ℕ} {c : Run} {o : Origin} {b' k' rep' : List ℕ} {r : Run} → Does w ls b k rep c (fresh o (λ n. done)) b' k' rep' r → sols k' ≡ sols k
 fresh-sols {w} {ls} {b} {k} {rep} {c} {o} {b'} {k'} {rep'} {r} d =
-    sym (solutions-are (r .halt) rep' (entriesOf ls b' (r .board .entries)) (sols k') (r .fresh))
+    sym (solutions-are (r .halt) rep' (entriesOf ls b' (r .counters .board .entries)) (sols k') (r .counters .fresh))
     ∙ ap (λ (x : Came). solutionsOf (x .outcome)) (d .outcome)
     ∙ kept-sols (limitsIn w) (outcomeOf ls b k rep c)
-    ∙ solutions-are (c .halt) rep (entriesOf ls b (c .board .entries)) (sols k) (c .fresh)
+    ∙ solutions-are (c .halt) rep (entriesOf ls b (c .counters .board .entries)) (sols k) (c .counters .fresh)
 
 -- A pair of the number that c makes and of a later one may solve an older unknown; r is the run that solves it, and has made both; its book has the solutions of before.
-pub pair-solves : {b k : List ℕ} {c : Run} (k₂ : List ℕ) (r : Run) (kind x y : ℕ) → (kind ≡ 17 → ⊥) → WellFormed b k c → sols k₂ ≡ sols k → x < c .fresh → Free (solvedUnknowns (sols k)) (node 17 x) → c .fresh ≤ y → y < r .fresh
-    → Solves k₂ r x (node kind 0 ∷ (unknown (c .fresh) ++ unknown y))
+pub pair-solves : {b k : List ℕ} {c : Run} (k₂ : List ℕ) (r : Run) (kind x y : ℕ) → (kind ≡ 17 → ⊥) → WellFormed b k c → sols k₂ ≡ sols k → x < c .counters .fresh → Free (solvedUnknowns (sols k)) (node 17 x) → c .counters .fresh ≤ y → y < r .counters .fresh
+    → Solves k₂ r x (node kind 0 ∷ (unknown (c .counters .fresh) ++ unknown y))
 pair-solves {k = k} {c = c} k₂ r kind x y pair f same known new l m =
-    let newer : (z : ℕ) → c .fresh ≤ z → Free (x ∷ solvedUnknowns (sols k)) (node 17 z) = λ z h. (ne-eqb x z (λ e. (let d : x ≡ z = e in omega arith)), unmade-free f z h) in
+    let newer : (z : ℕ) → c .counters .fresh ≤ z → Free (x ∷ solvedUnknowns (sols k)) (node 17 z) = λ z h. (ne-eqb x z (λ e. (let d : x ≡ z = e in omega arith)), unmade-free f z h) in
     record {
       made = omega arith;
       unsolved = rw same new;
-      free = rw same (other-free (x ∷ solvedUnknowns (sols k)) kind 0 pair, (newer (c .fresh) (le-refl (c .fresh)), (newer y l, tt)));
+      free = rw same (other-free (x ∷ solvedUnknowns (sols k)) kind 0 pair, (newer (c .counters .fresh) (le-refl (c .counters .fresh)), (newer y l, tt)));
       older = (λ e. absurd (pair e), (λ _. omega arith, (λ _. m, tt)));
     }
 

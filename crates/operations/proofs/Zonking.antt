@@ -57,7 +57,7 @@ module _ {k : List ℕ} {c : Run} {s : List ℕ} {at n : ℕ} {rep : List ℕ} {
     same-length : length rep' ≡ length rep
     same-length = ap length q ∙ length-sets rep (2 * to) (words (take (to + w - to) T))
 
-    moved : {b : List ℕ} (h : Halt) → WellFormed b k c → WellFormed b k (record { taken = c .taken; fresh = c .fresh; board = c .board; book = c .book; halt = h })
+    moved : {b : List ℕ} (h : Halt) → WellFormed b k c → WellFormed b k (record { counters = c .counters; book = c .book; halt = h })
     moved h f = record {
       board = f .board;
       book = f .book;
@@ -123,10 +123,10 @@ module _ (c : Run) (t : Ty) (to w : ℕ) where
       by false p y q = let u : z ≡ record { run = c; nodes = 0 } = e ∙ rw p in let v = ap (λ (d : Zonked). d .nodes) u in omega arith
 
   -- no number is made
-  pub zonk-fresh : zonkRun c t to w .run .fresh ≡ c .fresh
+  pub zonk-fresh : zonkRun c t to w .run .counters .fresh ≡ c .counters .fresh
   zonk-fresh = by (going (c .halt)) (leb (to + length t) (to + w))
     where
-      by : (x y : Bool) → cond x (zonkBy (cond y (Fits (to + length t)) Over) c to) (record { run = c; nodes = 0 }) .run .fresh ≡ c .fresh
+      by : (x y : Bool) → cond x (zonkBy (cond y (Fits (to + length t)) Over) c to) (record { run = c; nodes = 0 }) .run .counters .fresh ≡ c .counters .fresh
       by true true = refl
       by true false = refl
       by false y = refl

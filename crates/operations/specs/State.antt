@@ -79,17 +79,17 @@ abbrev pub outcomeBy : Halt → List ℕ → State → Outcome
 outcomeBy h rep s = cond (going h) (finished s) (refused (errorOf h) (nodesAt rep 0 (reported (errorOf h))) s)
 
 abbrev pub stateOf : List Triple → List ℕ → List ℕ → Run → State
-stateOf ls b k c = state (entriesOf ls b (c .board .entries)) (sols k) (c .fresh)
+stateOf ls b k c = state (entriesOf ls b (c .counters .board .entries)) (sols k) (c .counters .fresh)
 
 abbrev pub outcomeOf : List Triple → List ℕ → List ℕ → List ℕ → Run → Outcome
 outcomeOf ls b k rep c = outcomeBy (c .halt) rep (stateOf ls b k c)
 
 -- Kept by every operation, also after a refusal: b and k are the words of board and book. The report may hold anything.
 pub record WellFormed (b k : List ℕ) (c : Run) : Type 0 where
-  pub board : Stacked b (c .board)
+  pub board : Stacked b (c .counters .board)
   pub book : Booked k (c .book)
-  pub numbers : c .fresh ≤ mostNumbers
-  pub unmade : (j : ℕ) → c .fresh ≤ j → j < mostNumbers → (startOf k j < bookBase) × (levelWordOf k j ≡ 0)  -- a number that is not made has no solution and its own level
+  pub numbers : c .counters .fresh ≤ mostNumbers
+  pub unmade : (j : ℕ) → c .counters .fresh ≤ j → j < mostNumbers → (startOf k j < bookBase) × (levelWordOf k j ≡ 0)  -- a number that is not made has no solution and its own level
 
 -- some book goes with the run
 abbrev pub Bookable : List ℕ → Run → Type 0
@@ -97,20 +97,20 @@ Bookable b c = (k : List ℕ) × WellFormed b k c
 
 -- ---- the operations on words: a refused run stays as it is
 abbrev pub stopped : Run → TypeError → Run
-stopped c e = record { taken = c .taken; fresh = c .fresh; board = c .board; book = c .book; halt = haltOf e }
+stopped c e = record { counters = c .counters; book = c .book; halt = haltOf e }
 
 abbrev pub refusedRun : Run → TypeError → Run
 refusedRun c e = cond (going (c .halt)) (stopped c e) c
 
 abbrev pub made : Run → Run
-made c = record { taken = c .taken; fresh = c .fresh + 1; board = c .board; book = c .book; halt = c .halt }
+made c = record { counters = record { taken = c .counters .taken; fresh = c .counters .fresh + 1; board = c .counters .board }; book = c .book; halt = c .halt }
 
 abbrev pub freshRun : Run → Run
-freshRun c = cond (going (c .halt)) (cond (ltb (c .fresh) mostNumbers) (made c) (stopped c NoFreshNumber)) c
+freshRun c = cond (going (c .halt)) (cond (ltb (c .counters .fresh) mostNumbers) (made c) (stopped c NoFreshNumber)) c
 
 -- the book with the level m for the number that is made
 abbrev pub makes : List ℕ → Run → ℕ → List ℕ
-makes k c m = cond (going (c .halt)) (cond (ltb (c .fresh) mostNumbers) (levelled k (c .fresh) m) k) k
+makes k c m = cond (going (c .halt)) (cond (ltb (c .counters .fresh) mostNumbers) (levelled k (c .counters .fresh) m) k) k
 
 -- a number of its own level needs no word
 abbrev pub freshWords : Origin → List ℕ → Run → List ℕ
@@ -119,18 +119,18 @@ freshWords universal k c = makes k c 0
 freshWords (splits x) k c = makes k c (levelOf k x)
 
 abbrev pub withBoard : Run → Board → Run
-withBoard c b = record { taken = c .taken; fresh = c .fresh; board = b; book = c .book; halt = c .halt }
+withBoard c b = record { counters = record { taken = c .counters .taken; fresh = c .counters .fresh; board = b }; book = c .book; halt = c .halt }
 
 -- a push of an entry of n nodes
 abbrev pub pushRun : Run → ℕ → Run
-pushRun c n = cond (going (c .halt)) (cond (fitsBoard (c .board) n) (withBoard c (boardGrown (c .board) n)) (stopped c BoardFull)) c
+pushRun c n = cond (going (c .halt)) (cond (fitsBoard (c .counters .board) n) (withBoard c (boardGrown (c .counters .board) n)) (stopped c BoardFull)) c
 
 abbrev pub pushWords : List ℕ → Run → ℕ → ℕ → Ty → Ty → List ℕ
 pushWords b c kind number t u =
-    cond (going (c .halt)) (cond (fitsBoard (c .board) (length t + length u)) (laid b (c .board) kind number t u) b) b
+    cond (going (c .halt)) (cond (fitsBoard (c .counters .board) (length t + length u)) (laid b (c .counters .board) kind number t u) b) b
 
 abbrev pub withBook : Run → Book → Run
-withBook c b = record { taken = c .taken; fresh = c .fresh; board = c .board; book = b; halt = c .halt }
+withBook c b = record { counters = c .counters; book = b; halt = c .halt }
 
 -- a solution of n nodes, in scope
 abbrev pub solveRun : Run → ℕ → Run
@@ -172,11 +172,11 @@ zonkW w t x = record { board = x .board; book = x .book; run = cond (going (x .r
 abbrev pub performW : Way → List Triple → Rule → Words → Words
 performW w ls done x = x
 performW w ls (refuse e ts) x = refuseW e x
-performW w ls (fresh g f) x = performW w ls (f (x .run .fresh)) (freshW g x)
+performW w ls (fresh g f) x = performW w ls (f (x .run .counters .fresh)) (freshW g x)
 performW w ls (push e p) x = performW w ls p (pushW e x)
 performW w ls (solve k t p) x = performW w ls p (solveW w k t x)
 performW w ls (zonk t f) x = let u = writeOut (sols (x .book)) t in performW w ls (f u) (zonkW w u x)
-performW w ls (look f) x = performW w ls (f (entriesOf ls (x .board) (x .run .board .entries))) x
+performW w ls (look f) x = performW w ls (f (entriesOf ls (x .board) (x .run .counters .board .entries))) x
 
 -- what a run has come to: as the definition has it, in words, and the levels
 pub record Came : Type 0 where
@@ -194,7 +194,7 @@ performC w ls p o = record { outcome = performO (limitsIn w) p (o .outcome); wor
 -- The report is fixed as far as it holds types that a refusal reports. Beside that code writes to it as it does to any room that it is lent: a function's contract says which words.
 pub record Does (w : Way) (ls : List Triple) (b k rep : List ℕ) (c : Run) (p : Rule) (b' k' rep' : List ℕ) (r : Run) : Type 0 where
   pub kept : WellFormed b' k' r
-  pub taken : r .taken ≡ c .taken
+  pub taken : r .counters .taken ≡ c .counters .taken
   pub outcome : cameTo ls b' k' rep' r ≡ performC w ls p (cameTo ls b k rep c)
 
 -- code that changes none of the buffers; only the board; only the book
@@ -227,7 +227,7 @@ Pushes b c kind number t u e b' r =
     (r ≡ pushRun c (length t + length u)) × (b' ≡ pushWords b c kind number t u) × PerformsOnBoard b c (λ ls. push (e ls) done) b' r
 
 pub record PushAsk (b : List ℕ) (c : Run) (kind number : ℕ) (l : List ℕ) (la ln : ℕ) (r : List ℕ) (ra rn : ℕ) : Type 0 where
-  pub board : Stacked b (c .board)
+  pub board : Stacked b (c .counters .board)
   pub left : la + 2 * ln ≤ length l
   pub right : ra + 2 * rn ≤ length r
   pub entry : (ls : List Triple) → slotOf (entryOf ls kind number (nodesAt l la ln) (nodesAt r ra rn)) ≡ record { kind = kind; number = number; left = nodesAt l la ln; right = nodesAt r ra rn }
@@ -248,14 +248,14 @@ Made n x = kind x ≡ 17 → number x < n
 
 -- an unknown that was made and is not solved, and a type with neither it nor a solved one, whose unknowns were made
 pub record Solves (k : List ℕ) (c : Run) (x : ℕ) (t : Ty) : Type 0 where
-  pub made : x < c .fresh
+  pub made : x < c .counters .fresh
   pub unsolved : Free (solvedUnknowns (sols k)) (node 17 x)
   pub free : All (Free (x ∷ solvedUnknowns (sols k))) t
-  pub older : All (Made (c .fresh)) t
+  pub older : All (Made (c .counters .fresh)) t
 
 pub record SolveAsk (k : List ℕ) (c : Run) (x : ℕ) (s : List ℕ) («from» n : ℕ) : Type 0 where
   pub book : Booked k (c .book)
-  pub numbers : c .fresh ≤ mostNumbers
+  pub numbers : c .counters .fresh ≤ mostNumbers
   pub some : 0 < n
   pub within : «from» + 2 * n ≤ length s
   pub solves : going (c .halt) ≡ true → Solves k c x (nodesAt s «from» n)

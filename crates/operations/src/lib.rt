@@ -41,11 +41,16 @@ impl Halt {
     }
 }
 
-// What the rules hand on: entries taken, fresh numbers, the counters of board and book, and the refusal.
-pub struct Run {
+// The counters of a run: entries taken, fresh numbers, the board's entries and their nodes. A step is lent them.
+pub struct Counters {
     pub taken: u32,
     pub fresh: u32,
     pub board: Board,
+}
+
+// What the rules hand on: the counters, the nodes of the book, and the refusal.
+pub struct Run {
+    pub counters: Counters,
     pub book: Book,
     pub halt: Halt,
 }
@@ -102,13 +107,11 @@ pub fn refuse(c: Run, e: TypeError) -> Run
 {
     let halt = c.halt;
     if is_going(halt) {
-        let board = c.board;
+        let counters = c.counters;
         let book = c.book;
         let refusal = halt_of(e);
         return Run {
-            taken: c.taken,
-            fresh: c.fresh,
-            board,
+            counters,
             book,
             halt: refusal,
         };
@@ -122,14 +125,13 @@ pub fn fresh_evar(c: Run) -> Run
 {
     let halt = c.halt;
     if is_going(halt) {
-        let fresh = c.fresh;
+        let mut counters = c.counters;
+        let fresh = counters.fresh;
         if (fresh as usize) < Book::NUMBERS {
-            let board = c.board;
+            counters.fresh = fresh + 1;
             let book = c.book;
             return Run {
-                taken: c.taken,
-                fresh: fresh + 1,
-                board,
+                counters,
                 book,
                 halt,
             };
@@ -144,7 +146,7 @@ fn fresh_level(book: &mut [u32], c: Run, m: u32) -> Run
     requires { ⌜ Booked (now book) (c .book) × (m < mostNumbers) ⌝ }
     ensures { λ r. ⌜ (r ≡ freshRun c) × (now (book .exit) ≡ makes (now (book .entry)) c m) ⌝ }
 {
-    let n = c.fresh;
+    let n = c.counters.fresh;
     let r = fresh_evar(c);
     let halt = r.halt;
     if is_going(halt) {
@@ -189,14 +191,14 @@ pub fn push(
 {
     let halt = c.halt;
     if is_going(halt) {
-        let b = c.board;
+        let mut counters = c.counters;
+        let b = counters.board;
         if b.fits(ln + rn) {
             let grown = board::push(board, b, kind, number, l, la, ln, r, ra, rn);
+            counters.board = grown;
             let book = c.book;
             return Run {
-                taken: c.taken,
-                fresh: c.fresh,
-                board: grown,
+                counters,
                 book,
                 halt,
             };
@@ -218,11 +220,9 @@ pub fn solve_evar(book: &mut [u32], c: Run, x: u32, src: &[u32], from: usize, n:
             let m = level(book, x);
             let grown = book::solve(book, b, x, src, from, n);
             lower(book, m, src, from, n);
-            let board = c.board;
+            let counters = c.counters;
             return Run {
-                taken: c.taken,
-                fresh: c.fresh,
-                board,
+                counters,
                 book: grown,
                 halt,
             };
@@ -265,7 +265,7 @@ pub fn zonk(
 
 // Pushes the TVar of a name (kind 11), an unknown (17) or a fresh universal (18).
 pub fn push_tvar(board: &mut [u32], c: Run, kind: u32, number: u32) -> Run
-    requires { ⌜ Stacked (now board) (c .board) × (6 < kind) ⌝ }
+    requires { ⌜ Stacked (now board) (c .counters .board) × (6 < kind) ⌝ }
     ensures { λ p. ⌜ Pushes (now (board .entry)) c kind number [] [] (λ ls. tvar (node kind number)) (now (board .exit)) p ⌝ }
 {
     let none = [0u32];
@@ -273,7 +273,7 @@ pub fn push_tvar(board: &mut [u32], c: Run, kind: u32, number: u32) -> Run
 }
 
 pub fn push_var(board: &mut [u32], c: Run, name: u32, t: &[u32], ta: usize, tn: usize) -> Run
-    requires { ⌜ Stacked (now board) (c .board) × (ta + 2 * tn ≤ length (now t)) ⌝ }
+    requires { ⌜ Stacked (now board) (c .counters .board) × (ta + 2 * tn ≤ length (now t)) ⌝ }
     ensures { λ p. ⌜ Pushes (now (board .entry)) c 2 name (nodesAt (now (t .entry)) ta tn) [] (λ ls. var name (nodesAt (now (t .entry)) ta tn)) (now (board .exit)) p ⌝ }
 {
     push(board, c, 2, name, t, ta, tn, t, 0, 0)
@@ -289,21 +289,21 @@ pub fn push_sub(
     ra: usize,
     rn: usize,
 ) -> Run
-    requires { ⌜ Stacked (now board) (c .board) × (la + 2 * ln ≤ length (now l)) × (ra + 2 * rn ≤ length (now r)) ⌝ }
+    requires { ⌜ Stacked (now board) (c .counters .board) × (la + 2 * ln ≤ length (now l)) × (ra + 2 * rn ≤ length (now r)) ⌝ }
     ensures { λ p. ⌜ Pushes (now (board .entry)) c 3 0 (nodesAt (now (l .entry)) la ln) (nodesAt (now (r .entry)) ra rn) (λ ls. sub (nodesAt (now (l .entry)) la ln) (nodesAt (now (r .entry)) ra rn)) (now (board .exit)) p ⌝ }
 {
     push(board, c, 3, 0, l, la, ln, r, ra, rn)
 }
 
 pub fn push_inf(board: &mut [u32], c: Run, line: u32, t: &[u32], ta: usize, tn: usize) -> Run
-    requires { ⌜ Stacked (now board) (c .board) × (ta + 2 * tn ≤ length (now t)) ⌝ }
+    requires { ⌜ Stacked (now board) (c .counters .board) × (ta + 2 * tn ≤ length (now t)) ⌝ }
     ensures { λ p. ⌜ Pushes (now (board .entry)) c 4 line (nodesAt (now (t .entry)) ta tn) [] (λ ls. inf (termAt ls line) (nodesAt (now (t .entry)) ta tn)) (now (board .exit)) p ⌝ }
 {
     push(board, c, 4, line, t, ta, tn, t, 0, 0)
 }
 
 pub fn push_chk(board: &mut [u32], c: Run, line: u32, t: &[u32], ta: usize, tn: usize) -> Run
-    requires { ⌜ Stacked (now board) (c .board) × (ta + 2 * tn ≤ length (now t)) ⌝ }
+    requires { ⌜ Stacked (now board) (c .counters .board) × (ta + 2 * tn ≤ length (now t)) ⌝ }
     ensures { λ p. ⌜ Pushes (now (board .entry)) c 5 line (nodesAt (now (t .entry)) ta tn) [] (λ ls. chk (termAt ls line) (nodesAt (now (t .entry)) ta tn)) (now (board .exit)) p ⌝ }
 {
     push(board, c, 5, line, t, ta, tn, t, 0, 0)
@@ -320,7 +320,7 @@ pub fn push_inf_app(
     ta: usize,
     tn: usize,
 ) -> Run
-    requires { ⌜ Stacked (now board) (c .board) × (fa + 2 * fcount ≤ length (now f)) × (ta + 2 * tn ≤ length (now t)) ⌝ }
+    requires { ⌜ Stacked (now board) (c .counters .board) × (fa + 2 * fcount ≤ length (now f)) × (ta + 2 * tn ≤ length (now t)) ⌝ }
     ensures { λ p. ⌜ Pushes (now (board .entry)) c 6 line (nodesAt (now (f .entry)) fa fcount) (nodesAt (now (t .entry)) ta tn) (λ ls. infApp (nodesAt (now (f .entry)) fa fcount) (termAt ls line) (nodesAt (now (t .entry)) ta tn)) (now (board .exit)) p ⌝ }
 {
     push(board, c, 6, line, f, fa, fcount, t, ta, tn)

@@ -26,6 +26,7 @@ use io::write_all;
 use judgment::TypeError;
 use nodes::clear_words;
 use nodes::wide;
+use operations::Counters;
 use operations::Halt;
 use operations::Run;
 use operations::Zonked;
@@ -46,9 +47,9 @@ fn script(board: &mut [u32], book: &mut [u32], report: &mut [u32], c: Run) -> Ru
     requires { ⌜ WellFormed (now board) (now book) c × (2 * usualLimit ≤ length (now report)) ⌝ }
     ensures { λ r. ⌜ ((f : ℕ → Ty → Bool) (ls : List Triple) → Scoped (record { written = usualLimit; scope = f }) → Does (record { written = usualLimit; scope = f }) ls (now (board .entry)) (now (book .entry)) (now (report .entry)) c scriptRule (now (board .exit)) (now (book .exit)) (now (report .exit)) r) ⌝ }
 {
-    let a = c.fresh;
+    let a = c.counters.fresh;
     let c1 = fresh_evar(c);
-    let b = c1.fresh;
+    let b = c1.counters.fresh;
     let c2 = fresh_evar(c1);
     let types = [17u32, a, 13, 0, 17, b, 17, b];
     let c3 = push_tvar(board, c2, 17, a);
@@ -104,11 +105,11 @@ fn words(w: &[u32]) {
 }
 
 // Writes out the counters, and whether the run goes on.
-fn counters(c: Run) {
-    let board = c.board;
+fn show_counters(c: Run) {
+    let board = c.counters.board;
     let book = c.book;
     let halt = c.halt;
-    number(wide(c.fresh));
+    number(wide(c.counters.fresh));
     let _one = write_all(1, b" ");
     number(board.entries);
     let _two = write_all(1, b" ");
@@ -122,7 +123,7 @@ fn counters(c: Run) {
 
 // All that stands in the buffers and the counters.
 fn show(board: &[u32], book: &[u32], report: &[u32], c: Run) {
-    counters(c);
+    show_counters(c);
     words(board);
     words(book);
     words(report);
@@ -134,10 +135,13 @@ fn run(board: &mut [u32], book: &mut [u32], report: &mut [u32])
     clear_board(board);
     clear_book(book);
     clear_words(report, 0, USUAL_REPORT);
-    let start = Run {
+    let counters = Counters {
         taken: 0,
         fresh: 0,
         board: Board::new(),
+    };
+    let start = Run {
+        counters,
         book: Book::new(),
         halt: Halt::none(),
     };

@@ -50,11 +50,11 @@ frame-none w n r arity z = record {
 
 -- ---- a constructor pattern
 module _ {b : List ℕ} {c : Run} (ls : List Triple) (x count : ℕ) (t : Ty) (w : List ℕ) (n : ℕ) where
-  pub naming-hit : {b' w' : List ℕ} {o : Parts} {d : ℕ} (line lines base : ℕ) → At line lines ≡ findEntry 1 x ls → base ≡ c .fresh → Frames ls w n
+  pub naming-hit : {b' w' : List ℕ} {o : Parts} {d : ℕ} (line lines base : ℕ) → At line lines ≡ findEntry 1 x ls → base ≡ c .counters .fresh → Frames ls w n
       → Parting b c ls line lines count t b' o → Adds w n (bodyOf line lines (o .nodes) base) (o .arity) w' d
       → Naming b c ls x count t w n b' w' (record { run = o .run; depth = d })
   naming-hit {b'} {w'} {o} {d} line lines base q e f p a =
-      let r : TypeRef = bodyOf line lines (o .nodes) (c .fresh) in
+      let r : TypeRef = bodyOf line lines (o .nodes) (c .counters .fresh) in
       let s : Adds w n r (o .arity) w' d = subst (λ (i : ℕ). Adds w n (bodyOf line lines (o .nodes) i) (o .arity) w' d) e a in
       let g = s .frames ls (p .good) (p .arity) f in
       let u = p .turn (envAt ls) in

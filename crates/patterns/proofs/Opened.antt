@@ -51,7 +51,7 @@ module _ {b : List ℕ} {c : Run} (ls : List Triple) (first n count : ℕ) (want
   X = nodesAt l (o .at) (o .nodes)
 
   abbrev body : TypeRef
-  body = bodyOf first n (o .nodes) (c .fresh)
+  body = bodyOf first n (o .nodes) (c .counters .fresh)
 
   fronts : (length (frontNames T) ≤ n) × (n - o .nodes ≡ length (frontNames T)) × (o .nodes ≡ n - length (frontNames T))
   fronts =
@@ -80,8 +80,8 @@ module _ {b : List ℕ} {c : Run} (ls : List Triple) (first n count : ℕ) (want
       let a : length T ≡ n = nodes-of-lines ls first n (ask .lines) in
       let d : length (drop (length (frontNames T)) T) ≡ length T - length (frontNames T) = length-drop (length (frontNames T)) T in
       type-is ls body (ask .some)
-      ∙ ap (λ (i : ℕ). rename (openedAt T (c .fresh)) (take (o .nodes) (drop i T))) (f .1)
-      ∙ ap (rename (openedAt T (c .fresh))) (take-whole (drop (length (frontNames T)) T) (o .nodes) (omega arith) ∙ sym (after-drop T))
+      ∙ ap (λ (i : ℕ). rename (openedAt T (c .counters .fresh)) (take (o .nodes) (drop i T))) (f .1)
+      ∙ ap (rename (openedAt T (c .counters .fresh))) (take-whole (drop (length (frontNames T)) T) (o .nodes) (omega arith) ∙ sym (after-drop T))
       ∙ sym (O .type)
 
   pending-body : pendingOf ls body ≡ params (o .nodes) X
@@ -104,7 +104,7 @@ module _ {b : List ℕ} {c : Run} (ls : List Triple) (first n count : ℕ) (want
   module _ (start arity : ℕ) (a : arity ≡ length (params (o .nodes) X)) (u : Ty) (same : u ≡ typeOf ls want)
       (e : nodesAt l (o .at + 2 * start) (o .nodes - start) ≡ result (o .nodes) X)
       {b₂ : List ℕ} {c₂ c₃ : Run} (P : PerformsOnBoard b₁ (o .run) (λ _. push (sub (nodesAt l (o .at + 2 * start) (o .nodes - start)) u) done) b₂ c₂)
-      (A : Arity ls b₂ c₂ arity count c₃) (pushed : c₂ .taken ≡ o .run .taken) where
+      (A : Arity ls b₂ c₂ arity count c₃) (pushed : c₂ .counters .taken ≡ o .run .counters .taken) where
     parts-turn : (E : Env) → Turn {A = List Ty} ls b c (λ f. extractSignature T (patternParts E count (typeOf ls want) f)) b₂ c₃ (λ f. f (pendingOf ls body))
     parts-turn E = record {
       ready = A .ready;

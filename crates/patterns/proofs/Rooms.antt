@@ -52,8 +52,8 @@ unfolding frameWords frameDepth
 frame-zero w n r arity e = rw e (refl, refl)
 
 module _ (ls : List Triple) (x count : ℕ) (want : TypeRef) (c : Run) (w : List ℕ) (n : ℕ) (l r : List ℕ) where
-  pub rooms-hit : (line m base : ℕ) → At line m ≡ findEntry 1 x ls → base ≡ c .fresh → {o : Parts} {w' l' r' : List ℕ} {d : ℕ} → o ≡ partsAnswer ls line m count want c
-      → l' ≡ openedOut (nodesOf (take m (drop line ls))) (c .fresh) l → r' ≡ instanceOut ls want r → w' ≡ frameWords w n (bodyOf line m (o .nodes) base) (o .arity) → d ≡ frameDepth n (o .arity)
+  pub rooms-hit : (line m base : ℕ) → At line m ≡ findEntry 1 x ls → base ≡ c .counters .fresh → {o : Parts} {w' l' r' : List ℕ} {d : ℕ} → o ≡ partsAnswer ls line m count want c
+      → l' ≡ openedOut (nodesOf (take m (drop line ls))) (c .counters .fresh) l → r' ≡ instanceOut ls want r → w' ≡ frameWords w n (bodyOf line m (o .nodes) base) (o .arity) → d ≡ frameDepth n (o .arity)
       → (v : List ℕ) (j : ℕ) → rooms (o .run) w' d v j l' r' ≡ constructorRooms ls x count want (rooms c w n v j l r) (findEntry 1 x ls)
   unfolding constructorRooms
   rooms-hit line m base q e p el er ew ed v j = rw (← q, ew, ed, e, p, el, er)

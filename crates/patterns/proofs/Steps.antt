@@ -63,7 +63,7 @@ pub turn-refused : {A : Type 0} {ls : List Triple} {b : List ℕ} {c r : Run} {e
 unfolding nodesAt
 turn-refused {A} {ls} {b} {c} {r} {e} p q h z s d = record {
   ready = subst⁻¹ (Ready b) (d .0) (refused-ready b c e h);
-  taken = ap (λ (x : Run). x .taken) (d .0) ∙ cond-ind (λ (x : Run). x .taken ≡ c .taken) (going (c .halt)) (λ _. refl) (λ _. refl);
+  taken = ap (λ (x : Run). x .counters .taken) (d .0) ∙ cond-ind (λ (x : Run). x .counters .taken ≡ c .counters .taken) (going (c .halt)) (λ _. refl) (λ _. refl);
   kept = λ k y. d .1 anyWay ls b k [] y .kept;
   outcome = λ w k rep y f.
       ap (performC w ls (q f)) (d .1 w ls b k rep y .outcome)
@@ -75,11 +75,11 @@ turn-refused {A} {ls} {b} {c} {r} {e} p q h z s d = record {
 -- ---- a push
 pub push-ready : (b : List ℕ) (c : Run) (kind number : ℕ) (t u : Ty) → ((ls : List Triple) → entryNodes (entryOf ls kind number t u) ≡ length t + length u) → Ready b c
     → Ready (pushWords b c kind number t u) (pushRun c (length t + length u))
-push-ready b c kind number t u n h = by (going (c .halt)) refl (fitsBoard (c .board) (length t + length u)) refl
+push-ready b c kind number t u n h = by (going (c .halt)) refl (fitsBoard (c .counters .board) (length t + length u)) refl
   where
-    by : (x : Bool) → going (c .halt) ≡ x → (y : Bool) → fitsBoard (c .board) (length t + length u) ≡ y → Ready (pushWords b c kind number t u) (pushRun c (length t + length u))
+    by : (x : Bool) → going (c .halt) ≡ x → (y : Bool) → fitsBoard (c .counters .board) (length t + length u) ≡ y → Ready (pushWords b c kind number t u) (pushRun c (length t + length u))
     by true p true q =
-        let f = fits-facts (c .board) (length t + length u) q in
+        let f = fits-facts (c .counters .board) (length t + length u) q in
         rw (p, q) (record { board = laid-stacked (h .board) kind number t u (f .0) (f .1) n; numbers = h .numbers })
     by true p false q = rw (p, q) (record { board = h .board; numbers = h .numbers })
     by false p y q = rw p h
@@ -92,8 +92,8 @@ pub turn-push : {ls : List Triple} {b : List ℕ} {c : Run} (kind number : ℕ) 
     → Ready b c → Pushes b c kind number t u e b' r → Turn {A = ℕ} ls b c (λ f. push (e ls) (f 0)) b' r (λ f. f 0)
 turn-push {ls} {b} {c} kind number t u e {b'} {r} n h p = record {
   ready = pushed-ready kind number t u n h p;
-  taken = ap (λ (x : Run). x .taken) (p .0)
-      ∙ cond-ind (λ (x : Run). x .taken ≡ c .taken) (going (c .halt)) (λ _. cond-ind (λ (x : Run). x .taken ≡ c .taken) (fitsBoard (c .board) (length t + length u)) (λ _. refl) (λ _. refl)) (λ _. refl);
+  taken = ap (λ (x : Run). x .counters .taken) (p .0)
+      ∙ cond-ind (λ (x : Run). x .counters .taken ≡ c .counters .taken) (going (c .halt)) (λ _. cond-ind (λ (x : Run). x .counters .taken ≡ c .counters .taken) (fitsBoard (c .counters .board) (length t + length u)) (λ _. refl) (λ _. refl)) (λ _. refl);
   kept = λ k z. p .2 anyWay ls k [] z .kept;
   outcome = λ w k rep z f. ap (performC w ls (f 0)) (p .2 w ls k rep z .outcome);
 }

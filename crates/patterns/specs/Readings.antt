@@ -56,10 +56,10 @@ bodyOf first n nodes base = record { first = first; lines = n; at = n - nodes; c
 
 pub record Parting (b : List ℕ) (c : Run) (ls : List Triple) (first n count : ℕ) (t : Ty) (b' : List ℕ) (o : Parts) : Type 0 where
   pub nodes : o .nodes ≤ n
-  pub good : Good ls (bodyOf first n (o .nodes) (c .fresh))
-  pub arity : o .arity ≡ length (pendingOf ls (bodyOf first n (o .nodes) (c .fresh)))
+  pub good : Good ls (bodyOf first n (o .nodes) (c .counters .fresh))
+  pub arity : o .arity ≡ length (pendingOf ls (bodyOf first n (o .nodes) (c .counters .fresh)))
   pub turn : (E : Env)
-      → Turn {A = List Ty} ls b c (λ f. extractSignature (nodesOf (take n (drop first ls))) (patternParts E count t f)) b' (o .run) (λ f. f (pendingOf ls (bodyOf first n (o .nodes) (c .fresh))))
+      → Turn {A = List Ty} ls b c (λ f. extractSignature (nodesOf (take n (drop first ls))) (patternParts E count t f)) b' (o .run) (λ f. f (pendingOf ls (bodyOf first n (o .nodes) (c .counters .fresh))))
 
 -- one more frame, where r has parameters
 pub record Adds (w : List ℕ) (n : ℕ) (r : TypeRef) (arity : ℕ) (w' : List ℕ) (d : ℕ) : Type 0 where

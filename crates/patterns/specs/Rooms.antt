@@ -47,7 +47,7 @@ partsAnswer ls first n count want c =
     let t = nodesOf (take n (drop first ls)) in
     let q = length (frontNames t) in
     let m = n - q in
-    let u = rename (openedAt t (c .fresh)) (afterFront t) in
+    let u = rename (openedAt t (c .counters .fresh)) (afterFront t) in
     let arity = length (params m u) in
     record {
       run = arityRun (pushRun (namedRun q c) (length (result m u) + length (typeOf ls want))) arity count;
@@ -66,9 +66,9 @@ frameDepth n arity = cond (ltb 0 arity) (n + 1) n
 unfoldable pub constructorRooms : List Triple → ℕ → ℕ → TypeRef → Rooms → Found → Rooms
 constructorRooms ls x count want s (At line n) =
     let p = partsAnswer ls line n count want (s .run) in
-    let w = frameWords (s .frames) (s .depth) (bodyOf line n (p .nodes) (s .run .fresh)) (p .arity) in
+    let w = frameWords (s .frames) (s .depth) (bodyOf line n (p .nodes) (s .run .counters .fresh)) (p .arity) in
     rooms (p .run) w (frameDepth (s .depth) (p .arity)) (s .bindings) (s .bound)
-    (openedOut (nodesOf (take n (drop line ls))) (s .run .fresh) (s .left)) (instanceOut ls want (s .right))
+    (openedOut (nodesOf (take n (drop line ls))) (s .run .counters .fresh) (s .left)) (instanceOut ls want (s .right))
 constructorRooms ls x count want s Nothing =
     rooms (refusedRun (s .run) (UnboundDataConstructor x)) (s .frames) (s .depth) (s .bindings) (s .bound) (s .left) (s .right)
 

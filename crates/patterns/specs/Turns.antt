@@ -12,13 +12,13 @@ use Rattle.operations.specs.State.{cameTo, performC, WellFormed}
 
 -- what code that has no book asks of board and counters
 pub record Ready (b : List ℕ) (c : Run) : Type 0 where
-  pub board : Stacked b (c .board)
-  pub numbers : c .fresh ≤ mostNumbers
+  pub board : Stacked b (c .counters .board)
+  pub numbers : c .counters .fresh ≤ mostNumbers
 
 -- From p to q, whatever follows: performing q after is performing p before. It holds of a refused run whatever q is, since a refused outcome stays.
 pub record Turn {A : Type 0} (ls : List Triple) (b : List ℕ) (c : Run) (p : (A → Rule) → Rule) (b' : List ℕ) (r : Run) (q : (A → Rule) → Rule) : Type 0 where
   pub ready : Ready b' r
-  pub taken : r .taken ≡ c .taken
+  pub taken : r .counters .taken ≡ c .counters .taken
   pub kept : (k : List ℕ) → WellFormed b k c → WellFormed b' k r
   pub outcome : (w : Way) (k rep : List ℕ) → WellFormed b k c → (f : A → Rule)
       → performC w ls (q f) (cameTo ls b' k rep r) ≡ performC w ls (p f) (cameTo ls b k rep c)

@@ -60,7 +60,7 @@ fn pattern_parts(
     r: &mut [u32],
 ) -> Parts
     requires { ⌜ PartsAsk (now board) c (rows (now s)) first n count want (now l) (now r) ⌝ }
-    ensures { λ o. ⌜ Parting (now (board .entry)) c (rows (now (s .entry))) first n count (typeOf (rows (now (s .entry))) want) (now (board .exit)) o × (o ≡ partsAnswer (rows (now (s .entry))) first n count want c) × (now (l .exit) ≡ openedOut (nodesOf (take n (drop first (rows (now (s .entry)))))) (c .fresh) (now (l .entry))) × (now (r .exit) ≡ instanceOut (rows (now (s .entry))) want (now (r .entry))) ⌝ }
+    ensures { λ o. ⌜ Parting (now (board .entry)) c (rows (now (s .entry))) first n count (typeOf (rows (now (s .entry))) want) (now (board .exit)) o × (o ≡ partsAnswer (rows (now (s .entry))) first n count want c) × (now (l .exit) ≡ openedOut (nodesOf (take n (drop first (rows (now (s .entry)))))) (c .counters .fresh) (now (l .entry))) × (now (r .exit) ≡ instanceOut (rows (now (s .entry))) want (now (r .entry))) ⌝ }
 {
     let ra = 2 * want.at;
     let rn = want.count;
@@ -113,7 +113,7 @@ fn constructor_line(
 {
     match find_entry(s, 1, name) {
         Found::At { line, count: lines } => {
-            let base = wide(c.fresh);
+            let base = wide(c.counters.fresh);
             let o = pattern_parts(board, c, s, line, lines, count as usize, want, l, r);
             let run = o.run;
             let nodes = o.nodes;

@@ -89,7 +89,7 @@ module _ {m : ℕ} {s b k rep : List ℕ} {c : Run} {o : Top} {t l r w v : List 
       let z = within-board in
       (omega arith, omega arith)
 
-  two-sound : Sound (c .fresh) (nodesAt b (o .at) (o .left)) × Sound (c .fresh) (nodesAt b (o .at + 2 * o .left) (o .right)) → SubtypeAsk b k rep c (o .at) (o .left) (o .right) m
+  two-sound : Sound (c .counters .fresh) (nodesAt b (o .at) (o .left)) × Sound (c .counters .fresh) (nodesAt b (o .at + 2 * o .left) (o .right)) → SubtypeAsk b k rep c (o .at) (o .left) (o .right) m
   two-sound q = record {
     formed = a .formed;
     within = within-board;
@@ -101,14 +101,14 @@ module _ {m : ℕ} {s b k rep : List ℕ} {c : Run} {o : Top} {t l r w v : List 
   }
 
   pub subtype-asks : o .kind ≡ 3 → SubtypeAsk b k rep c (o .at) (o .left) (o .right) m
-  subtype-asks e = two-sound (subst (EntrySound (c .fresh)) (is-sub ls (o .number) _ _ (o .kind) e) (a .entry))
+  subtype-asks e = two-sound (subst (EntrySound (c .counters .fresh)) (is-sub ls (o .number) _ _ (o .kind) e) (a .entry))
 
   pub app-asks : o .kind ≡ 6 → SubtypeAsk b k rep c (o .at) (o .left) (o .right) m
-  app-asks e = two-sound (subst (EntrySound (c .fresh)) (is-app ls (o .number) _ _ (o .kind) e) (a .entry))
+  app-asks e = two-sound (subst (EntrySound (c .counters .fresh)) (is-app ls (o .number) _ _ (o .kind) e) (a .entry))
 
   pub infer-asks : o .kind ≡ 4 → (t' : List ℕ) → length t' ≡ length t → InferAsk b c s (o .number) t' (o .left) l
   infer-asks e t' q =
-      let h = subst (EntrySound (c .fresh)) (is-inf ls (o .number) _ _ (o .kind) e) (a .entry) in
+      let h = subst (EntrySound (c .counters .fresh)) (is-inf ls (o .number) _ _ (o .kind) e) (a .entry) in
       let n = read-few (a .plan) in
       record {
         formed = (k, a .formed);
@@ -124,7 +124,7 @@ module _ {m : ℕ} {s b k rep : List ℕ} {c : Run} {o : Top} {t l r w v : List 
 
   pub check-asks : o .kind ≡ 5 → (t' : List ℕ) → length t' ≡ length t → CheckAsk b c s (o .number) t' (o .left) l
   check-asks e t' q =
-      let h = subst (EntrySound (c .fresh)) (is-chk ls (o .number) _ _ (o .kind) e) (a .entry) in
+      let h = subst (EntrySound (c .counters .fresh)) (is-chk ls (o .number) _ _ (o .kind) e) (a .entry) in
       let n = read-few (a .plan) in
       let g = a .lent .left in
       record {
@@ -167,11 +167,11 @@ module _ {m : ℕ} {s b k rep : List ℕ} {c : Run} {o : Top} {t l r w v : List 
     unfolding judgedRoom
     inferred-room h q = rw h (ap₂ (λ (y : List ℕ) (z : Scratch). record { report = rep; type = y; scratch = z }) e (q ∙ ap (λ (X : Ty). inferScratch b c s (o .number) X (scratch l r w v)) same-type))
 
-    pub checked-room : o .kind ≡ 5 → {t″ l' : List ℕ} → t″ ≡ checkedType t' (c .fresh) (view (nodesAt t' 0 (o .left))) → l' ≡ checkedOut l (lambdaOf (termAt ls (o .number))) (view (nodesAt t' 0 (o .left)))
+    pub checked-room : o .kind ≡ 5 → {t″ l' : List ℕ} → t″ ≡ checkedType t' (c .counters .fresh) (view (nodesAt t' 0 (o .left))) → l' ≡ checkedOut l (lambdaOf (termAt ls (o .number))) (view (nodesAt t' 0 (o .left)))
         → room rep t″ l' r w v ≡ judgedRoom m s b k c o (room rep t l r w v)
     unfolding judgedRoom
     checked-room h p q = rw h (ap₂ (λ (y z : List ℕ). room rep y z r w v)
-        (p ∙ ap₂ (λ (y : List ℕ) (X : Ty). checkedType y (c .fresh) (view X)) e same-type)
+        (p ∙ ap₂ (λ (y : List ℕ) (X : Ty). checkedType y (c .counters .fresh) (view X)) e same-type)
         (q ∙ ap (λ (X : Ty). checkedOut l (lambdaOf (termAt ls (o .number))) (view X)) same-type))
 
     pub checked : (E : Env) {x : Way} {b' k' rep' : List ℕ} {q : Run} → o .kind ≡ 5 → Does x ls b k rep c (checkBy E (termAt ls (o .number)) (nodesAt t' 0 (o .left)) (view (nodesAt t' 0 (o .left)))) b' k' rep' q → Does x ls b k rep c (rule E (topEntry ls b o)) b' k' rep' q

@@ -21,13 +21,13 @@ use denote.Builtin.{u32, u64, usize}
 use denote.Slice.{MutSlice, ShrSlice, slice-vals, mut-slice-tells, shr-slice-tells}
 use denote.Struct.Laws as LL
 use denote.Triple.Clauses.{lasts}
-use Rattle.stepping.specs.declared.Counters.{Counters}
+use Rattle.operations.specs.declared.Counters.{Counters}
 use Rattle.stepping.specs.declared.Kept.{Kept}
 use Rattle.stepping.specs.declared.Stepped.{Stepped}
 use Rattle.stepping.specs.Rooms.{room}
-use Rattle.stepping.specs.Stepping.{joined, StepAsk, Stepping}
-use Rattle.stepping.proofs.Counters as C
-use Rattle.stepping.proofs.Counters.Laws as C′
+use Rattle.stepping.specs.Stepping.{runWith, StepAsk, Stepping}
+use Rattle.operations.proofs.Counters as C
+use Rattle.operations.proofs.Counters.Laws as C′
 use Rattle.stepping.proofs.Kept as K
 use Rattle.stepping.proofs.Kept.Laws as K′
 use Rattle.stepping.proofs.Stepped as S
@@ -59,13 +59,13 @@ Lists = List ℕ × (List ℕ × (List ℕ × (Unit {0} × (List ℕ × (List �
 
 -- ---- the contract, and what says the last lists
 abbrev pub Ask : Counters → Kept → Slices → Type 0
-Ask n k x = StepAsk (k .limit) (x .1 .1 .1 .0 .now) (x .0 .now) (x .1 .0 .now) (x .1 .1 .0 .now) (joined n k) (x .1 .1 .1 .1 .0 .now) (x .1 .1 .1 .1 .1 .0 .now) (x .1 .1 .1 .1 .1 .1 .0 .now) (x .1 .1 .1 .1 .1 .1 .1 .0 .now) (x .1 .1 .1 .1 .1 .1 .1 .1 .0 .now)
+Ask n k x = StepAsk (k .limit) (x .1 .1 .1 .0 .now) (x .0 .now) (x .1 .0 .now) (x .1 .1 .0 .now) (runWith n k) (x .1 .1 .1 .1 .0 .now) (x .1 .1 .1 .1 .1 .0 .now) (x .1 .1 .1 .1 .1 .1 .0 .now) (x .1 .1 .1 .1 .1 .1 .1 .0 .now) (x .1 .1 .1 .1 .1 .1 .1 .1 .0 .now)
 
 abbrev pub Says : Counters → Kept → Slices → Counters → Kept → Lists → Type 0
 Says n k x c d ws =
-    Stepping (k .strict) (k .limit) (x .1 .1 .1 .0 .now) (x .0 .now) (x .1 .0 .now) (joined n k)
+    Stepping (k .strict) (k .limit) (x .1 .1 .1 .0 .now) (x .0 .now) (x .1 .0 .now) (runWith n k)
     (room (x .1 .1 .0 .now) (x .1 .1 .1 .1 .0 .now) (x .1 .1 .1 .1 .1 .0 .now) (x .1 .1 .1 .1 .1 .1 .0 .now) (x .1 .1 .1 .1 .1 .1 .1 .0 .now) (x .1 .1 .1 .1 .1 .1 .1 .1 .0 .now))
-    (ws .0) (ws .1 .0) (joined c d)
+    (ws .0) (ws .1 .0) (runWith c d)
     (room (ws .1 .1 .0) (ws .1 .1 .1 .1 .0) (ws .1 .1 .1 .1 .1 .0) (ws .1 .1 .1 .1 .1 .1 .0) (ws .1 .1 .1 .1 .1 .1 .1 .0) (ws .1 .1 .1 .1 .1 .1 .1 .1 .0))
 
 abbrev pub Left : Lft → Counters → Kept → Slices → Lists → Fml

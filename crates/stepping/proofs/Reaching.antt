@@ -81,6 +81,6 @@ pub stands : (L : Limits) {s b k : List ℕ} (rep : List ℕ) {c : Run} {b' k' :
 stands L {s} {b} {k} rep {c} {b'} {k'} rep' {q} h f e =
     let p = planOf (rows s) in
     let w = read-whole (h .plan) in
-    let o = of-outcome ⊥ (q .halt) rep' (entriesOf (rows s) b' (q .board .entries)) (sols k') (q .fresh)
+    let o = of-outcome ⊥ (q .halt) rep' (entriesOf (rows s) b' (q .counters .board .entries)) (sols k') (q .counters .fresh)
     (subst⁻¹ (OutcomeOK ⊥) e (step-ok ⊥ L (envOn s) (plan-env p (read-good (h .plan))) (w .0) (outcomeOf (rows s) b k rep c) (to-outcome ⊥ (c .halt) rep _ _ _ (h .good)))) in
     record { plan = h .plan; formed = f; good = o }

@@ -31,17 +31,17 @@ top-few : {b : List ℕ} {d : Board} → Stacked b d → 0 < d .entries → topO
 unfolding topOf
 top-few h l = let x = top-size h l in let y = h .fewNodes in omega arith
 
-module _ {m : ℕ} {s b k rep : List ℕ} {c : Run} {t l r w v : List ℕ} (a : StepAsk m s b k rep c t l r w v) (strict : Bool) (o : Top) (e : o ≡ topOf b (c .board)) where
+module _ {m : ℕ} {s b k rep : List ℕ} {c : Run} {t l r w v : List ℕ} (a : StepAsk m s b k rep c t l r w v) (strict : Bool) (o : Top) (e : o ≡ topOf b (c .counters .board)) where
   abbrev ls : List Triple
   ls = rows s
 
   abbrev below : Entries
   below = entriesOf ls b (o .rest .entries)
 
-  abbrev st : Stacked b (c .board)
+  abbrev st : Stacked b (c .counters .board)
   st = a .standing .formed .board
 
-  entries-are : entriesOf ls b (c .board .entries) ≡ topEntry ls b o ∷ below
+  entries-are : entriesOf ls b (c .counters .board .entries) ≡ topEntry ls b o ∷ below
   entries-are = rw e (top-entries st (a .more) ls)
 
   formed-next : WellFormed b k (taking c o)
@@ -64,10 +64,10 @@ module _ {m : ℕ} {s b k rep : List ℕ} {c : Run} {t l r w v : List ℕ} (a : 
         report = a .report;
         lent = a .lent;
         entry =
-            let x = subst (All (EntryOK ⊥ (c .fresh))) entries-are (q .inv .entries) in
+            let x = subst (All (EntryOK ⊥ (c .counters .fresh))) entries-are (q .inv .entries) in
             let y = subst (All EntryWhole) entries-are (q .entries) in
-            entry-sound ⊥ (c .fresh) (topEntry ls b o) (x .0) (y .0);
-        solutions = solutions-sound ⊥ (c .fresh) (sols k) (q .inv .solutions) (q .solutions);
+            entry-sound ⊥ (c .counters .fresh) (topEntry ls b o) (x .0) (y .0);
+        solutions = solutions-sound ⊥ (c .counters .fresh) (sols k) (q .inv .solutions) (q .solutions);
       }
 
   pub step-reached : {b' k' : List ℕ} {q : Run} {x' : Room} → Does (wayIn strict m k) ls b k rep (taking c o) (rule (envOn s) (topEntry ls b o)) b' k' (x' .report) q × (x' ≡ judgedRoom m s b k (taking c o) o (room rep t l r w v))
@@ -79,10 +79,10 @@ module _ {m : ℕ} {s b k rep : List ℕ} {c : Run} {t l r w v : List ℕ} (a : 
       let g = a .goes in
       let n : Entry = topEntry ls b o in
       let σ = sols k in
-      let one : performO (limitsIn (wayIn strict m k)) (rule E n) (outcomeBy (c .halt) rep (state below σ (c .fresh))) ≡ stepO (limitsIn (wayIn strict m k)) E (outcomeBy (c .halt) rep (stateOf ls b k c))
-      = rw (g, entries-are) (performs (limitsIn (wayIn strict m k)) (rule E n) below σ (c .fresh)) in
-      let two : performL (limitsIn (wayIn strict m k)) (rule E n) (outcomeBy (c .halt) rep (state below σ (c .fresh))) (levelsOf k) ≡ stepL (limitsIn (wayIn strict m k)) E (outcomeBy (c .halt) rep (stateOf ls b k c)) (levelsOf k)
-      = rw (g, entries-are) (levels-performed (limitsIn (wayIn strict m k)) (rule E n) below σ (c .fresh) (levelsOf k)) in
+      let one : performO (limitsIn (wayIn strict m k)) (rule E n) (outcomeBy (c .halt) rep (state below σ (c .counters .fresh))) ≡ stepO (limitsIn (wayIn strict m k)) E (outcomeBy (c .halt) rep (stateOf ls b k c))
+      = rw (g, entries-are) (performs (limitsIn (wayIn strict m k)) (rule E n) below σ (c .counters .fresh)) in
+      let two : performL (limitsIn (wayIn strict m k)) (rule E n) (outcomeBy (c .halt) rep (state below σ (c .counters .fresh))) (levelsOf k) ≡ stepL (limitsIn (wayIn strict m k)) E (outcomeBy (c .halt) rep (stateOf ls b k c)) (levelsOf k)
+      = rw (g, entries-are) (levels-performed (limitsIn (wayIn strict m k)) (rule E n) below σ (c .counters .fresh) (levelsOf k)) in
       let f : outcomeOf ls b' k' rep' q ≡ stepO (limitsIn (wayIn strict m k)) E (outcomeOf ls b k rep c) = ap (λ (x : Came). x .outcome) (d .outcome) ∙ one in
       record {
         standing = stands (limitsIn (wayIn strict m k)) rep rep' (a .standing) (d .kept) f;

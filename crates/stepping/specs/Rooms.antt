@@ -54,7 +54,7 @@ module _ (m : ℕ) (s b k : List ℕ) (c : Run) (o : Top) where
   abbrev pub chkRoom : Room → Room
   chkRoom x = record {
     report = x .report;
-    type = checkedType (takenType x) (c .fresh) (view leftType);
+    type = checkedType (takenType x) (c .counters .fresh) (view leftType);
     scratch = withLeft (x .scratch) (checkedOut (x .scratch .left) (lambdaOf (termAt (rows s) (o .number))) (view leftType));
   }
 

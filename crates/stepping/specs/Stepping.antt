@@ -23,27 +23,18 @@ use Rattle.judgment.specs.Good.{StateOK}
 use Rattle.board.specs.declared.Top.{Top}
 use Rattle.board.specs.Board.{entryOf, entriesOf, topOf}
 use Rattle.book.specs.Book.{sols, levelsOf}
+use Rattle.operations.specs.declared.Counters.{Counters}
 use Rattle.operations.specs.declared.Run.{Run}
 use Rattle.operations.specs.State.{outcomeOf, WellFormed, going, performW, wayIn}
-use Rattle.stepping.specs.declared.Counters.{Counters}
 use Rattle.stepping.specs.declared.Kept.{Kept}
 use Rattle.subtyping.specs.Subtyping.{Sound}
 use Rattle.applying.specs.Applying.{envOn}
 use Rattle.inferring.specs.Inferring.{CaseRoom}
 use Rattle.stepping.specs.Rooms.{Room, judgedRoom}
 
--- ---- a run's counters, and what it has beside them
-abbrev pub joined : Counters → Kept → Run
-joined n k = record {
-  taken = n .taken;
-  fresh = n .fresh;
-  board = record { entries = n .entries; nodes = n .nodes };
-  book = k .book;
-  halt = k .halt;
-}
-
-abbrev pub countersOf : Run → Counters
-countersOf r = record { taken = r .taken; fresh = r .fresh; entries = r .board .entries; nodes = r .board .nodes }
+-- ---- what a run has beside its counters, and the run with these
+abbrev pub runWith : Counters → Kept → Run
+runWith n k = record { counters = n; book = k .book; halt = k .halt }
 
 abbrev pub keptOf : Run → ℕ → Bool → Kept
 keptOf r m strict = record { book = r .book; halt = r .halt; limit = m; strict = strict }
@@ -83,18 +74,18 @@ pub record JudgeAsk (m : ℕ) (s b k rep : List ℕ) (c : Run) (o : Top) (t l r 
   pub limit : m ≤ mostNodes
   pub report : 4 * m ≤ length rep
   pub lent : Lent s t l r w v
-  pub entry : EntrySound (c .fresh) (topEntry (rows s) b o)
-  pub solutions : All (λ x. Sound (c .fresh) (value x)) (sols k)
+  pub entry : EntrySound (c .counters .fresh) (topEntry (rows s) b o)
+  pub solutions : All (λ x. Sound (c .counters .fresh) (value x)) (sols k)
 
 -- what stands in the words is a good state
 pub record Standing (s b k : List ℕ) (c : Run) : Type 0 where
   pub plan : Read s
   pub formed : WellFormed b k c
-  pub good : StateOK ⊥ (entriesOf (rows s) b (c .board .entries)) (sols k) (c .fresh)
+  pub good : StateOK ⊥ (entriesOf (rows s) b (c .counters .board .entries)) (sols k) (c .counters .fresh)
 
 -- the run once its newest entry was taken
 abbrev pub taking : Run → Top → Run
-taking c o = record { taken = c .taken + 1; fresh = c .fresh; board = o .rest; book = c .book; halt = c .halt }
+taking c o = record { counters = record { taken = c .counters .taken + 1; fresh = c .counters .fresh; board = o .rest }; book = c .book; halt = c .halt }
 
 -- One step of the definition, by the strict call or the first, from the words before to those after; and every word after it: of board and book as the rule's operations leave them, of the report and the room
 -- (x and x' hold them before and after) as the taken entry has it.
@@ -102,15 +93,15 @@ pub record Stepping (strict : Bool) (m : ℕ) (s b k : List ℕ) (c : Run) (x : 
   pub standing : Standing s b' k' q
   pub outcome : outcomeOf (rows s) b' k' (x' .report) q ≡ stepO (limitsIn (wayIn strict m k)) (envOn s) (outcomeOf (rows s) b k (x .report) c)
   pub levels : levelsOf k' ≡ stepL (limitsIn (wayIn strict m k)) (envOn s) (outcomeOf (rows s) b k (x .report) c) (levelsOf k)
-  pub taken : q .taken ≡ c .taken + 1
-  pub words : record { board = b'; book = k'; run = q } ≡ performW (wayIn strict m k) (rows s) (rule (envOn s) (topEntry (rows s) b (topOf b (c .board)))) (record { board = b; book = k; run = taking c (topOf b (c .board)) })
-  pub room : x' ≡ judgedRoom m s b k (taking c (topOf b (c .board))) (topOf b (c .board)) x
+  pub taken : q .counters .taken ≡ c .counters .taken + 1
+  pub words : record { board = b'; book = k'; run = q } ≡ performW (wayIn strict m k) (rows s) (rule (envOn s) (topEntry (rows s) b (topOf b (c .counters .board)))) (record { board = b; book = k; run = taking c (topOf b (c .counters .board)) })
+  pub room : x' ≡ judgedRoom m s b k (taking c (topOf b (c .counters .board))) (topOf b (c .counters .board)) x
 
 pub record StepAsk (m : ℕ) (s b k rep : List ℕ) (c : Run) (t l r w v : List ℕ) : Type 0 where
   pub standing : Standing s b k c
   pub goes : going (c .halt) ≡ true
-  pub more : 0 < c .board .entries
-  pub counts : c .taken < 4294967295
+  pub more : 0 < c .counters .board .entries
+  pub counts : c .counters .taken < 4294967295
   pub limit : m ≤ mostNodes
   pub report : 4 * m ≤ length rep
   pub lent : Lent s t l r w v

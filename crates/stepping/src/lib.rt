@@ -5,26 +5,18 @@ ghost use Rattle.judgment.specs.Rules.{rule};
 ghost use Rattle.operations.specs.State.{Does, wayIn};
 ghost use Rattle.applying.specs.Applying.{envOn};
 ghost use Rattle.stepping.specs.Rooms.{room, judgedRoom};
-ghost use Rattle.stepping.specs.Stepping.{topEntry, JudgeAsk, Stepping, StepAsk, joined, countersOf, keptOf};
+ghost use Rattle.stepping.specs.Stepping.{topEntry, JudgeAsk, Stepping, StepAsk, runWith, keptOf};
 use applying::solve_inf_app;
-use board::Board;
 use board::Top;
 use board::pop;
 use book::Book;
 use checking::solve_checking;
 use inferring::solve_inference;
 use nodes::copy_nodes;
+use operations::Counters;
 use operations::Halt;
 use operations::Run;
 use subtyping::solve_subtype;
-
-// The counters of a run: entries taken, fresh numbers, the board's entries and their nodes. A step is lent them.
-pub struct Counters {
-    pub taken: u32,
-    pub fresh: u32,
-    pub entries: usize,
-    pub nodes: usize,
-}
 
 // What a run has beside its counters, the nodes that it writes out at most, and whether the strict call began it.
 struct Kept {
@@ -79,36 +71,6 @@ fn solve_judgment(
     c
 }
 
-// The run that counters and the rest make together.
-fn run_of(n: Counters, k: Kept) -> Run
-    ensures { λ r. ⌜ r ≡ joined n k ⌝ }
-{
-    let book = k.book;
-    let halt = k.halt;
-    Run {
-        taken: n.taken,
-        fresh: n.fresh,
-        board: Board {
-            entries: n.entries,
-            nodes: n.nodes,
-        },
-        book,
-        halt,
-    }
-}
-
-fn counters_of(run: Run) -> Counters
-    ensures { λ r. ⌜ r ≡ countersOf run ⌝ }
-{
-    let board = run.board;
-    Counters {
-        taken: run.taken,
-        fresh: run.fresh,
-        entries: board.entries,
-        nodes: board.nodes,
-    }
-}
-
 fn kept_of(run: Run, limit: usize, strict: bool) -> Kept
     ensures { λ r. ⌜ r ≡ keptOf run limit strict ⌝ }
 {
@@ -136,21 +98,19 @@ fn step_apart<'a>(
     w: &'a mut [usize],
     v: &'a mut [usize],
 ) -> Stepped
-    requires { ⌜ StepAsk (kept .limit) (now s) (now board) (now book) (now report) (joined c kept) (now t) (now l) (now r) (now w) (now v) ⌝ }
-    ensures { λ q. ⌜ Stepping (kept .strict) (kept .limit) (now (s .entry)) (now (board .entry)) (now (book .entry)) (joined c kept) (room (now (report .entry)) (now (t .entry)) (now (l .entry)) (now (r .entry)) (now (w .entry)) (now (v .entry))) (now (board .exit)) (now (book .exit)) (joined (q .counters) (q .kept)) (room (now (report .exit)) (now (t .exit)) (now (l .exit)) (now (r .exit)) (now (w .exit)) (now (v .exit))) ⌝ }
+    requires { ⌜ StepAsk (kept .limit) (now s) (now board) (now book) (now report) (runWith c kept) (now t) (now l) (now r) (now w) (now v) ⌝ }
+    ensures { λ q. ⌜ Stepping (kept .strict) (kept .limit) (now (s .entry)) (now (board .entry)) (now (book .entry)) (runWith c kept) (room (now (report .entry)) (now (t .entry)) (now (l .entry)) (now (r .entry)) (now (w .entry)) (now (v .entry))) (now (board .exit)) (now (book .exit)) (runWith (q .counters) (q .kept)) (room (now (report .exit)) (now (t .exit)) (now (l .exit)) (now (r .exit)) (now (w .exit)) (now (v .exit))) ⌝ }
 {
-    let b = Board {
-        entries: c.entries,
-        nodes: c.nodes,
-    };
+    let b = c.board;
     let o = pop(board, b);
     let rest = o.rest;
+    let mut counters = c;
+    counters.taken = c.taken + 1;
+    counters.board = rest;
     let solved = kept.book;
     let halt = kept.halt;
     let taken = Run {
-        taken: c.taken + 1,
-        fresh: c.fresh,
-        board: rest,
+        counters,
         book: solved,
         halt,
     };
@@ -169,9 +129,11 @@ fn step_apart<'a>(
         w,
         v,
     );
+    let after = q.counters;
+    let left = kept_of(q, kept.limit, kept.strict);
     Stepped {
-        counters: counters_of(q),
-        kept: kept_of(q, kept.limit, kept.strict),
+        counters: after,
+        kept: left,
     }
 }
 
@@ -189,8 +151,8 @@ fn step_lent<'c, 'a>(
     w: &'a mut [usize],
     v: &'a mut [usize],
 ) -> Kept
-    requires { ⌜ StepAsk (kept .limit) (now s) (now board) (now book) (now report) (joined (now c) kept) (now t) (now l) (now r) (now w) (now v) ⌝ }
-    ensures { λ q. ⌜ Stepping (kept .strict) (kept .limit) (now (s .entry)) (now (board .entry)) (now (book .entry)) (joined (now (c .entry)) kept) (room (now (report .entry)) (now (t .entry)) (now (l .entry)) (now (r .entry)) (now (w .entry)) (now (v .entry))) (now (board .exit)) (now (book .exit)) (joined (now (c .exit)) q) (room (now (report .exit)) (now (t .exit)) (now (l .exit)) (now (r .exit)) (now (w .exit)) (now (v .exit))) ⌝ }
+    requires { ⌜ StepAsk (kept .limit) (now s) (now board) (now book) (now report) (runWith (now c) kept) (now t) (now l) (now r) (now w) (now v) ⌝ }
+    ensures { λ q. ⌜ Stepping (kept .strict) (kept .limit) (now (s .entry)) (now (board .entry)) (now (book .entry)) (runWith (now (c .entry)) kept) (room (now (report .entry)) (now (t .entry)) (now (l .entry)) (now (r .entry)) (now (w .entry)) (now (v .entry))) (now (board .exit)) (now (book .exit)) (runWith (now (c .exit)) q) (room (now (report .exit)) (now (t .exit)) (now (l .exit)) (now (r .exit)) (now (w .exit)) (now (v .exit))) ⌝ }
 {
     let q = step_apart(*c, kept, board, book, report, s, t, l, r, w, v);
     *c = q.counters;
@@ -211,8 +173,8 @@ fn lend_step<'a>(
     w: &'a mut [usize],
     v: &'a mut [usize],
 ) -> Stepped
-    requires { ⌜ StepAsk (kept .limit) (now s) (now board) (now book) (now report) (joined c kept) (now t) (now l) (now r) (now w) (now v) ⌝ }
-    ensures { λ q. ⌜ Stepping (kept .strict) (kept .limit) (now (s .entry)) (now (board .entry)) (now (book .entry)) (joined c kept) (room (now (report .entry)) (now (t .entry)) (now (l .entry)) (now (r .entry)) (now (w .entry)) (now (v .entry))) (now (board .exit)) (now (book .exit)) (joined (q .counters) (q .kept)) (room (now (report .exit)) (now (t .exit)) (now (l .exit)) (now (r .exit)) (now (w .exit)) (now (v .exit))) ⌝ }
+    requires { ⌜ StepAsk (kept .limit) (now s) (now board) (now book) (now report) (runWith c kept) (now t) (now l) (now r) (now w) (now v) ⌝ }
+    ensures { λ q. ⌜ Stepping (kept .strict) (kept .limit) (now (s .entry)) (now (board .entry)) (now (book .entry)) (runWith c kept) (room (now (report .entry)) (now (t .entry)) (now (l .entry)) (now (r .entry)) (now (w .entry)) (now (v .entry))) (now (board .exit)) (now (book .exit)) (runWith (q .counters) (q .kept)) (room (now (report .exit)) (now (t .exit)) (now (l .exit)) (now (r .exit)) (now (w .exit)) (now (v .exit))) ⌝ }
 {
     let mut mine = c;
     let k = step_lent(&mut mine, kept, board, book, report, s, t, l, r, w, v);
@@ -240,10 +202,16 @@ pub fn solve_step(
     requires { ⌜ StepAsk limit (now s) (now board) (now book) (now report) c (now t) (now l) (now r) (now w) (now v) ⌝ }
     ensures { λ q. ⌜ Stepping strict limit (now (s .entry)) (now (board .entry)) (now (book .entry)) c (room (now (report .entry)) (now (t .entry)) (now (l .entry)) (now (r .entry)) (now (w .entry)) (now (v .entry))) (now (board .exit)) (now (book .exit)) q (room (now (report .exit)) (now (t .exit)) (now (l .exit)) (now (r .exit)) (now (w .exit)) (now (v .exit))) ⌝ }
 {
-    let counters = counters_of(c);
+    let counters = c.counters;
     let kept = kept_of(c, limit, strict);
     let q = lend_step(counters, kept, board, book, report, s, t, l, r, w, v);
-    let n = q.counters;
-    let k = q.kept;
-    run_of(n, k)
+    let after = q.counters;
+    let left = q.kept;
+    let solved = left.book;
+    let halt = left.halt;
+    Run {
+        counters: after,
+        book: solved,
+        halt,
+    }
 }

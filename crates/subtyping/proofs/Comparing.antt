@@ -57,8 +57,8 @@ zonk-fits : {w : Way} {ls : List Triple} {b k rep : List ℕ} {c : Run} {b' k' r
 zonk-fits {w} {ls} {b} {k} {rep} {c} {t = t} {f = f} g few h = record {
   kept = h .kept;
   taken = h .taken;
-  outcome = h .outcome ∙ came (fits-out w (c .halt) g rep (entriesOf ls b (c .board .entries)) (sols k) (c .fresh) t f few) (fits-words w ls b k c g t f few)
-      (fits-levels w (c .halt) g rep (entriesOf ls b (c .board .entries)) (sols k) (c .fresh) t f (levelsOf k) few);
+  outcome = h .outcome ∙ came (fits-out w (c .halt) g rep (entriesOf ls b (c .counters .board .entries)) (sols k) (c .counters .fresh) t f few) (fits-words w ls b k c g t f few)
+      (fits-levels w (c .halt) g rep (entriesOf ls b (c .counters .board .entries)) (sols k) (c .counters .fresh) t f (levelsOf k) few);
 }
 
 module _ {b k rep : List ℕ} {c : Run} {at ln rn w : ℕ} (p : SubtypeAsk b k rep c at ln rn w) where

@@ -75,7 +75,7 @@ module _ {b k rep : List ℕ} {c : Run} {x at n : ℕ} (a : InstAsk b k rep c x 
   reach-solves e =
       let y : ℕ = getD rep (at + 1) 0 in
       let q = unknown-is rep at n (a .some) e in
-      let m = subst (All (Made (c .fresh))) q (a .solves .older) in
+      let m = subst (All (Made (c .counters .fresh))) q (a .solves .older) in
       let f = subst (All (Free (x ∷ solvedUnknowns (sols k)))) q (a .solves .free) in
       let z : eqb y x ≡ false = ne-eqb y x (λ i. eqb-false x y (f .0 .0) (sym i)) in
       record { made = m .0 refl; unsolved = f .0 .1; free = ((z, a .solves .unsolved), tt); older = (λ _. a .solves .made, tt) }
@@ -97,7 +97,7 @@ module _ {b k rep : List ℕ} {c : Run} {x at n : ℕ} (a : InstAsk b k rep c x 
     pub by-app : s ≡ 2 → splitBy 15 x (sideOf d) (sideOf d) body ≡ instantiate (sideOf d) x T
     by-app h = inst-app d x T body (app-view rep at n (sym e ∙ h))
 
-    pub by-unknown : s ≡ 4 → {w : Way} {ls : List Triple} {b₁ k₁ rep₁ : List ℕ} {c₁ : Run} {o p : Bool} → o ≡ before x y (entriesOf ls b (c .board .entries)) → o ≡ p
+    pub by-unknown : s ≡ 4 → {w : Way} {ls : List Triple} {b₁ k₁ rep₁ : List ℕ} {c₁ : Run} {o p : Bool} → o ≡ before x y (entriesOf ls b (c .counters .board .entries)) → o ≡ p
         → Does w ls b k rep c (cond p (solve y (unknown x) done) (solveMonotype x T)) b₁ k₁ rep₁ c₁ → Does w ls b k rep c (instantiate (sideOf d) x T) b₁ k₁ rep₁ c₁
     by-unknown h f q D =
         does-as (λ _. inst-unknown d x T y (unknown-view rep at n (sym e ∙ h)))

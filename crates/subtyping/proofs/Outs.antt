@@ -35,17 +35,17 @@ some-node : (t : Ty) → Whole nodeParts t 1 → 0 < length t
 some-node [] h = absurd (let z : 1 ≡ 0 = h in omega arith)
 some-node (n ∷ t) h = omega arith
 
-pub written-out : {b k : List ℕ} {c : Run} → WellFormed b k c → (n : ℕ) → n ≤ c .fresh → All (λ (x : Solution). Sound n (value x)) (sols k) → (s t : Ty) → Sound n s
+pub written-out : {b k : List ℕ} {c : Run} → WellFormed b k c → (n : ℕ) → n ≤ c .counters .fresh → All (λ (x : Solution). Sound n (value x)) (sols k) → (s t : Ty) → Sound n s
     → t ≡ writeOut (sols k) s → length t ≤ mostNodes → Written k c t
 written-out {b} {k} {c} f n l h s t a e few = record {
   some = subst⁻¹ (λ (x : Ty). 0 < length x) e (some-node (writeOut (sols k) s) (written-whole (sols k) s (all-map (λ x q. q .whole) (sols k) h) (a .whole)));
   few = few;
   free = subst⁻¹ (All _) e (written-is-free (sols k) (f .book .fine) s);
-  made = subst⁻¹ (All (Made (c .fresh))) e
-      (all-written (Made (c .fresh)) (sols k) s (all-map (λ x q. all-map (λ y m. later y m) (value x) (q .made)) (sols k) h) (all-map (λ y m. later y m) s (a .made)));
+  made = subst⁻¹ (All (Made (c .counters .fresh))) e
+      (all-written (Made (c .counters .fresh)) (sols k) s (all-map (λ x q. all-map (λ y m. later y m) (value x) (q .made)) (sols k) h) (all-map (λ y m. later y m) s (a .made)));
 }
   where
-    later : (y : Node) → Made n y → Made (c .fresh) y
+    later : (y : Node) → Made n y → Made (c .counters .fresh) y
     later y m = λ z. le-trans (m z) l
 
 -- ---- two types of the board written out, one after the other, as Sub and InfApp do
@@ -105,7 +105,7 @@ module _ {b k rep : List ℕ} {c : Run} {at fn tn w : ℕ} (p : SubtypeAsk b k r
 
       pub both-asks : going (y .run .halt) ≡ true → SubAsk b k rep₂ (y .run) (z .nodes) (y .nodes)
       both-asks g =
-          let later : c .fresh ≤ y .run .fresh = let m = grows (D₁ all []) in let n = grows (D₂ all []) in omega arith in
+          let later : c .counters .fresh ≤ y .run .counters .fresh = let m = grows (D₁ all []) in let n = grows (D₂ all []) in omega arith in
           let lim = p .limit in
           let l₁ : length F ≤ mostNodes = let s = few₁ in omega (arith, length-nodesAt rep₂ 0 (z .nodes)) in
           let l₂ : length T ≤ mostNodes = let s = zonk-few (z .run) (writeOut (sols k) t) (z .nodes) w e₂ in omega (arith, length-nodesAt rep₂ (2 * z .nodes) (y .nodes)) in
@@ -113,8 +113,8 @@ module _ {b k rep : List ℕ} {c : Run} {at fn tn w : ℕ} (p : SubtypeAsk b k r
             formed = D₂ all [] .kept;
             goes = g;
             within = Z₂ .within;
-            left = written-out (D₂ all [] .kept) (c .fresh) later (p .solutions) f F (p .left) (outs g .0) l₁;
-            right = written-out (D₂ all [] .kept) (c .fresh) later (p .solutions) t T (p .right) (outs g .1) l₂;
+            left = written-out (D₂ all [] .kept) (c .counters .fresh) later (p .solutions) f F (p .left) (outs g .0) l₁;
+            right = written-out (D₂ all [] .kept) (c .counters .fresh) later (p .solutions) t T (p .right) (outs g .1) l₂;
           }
 
       -- types that differ stand in the report as types that differ
@@ -138,20 +138,20 @@ module _ {b k rep : List ℕ} {c : Run} {at fn tn w : ℕ} (p : SubtypeAsk b k r
             ap₂ (λ (x : Bool) (o : List ℕ). cond x (G o) o) (sym h ∙ ap (λ (v : Zonked). going (v .run .halt)) (e₂ ∙ ap (λ (v : Zonked). zonkRun (v .run) (writeOut (sols k) t) (v .nodes) w) e₁))
             (q ∙ ap₂ (λ (x : List ℕ) (v : Zonked). zonkWords x (v .run) (writeOut (sols k) t) (v .nodes) w) q₁ e₁)
 
-        fresh-is : y .run .fresh ≡ c .fresh
+        fresh-is : y .run .counters .fresh ≡ c .counters .fresh
         fresh-is =
-            ap (λ (v : Zonked). v .run .fresh) e₂ ∙ zonk-fresh (z .run) (writeOut (sols k) t) (z .nodes) w
-            ∙ ap (λ (v : Zonked). v .run .fresh) e₁ ∙ zonk-fresh c (writeOut (sols k) f) 0 w
+            ap (λ (v : Zonked). v .run .counters .fresh) e₂ ∙ zonk-fresh (z .run) (writeOut (sols k) t) (z .nodes) w
+            ∙ ap (λ (v : Zonked). v .run .counters .fresh) e₁ ∙ zonk-fresh c (writeOut (sols k) f) 0 w
 
-        pub report-then : (G : ℕ → Ty → Ty → List ℕ → List ℕ) → going (y .run .halt) ≡ true → {rep' : List ℕ} → rep' ≡ G (y .run .fresh) F T rep₂
-            → rep' ≡ twiceReport rep c (writeOut (sols k) f) (writeOut (sols k) t) w (G (c .fresh) (writeOut (sols k) f) (writeOut (sols k) t))
+        pub report-then : (G : ℕ → Ty → Ty → List ℕ → List ℕ) → going (y .run .halt) ≡ true → {rep' : List ℕ} → rep' ≡ G (y .run .counters .fresh) F T rep₂
+            → rep' ≡ twiceReport rep c (writeOut (sols k) f) (writeOut (sols k) t) w (G (c .counters .fresh) (writeOut (sols k) f) (writeOut (sols k) t))
         report-then G g e =
-            e ∙ ap (λ (n : ℕ). G n F T rep₂) fresh-is ∙ ap₂ (λ (l r : Ty). G (c .fresh) l r rep₂) (outs g .0) (outs g .1)
-            ∙ twice-report g (G (c .fresh) (writeOut (sols k) f) (writeOut (sols k) t))
+            e ∙ ap (λ (n : ℕ). G n F T rep₂) fresh-is ∙ ap₂ (λ (l r : Ty). G (c .counters .fresh) l r rep₂) (outs g .0) (outs g .1)
+            ∙ twice-report g (G (c .counters .fresh) (writeOut (sols k) f) (writeOut (sols k) t))
 
         pub report-stays : (G : ℕ → Ty → Ty → List ℕ → List ℕ) → going (y .run .halt) ≡ false
-            → rep₂ ≡ twiceReport rep c (writeOut (sols k) f) (writeOut (sols k) t) w (G (c .fresh) (writeOut (sols k) f) (writeOut (sols k) t))
-        report-stays G g = twice-report g (G (c .fresh) (writeOut (sols k) f) (writeOut (sols k) t))
+            → rep₂ ≡ twiceReport rep c (writeOut (sols k) f) (writeOut (sols k) t) w (G (c .counters .fresh) (writeOut (sols k) f) (writeOut (sols k) t))
+        report-stays G g = twice-report g (G (c .counters .fresh) (writeOut (sols k) f) (writeOut (sols k) t))
 
 -- ---- Sub on its two written-out types
 abbrev pub writtenSub : Ty → Ty → Rule

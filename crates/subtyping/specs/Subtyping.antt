@@ -116,7 +116,7 @@ twiceReport rep c l r w f =
 
 -- Sub of types that are l and r when written out, and differ
 abbrev pub differReport : List ℕ → Run → Ty → Ty → ℕ → List ℕ
-differReport rep c l r w = twiceReport rep c l r w (λ out. shapesReport out (c .fresh) l r (view r))
+differReport rep c l r w = twiceReport rep c l r w (λ out. shapesReport out (c .counters .fresh) l r (view r))
 
 -- Sub of types that are l and r when written out: where no node differs, up to one more than the limit, nothing is written
 abbrev pub subtypeReport : List ℕ → Run → Ty → Ty → ℕ → List ℕ
@@ -129,13 +129,13 @@ pub record SplitAsk (b k : List ℕ) (c : Run) (kind x : ℕ) (t : List ℕ) (at
   pub pair : (kind ≢ 17) × (kind ≢ 18)
   pub within : at + 2 * n ≤ length t
   pub few : n ≤ mostNodes
-  pub known : x < c .fresh
+  pub known : x < c .counters .fresh
   pub unsolved : Free (solvedUnknowns (sols k)) (node 17 x)
 
 -- A solution for x, the n nodes at word `at` of the report.
 pub record MonoAsk (k rep : List ℕ) (c : Run) (x at n : ℕ) : Type 0 where
   pub book : Booked k (c .book)
-  pub numbers : c .fresh ≤ mostNumbers
+  pub numbers : c .counters .fresh ≤ mostNumbers
   pub goes : going (c .halt) ≡ true
   pub within : at + 2 * n ≤ length rep
   pub some : 0 < n
@@ -157,7 +157,7 @@ pub record Written (k : List ℕ) (c : Run) (t : Ty) : Type 0 where
   pub some : 0 < length t
   pub few : length t ≤ mostNodes
   pub free : All (Free (solvedUnknowns (sols k))) t
-  pub made : All (Made (c .fresh)) t
+  pub made : All (Made (c .counters .fresh)) t
 
 -- Two written-out types, one after the other in the report.
 pub record SubAsk (b k rep : List ℕ) (c : Run) (l r : ℕ) : Type 0 where
@@ -194,6 +194,6 @@ pub record SubtypeAsk (b k rep : List ℕ) (c : Run) (at ln rn w : ℕ) : Type 0
   pub within : at + 2 * (ln + rn) ≤ length b
   pub limit : w ≤ mostNodes
   pub report : 4 * w ≤ length rep
-  pub left : Sound (c .fresh) (nodesAt b at ln)
-  pub right : Sound (c .fresh) (nodesAt b (at + 2 * ln) rn)
-  pub solutions : All (λ x. Sound (c .fresh) (value x)) (sols k)
+  pub left : Sound (c .counters .fresh) (nodesAt b at ln)
+  pub right : Sound (c .counters .fresh) (nodesAt b (at + 2 * ln) rn)
+  pub solutions : All (λ x. Sound (c .counters .fresh) (value x)) (sols k)

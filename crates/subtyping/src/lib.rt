@@ -86,7 +86,7 @@ pub fn shape(t: &[u32], at: usize, n: usize) -> u32
 
 // The comparison of an unknown, on its side, with a type.
 fn push_on(board: &mut [u32], c: Run, left: bool, u: &[u32], t: &[u32], at: usize, n: usize) -> Run
-    requires { ⌜ Stacked (now board) (c .board) × (2 ≤ length (now u)) × (at + 2 * n ≤ length (now t)) ⌝ }
+    requires { ⌜ Stacked (now board) (c .counters .board) × (2 ≤ length (now u)) × (at + 2 * n ≤ length (now t)) ⌝ }
     ensures { λ r. ⌜ PerformsOnBoard (now (board .entry)) c (λ ls. pushRule (onSide (sideOf left) (nodesAt (now (u .entry)) 0 1) (nodesAt (now (t .entry)) at n)) done) (now (board .exit)) r ⌝ }
 {
     if left {
@@ -114,9 +114,9 @@ fn split(
     let m = first_part(t, at, n);
     let next = at + 2 * m;
     let more = n - m;
-    let a = c.fresh;
+    let a = c.counters.fresh;
     let c1 = fresh_part(book, c, x);
-    let b = c1.fresh;
+    let b = c1.counters.fresh;
     let c2 = fresh_part(book, c1, x);
     let pair = [kind, 0, 17, a, 17, b];
     let c3 = solve_evar(book, c2, x, &pair, 0, 3);
@@ -188,7 +188,7 @@ fn instantiate(
     }
     if s == UNKNOWN {
         let y = report[at + 1];
-        let b = c.board;
+        let b = c.counters.board;
         if before(board, b, x, y) {
             let key = [17u32, x];
             return solve_evar(book, c, y, &key, 0, 1);
@@ -268,13 +268,13 @@ fn open_right(
     r: usize,
 ) -> Run
     requires { ⌜ OpenAsk (now board) (now report) c l r × WellFormed (now board) (now book) c × (0 < r) ⌝ }
-    ensures { λ o. ⌜ ((w : Way) (ls : List Triple) → Does w ls (now (board .entry)) (now (book .entry)) (now (report .entry)) c (forallRight (nodesAt (now (report .entry)) 0 l) (nodesAt (now (report .entry)) (2 * l) r) (getD (now (report .entry)) (2 * l + 1) 0) (nodesAt (now (report .entry)) (2 * l + 2) (r - 1))) (now (board .exit)) (now (book .exit)) (now (report .exit)) o) × (now (report .exit) ≡ openedAt (now (report .entry)) (2 * l + 2) (getD (now (report .entry)) (2 * l + 1) 0) (node 18 (c .fresh)) (nodesAt (now (report .entry)) (2 * l + 2) (r - 1))) ⌝ }
+    ensures { λ o. ⌜ ((w : Way) (ls : List Triple) → Does w ls (now (board .entry)) (now (book .entry)) (now (report .entry)) c (forallRight (nodesAt (now (report .entry)) 0 l) (nodesAt (now (report .entry)) (2 * l) r) (getD (now (report .entry)) (2 * l + 1) 0) (nodesAt (now (report .entry)) (2 * l + 2) (r - 1))) (now (board .exit)) (now (book .exit)) (now (report .exit)) o) × (now (report .exit) ≡ openedAt (now (report .entry)) (2 * l + 2) (getD (now (report .entry)) (2 * l + 1) 0) (node 18 (c .counters .fresh)) (nodesAt (now (report .entry)) (2 * l + 2) (r - 1))) ⌝ }
 {
     let head = 2 * l;
     let at = head + 2;
     let name = report[head + 1];
     let m = r - 1;
-    let u = c.fresh;
+    let u = c.counters.fresh;
     substitute_type(report, at, m, name, 18, u);
     let c1 = fresh_universal(book, c);
     let c2 = push_tvar(board, c1, 18, u);
@@ -284,12 +284,12 @@ fn open_right(
 // A quantifier on the left: its name is replaced by a fresh unknown, after its marker.
 fn open_left(board: &mut [u32], report: &mut [u32], c: Run, l: usize, r: usize) -> Run
     requires { ⌜ OpenAsk (now board) (now report) c l r × (0 < l) ⌝ }
-    ensures { λ o. ⌜ ((w : Way) (ls : List Triple) (k : List ℕ) → WellFormed (now (board .entry)) k c → Does w ls (now (board .entry)) k (now (report .entry)) c (forallLeft (nodesAt (now (report .entry)) 0 l) (nodesAt (now (report .entry)) (2 * l) r) (getD (now (report .entry)) 1 0) (nodesAt (now (report .entry)) 2 (l - 1))) (now (board .exit)) k (now (report .exit)) o) × (now (report .exit) ≡ openedAt (now (report .entry)) 2 (getD (now (report .entry)) 1 0) (node 17 (c .fresh)) (nodesAt (now (report .entry)) 2 (l - 1))) ⌝ }
+    ensures { λ o. ⌜ ((w : Way) (ls : List Triple) (k : List ℕ) → WellFormed (now (board .entry)) k c → Does w ls (now (board .entry)) k (now (report .entry)) c (forallLeft (nodesAt (now (report .entry)) 0 l) (nodesAt (now (report .entry)) (2 * l) r) (getD (now (report .entry)) 1 0) (nodesAt (now (report .entry)) 2 (l - 1))) (now (board .exit)) k (now (report .exit)) o) × (now (report .exit) ≡ openedAt (now (report .entry)) 2 (getD (now (report .entry)) 1 0) (node 17 (c .counters .fresh)) (nodesAt (now (report .entry)) 2 (l - 1))) ⌝ }
 {
     let name = report[1];
     let m = l - 1;
     let right = 2 * l;
-    let u = c.fresh;
+    let u = c.counters.fresh;
     substitute_type(report, 2, m, name, 17, u);
     let c1 = fresh_evar(c);
     let c2 = push_tvar(board, c1, 17, u);
@@ -353,7 +353,7 @@ fn subtype_shapes(
     r: usize,
 ) -> Run
     requires { ⌜ SubAsk (now board) (now book) (now report) c l r ⌝ }
-    ensures { λ o. ⌜ ((m : ℕ) (ls : List Triple) → Does (wayIn strict m (now (book .entry))) ls (now (board .entry)) (now (book .entry)) (now (report .entry)) c (subtypeBy (nodesAt (now (report .entry)) 0 l) (nodesAt (now (report .entry)) (2 * l) r) (view (nodesAt (now (report .entry)) 0 l)) (view (nodesAt (now (report .entry)) (2 * l) r))) (now (board .exit)) (now (book .exit)) (now (report .exit)) o) × (now (report .exit) ≡ shapesReport (now (report .entry)) (c .fresh) (nodesAt (now (report .entry)) 0 l) (nodesAt (now (report .entry)) (2 * l) r) (view (nodesAt (now (report .entry)) (2 * l) r))) ⌝ }
+    ensures { λ o. ⌜ ((m : ℕ) (ls : List Triple) → Does (wayIn strict m (now (book .entry))) ls (now (board .entry)) (now (book .entry)) (now (report .entry)) c (subtypeBy (nodesAt (now (report .entry)) 0 l) (nodesAt (now (report .entry)) (2 * l) r) (view (nodesAt (now (report .entry)) 0 l)) (view (nodesAt (now (report .entry)) (2 * l) r))) (now (board .exit)) (now (book .exit)) (now (report .exit)) o) × (now (report .exit) ≡ shapesReport (now (report .entry)) (c .counters .fresh) (nodesAt (now (report .entry)) 0 l) (nodesAt (now (report .entry)) (2 * l) r) (view (nodesAt (now (report .entry)) (2 * l) r))) ⌝ }
 {
     let right = 2 * l;
     let body = right + 2;

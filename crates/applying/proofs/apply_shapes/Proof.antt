@@ -69,7 +69,7 @@ returns c =
     let v = arrow-view P 0 (a .f) (sym es ∙ c .before .before .before .before .before .before .before .if1 .taken) in
     let e1 = first-nodes P 2 (a .f - 1) (c .before .before .before .before .before .first-part .result) (c .before .before .before .before .before .first-part .ensures) in
     let e2 = rest-nodes P 2 (a .f - 1) (c .before .before .before .before .before .first-part .result) (c .before .before .before .before .before .first-part .ensures) in
-    (λ (w : Way) (ls : List Triple) (E : Env) (sc : Scoped w). does-as (λ _. ap (applyBy E F (termAt ls (a .line)) C) (ap₂ isArrow e1 e2 ∙ sym v)) (c .before .before .apply-arrow .ensures E F w ls _ P (c .before .before .before .before .before .before .before .before .before .before .before .before .before .pre .formed)), report-stays (c .before .before .before .before .before .before .before .before .before .before .before .before .before .pre) es (a .c .fresh) (λ z. omega (arith, c .before .before .before .before .before .before .before .if1 .taken)))
+    (λ (w : Way) (ls : List Triple) (E : Env) (sc : Scoped w). does-as (λ _. ap (applyBy E F (termAt ls (a .line)) C) (ap₂ isArrow e1 e2 ∙ sym v)) (c .before .before .apply-arrow .ensures E F w ls _ P (c .before .before .before .before .before .before .before .before .before .before .before .before .before .pre .formed)), report-stays (c .before .before .before .before .before .before .before .before .before .before .before .before .before .pre) es (a .c .counters .fresh) (λ z. omega (arith, c .before .before .before .before .before .before .before .if1 .taken)))
 
 slice-read-name : tie.Need-slice-read-name
 slice-read-name c =
@@ -98,7 +98,7 @@ returns-2 c =
     let C : Ty = nodesAt P (2 * a .f) (a .n) in
     let es : c .before .before .before .before .before .before .before .before .before .before .shape .result ≡ shapeOf (view F) = c .before .before .before .before .before .before .before .before .before .before .shape .ensures in
     let v = forall-view P 0 (a .f) (sym es ∙ c .before .before .before .before .before .before .before .before .if2 .taken) in
-    (λ (w : Way) (ls : List Triple) (E : Env) (sc : Scoped w). report-free (c .before .before .before .before .before .before .before .before .before .before .before .before .before .before .before .pre .goes) (does-as (λ _. ap (applyBy E F (termAt ls (a .line)) C) (sym v)) (c .before .before .before .before .apply-forall .ensures .1 E F w ls _ _ (c .before .before .before .before .before .before .before .before .before .before .before .before .before .before .before .pre .formed))), c .before .before .before .before .apply-forall .ensures .0 ∙ report-opened (c .before .before .before .before .before .before .before .before .before .before .before .before .before .before .before .pre) es (a .c .fresh) (c .before .before .before .before .before .before .before .before .if2 .taken))
+    (λ (w : Way) (ls : List Triple) (E : Env) (sc : Scoped w). report-free (c .before .before .before .before .before .before .before .before .before .before .before .before .before .before .before .pre .goes) (does-as (λ _. ap (applyBy E F (termAt ls (a .line)) C) (sym v)) (c .before .before .before .before .apply-forall .ensures .1 E F w ls _ _ (c .before .before .before .before .before .before .before .before .before .before .before .before .before .before .before .pre .formed))), c .before .before .before .before .apply-forall .ensures .0 ∙ report-opened (c .before .before .before .before .before .before .before .before .before .before .before .before .before .before .before .pre) es (a .c .counters .fresh) (c .before .before .before .before .before .before .before .before .if2 .taken))
 
 slice-read-x : tie.Need-slice-read-x
 slice-read-x c =
@@ -124,7 +124,7 @@ returns-3 c =
     let C : Ty = nodesAt P (2 * a .f) (a .n) in
     let es : c .before .before .before .before .before .before .before .before .before .before .before .before .shape .result ≡ shapeOf (view F) = c .before .before .before .before .before .before .before .before .before .before .before .before .shape .ensures in
     let v = unknown-view P 0 (a .f) (sym es ∙ c .before .before .before .before .before .before .before .before .before .if3 .taken) in
-    (λ (w : Way) (ls : List Triple) (E : Env) (sc : Scoped w). does-as (λ _. ap (applyBy E F (termAt ls (a .line)) C) (sym v)) (c .before .before .before .before .apply-unknown .ensures w ls E F P sc), report-stays (c .before .before .before .before .before .before .before .before .before .before .before .before .before .before .before .before .before .pre) es (a .c .fresh) (λ z. omega (arith, c .before .before .before .before .before .before .before .before .before .if3 .taken)))
+    (λ (w : Way) (ls : List Triple) (E : Env) (sc : Scoped w). does-as (λ _. ap (applyBy E F (termAt ls (a .line)) C) (sym v)) (c .before .before .before .before .apply-unknown .ensures w ls E F P sc), report-stays (c .before .before .before .before .before .before .before .before .before .before .before .before .before .before .before .before .before .pre) es (a .c .counters .fresh) (λ z. omega (arith, c .before .before .before .before .before .before .before .before .before .if3 .taken)))
 
 cast-t39 : tie.Need-cast-t39
 cast-t39 c =
@@ -141,7 +141,7 @@ returns-4 c =
     let F : Ty = nodesAt P 0 (a .f) in
     let C : Ty = nodesAt P (2 * a .f) (a .n) in
     let es : c .before .before .before .before .shape .result ≡ shapeOf (view F) = c .before .before .before .before .shape .ensures in
-    (λ (w : Way) (ls : List Triple) (E : Env) (sc : Scoped w). does-as (λ _. refuses (c .before .before .before .before .before .before .before .before .before .pre) E (termAt ls (a .line)) C (λ z. c .before .before .before .if1 .left (es ∙ z)) (λ z. c .before .before .if2 .left (es ∙ z)) (λ z. c .before .if3 .left (es ∙ z))) (c .refuse .ensures .1 w ls _ _ P (c .before .before .before .before .before .before .before .before .before .pre .formed)), report-stays (c .before .before .before .before .before .before .before .before .before .pre) es (a .c .fresh) (c .before .before .if2 .left))
+    (λ (w : Way) (ls : List Triple) (E : Env) (sc : Scoped w). does-as (λ _. refuses (c .before .before .before .before .before .before .before .before .before .pre) E (termAt ls (a .line)) C (λ z. c .before .before .before .if1 .left (es ∙ z)) (λ z. c .before .before .if2 .left (es ∙ z)) (λ z. c .before .if3 .left (es ∙ z))) (c .refuse .ensures .1 w ls _ _ P (c .before .before .before .before .before .before .before .before .before .pre .formed)), report-stays (c .before .before .before .before .before .before .before .before .before .pre) es (a .c .counters .fresh) (c .before .before .if2 .left))
 
 pub apply-shapes-spec : {M : Type 1} → statement M
 apply-shapes-spec =

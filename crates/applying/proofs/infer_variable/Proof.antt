@@ -23,7 +23,7 @@ returns : tie.Need-returns
 returns c =
     let a = c .before .before .before .before .before .before .before .before .before .before .before .before .before .before .before .args in
     let T : Ty = nodesAt (now (a .t)) 0 (a .tn) in
-    let B : Option Ty = findVar (a .name) (entriesOf (rows (now (a .s))) (now (a .board)) (a .c .board .entries)) in
+    let B : Option Ty = findVar (a .name) (entriesOf (rows (now (a .s))) (now (a .board)) (a .c .counters .board .entries)) in
     let e = entry-is 2 (a .name) (now (a .s)) (c .before .before .before .before .before .before .before .before .before .before .find-entry .ensures) (c .before .before .before .before .before .before .before .before .line .given .1) in
     (λ w k rep f. looked (now (a .s)) (a .name) T (does-as (λ _. ap (λ (o : Option Ty). variable (envOn (now (a .s))) (a .name) T o B (entryIn 1 (a .name) (now (a .s)))) e) (c .before .before .before .before .push-entry .ensures .0 w k rep f)), c .before .before .before .before .push-entry .ensures .1 ∙ ap (λ (o : Option Ty). foundOut (now (a .out)) (orElse o (orElse B (entryIn 1 (a .name) (now (a .s)))))) e)
 
@@ -31,7 +31,7 @@ returns-2 : tie.Need-returns-2
 returns-2 c =
     let a = c .before .before .before .before .before .before .before .before .before .before .before .before .before .before .args in
     let T : Ty = nodesAt (now (a .t)) 0 (a .tn) in
-    let B : Option Ty = findVar (a .name) (entriesOf (rows (now (a .s))) (now (a .board)) (a .c .board .entries)) in
+    let B : Option Ty = findVar (a .name) (entriesOf (rows (now (a .s))) (now (a .board)) (a .c .counters .board .entries)) in
     let e = entry-is 2 (a .name) (now (a .s)) (c .before .before .before .before .before .before .before .before .before .find-entry .ensures) (c .before .before .before .before .before .before .before .enum-told .given .1) in
     (λ w k rep f. looked (now (a .s)) (a .name) T (does-as (λ _. ap (λ (o : Option Ty). variable (envOn (now (a .s))) (a .name) T o B (entryIn 1 (a .name) (now (a .s)))) e) (c .before .before .before .before .infer-on-board .ensures .0 w k rep f)), c .before .before .before .before .infer-on-board .ensures .1 ∙ ap (λ (o : Option Ty). foundOut (now (a .out)) (orElse o (orElse B (entryIn 1 (a .name) (now (a .s)))))) e)
 

@@ -11,7 +11,7 @@ abbrev Inv-loop : tie.InvT-loop
 Inv-loop board₀ book₀ report₀ s ceiling limit strict t₀ l₀ r₀ w₀ v₀ run₀ board book report t l r w v run = Loop strict limit s ceiling (wholeRun strict limit s ceiling board₀ book₀ run₀) board book report run × (length board ≡ length board₀) × (length book ≡ length book₀) × (length report ≡ length report₀) × (length t ≡ length t₀) × (length l ≡ length l₀) × (length r ≡ length r₀) × (length w ≡ length w₀) × (length v ≡ length v₀)
 
 abbrev μ-loop : tie.MeasureT-loop
-μ-loop board₀ book₀ report₀ s ceiling limit strict t₀ l₀ r₀ w₀ v₀ run₀ board book report t l r w v run = ceiling - run .taken
+μ-loop board₀ book₀ report₀ s ceiling limit strict t₀ l₀ r₀ w₀ v₀ run₀ board book report t l r w v run = ceiling - run .counters .taken
 
 loop-holds : tie.Need-loop-holds Inv-loop μ-loop
 loop-holds c = (loop-start (c .before .before .before .before .before .before .before .before .before .args .ceiling) (c .before .before .before .before .before .before .before .before .before .pre .0) (c .before .before .before .before .before .before .before .before .before .pre .1), refl, refl, refl, refl, refl, refl, refl, refl)

@@ -34,7 +34,7 @@ returns c =
     let T : Ty = nodesAt P 0 (a .tn) in
     let ls = rows (now (a .s)) in
     let e = arrow-view P 0 (a .tn) (sym (c .before .before .before .before .before .before .before .before .before .shape .ensures) ∙ c .before .before .before .before .before .before .before .before .if1 .taken) in
-    (λ (w : Way) (E : Env) (rep : List ℕ). does-as (λ _. ap (checkBy E (termAt ls (a .line)) T) (sym e)) (c .before .before .before .before .check-arrow .ensures .0 w E _ rep (c .before .before .before .before .before .before .before .before .before .before .before .before .before .before .before .before .pre .0)), ap (checkedType P (a .c .fresh)) (sym e), c .before .before .before .before .check-arrow .ensures .1 ∙ ap (checkedOut (now (a .out)) (lambdaOf (termAt ls (a .line)))) (sym e))
+    (λ (w : Way) (E : Env) (rep : List ℕ). does-as (λ _. ap (checkBy E (termAt ls (a .line)) T) (sym e)) (c .before .before .before .before .check-arrow .ensures .0 w E _ rep (c .before .before .before .before .before .before .before .before .before .before .before .before .before .before .before .before .pre .0)), ap (checkedType P (a .c .counters .fresh)) (sym e), c .before .before .before .before .check-arrow .ensures .1 ∙ ap (checkedOut (now (a .out)) (lambdaOf (termAt ls (a .line)))) (sym e))
 
 slice-read-name : tie.Need-slice-read-name
 slice-read-name c = let s = shaped-some (now (c .before .before .before .before .before .before .before .before .before .before .args .t)) 0 (c .before .before .before .before .before .before .before .before .before .before .args .tn) (λ z. (let y = sym (c .before .before .before .shape .ensures) ∙ c .before .if2 .taken in omega arith)) in let x = c .before .before .before .before .before .before .before .before .before .before .pre .1 .within in omega arith
@@ -56,7 +56,7 @@ returns-2 c =
     let T : Ty = nodesAt P 0 (a .tn) in
     let ls = rows (now (a .s)) in
     let e = forall-view P 0 (a .tn) (sym (c .before .before .before .before .before .before .before .before .before .before .before .before .before .shape .ensures) ∙ c .before .before .before .before .before .before .before .before .before .before .before .if2 .taken) in
-    (λ (w : Way) (E : Env) (rep : List ℕ). does-as (λ _. ap (checkBy E (termAt ls (a .line)) T) (sym e)) (c .before .before .before .before .before .before .check-forall .ensures .1 w ls E T rep), c .before .before .before .before .before .before .check-forall .ensures .0 ∙ ap (checkedType P (a .c .fresh)) (sym e), ap (checkedOut (now (a .out)) (lambdaOf (termAt ls (a .line)))) (sym e))
+    (λ (w : Way) (E : Env) (rep : List ℕ). does-as (λ _. ap (checkBy E (termAt ls (a .line)) T) (sym e)) (c .before .before .before .before .before .before .check-forall .ensures .1 w ls E T rep), c .before .before .before .before .before .before .check-forall .ensures .0 ∙ ap (checkedType P (a .c .counters .fresh)) (sym e), ap (checkedOut (now (a .out)) (lambdaOf (termAt ls (a .line)))) (sym e))
 
 synthesize-requires : tie.Need-synthesize-requires
 synthesize-requires c κs = (c .before .before .before .before .before .before .before .before .before .before .before .pre .1 .board, c .before .before .before .before .before .before .before .before .before .before .before .pre .1 .within, c .before .before .before .before .before .before .before .before .before .before .before .pre .1 .formed)
@@ -67,7 +67,7 @@ returns-3 c =
     let P = now (a .t) in
     let T : Ty = nodesAt P 0 (a .tn) in
     let ls = rows (now (a .s)) in
-    (λ (w : Way) (E : Env) (rep : List ℕ). does-as (λ _. check-other E (termAt ls (a .line)) T (view T) (λ z. c .before .before .before .before .before .before .if1 .left (c .before .before .before .before .before .before .before .shape .ensures ∙ z)) (λ z. c .before .before .before .before .before .if2 .left (c .before .before .before .before .before .before .before .shape .ensures ∙ z))) (c .before .before .synthesize .ensures E w ls _ rep (c .before .before .before .before .before .before .before .before .before .before .before .before .before .before .pre .0)), type-stays P (a .c .fresh) (view T) (λ z. c .before .before .before .before .before .if2 .left (c .before .before .before .before .before .before .before .shape .ensures ∙ z)), out-stays (now (a .out)) (lambdaOf (termAt ls (a .line))) (view T) (λ z. c .before .before .before .before .before .before .if1 .left (c .before .before .before .before .before .before .before .shape .ensures ∙ z)))
+    (λ (w : Way) (E : Env) (rep : List ℕ). does-as (λ _. check-other E (termAt ls (a .line)) T (view T) (λ z. c .before .before .before .before .before .before .if1 .left (c .before .before .before .before .before .before .before .shape .ensures ∙ z)) (λ z. c .before .before .before .before .before .if2 .left (c .before .before .before .before .before .before .before .shape .ensures ∙ z))) (c .before .before .synthesize .ensures E w ls _ rep (c .before .before .before .before .before .before .before .before .before .before .before .before .before .before .pre .0)), type-stays P (a .c .counters .fresh) (view T) (λ z. c .before .before .before .before .before .if2 .left (c .before .before .before .before .before .before .before .shape .ensures ∙ z)), out-stays (now (a .out)) (lambdaOf (termAt ls (a .line))) (view T) (λ z. c .before .before .before .before .before .before .if1 .left (c .before .before .before .before .before .before .before .shape .ensures ∙ z)))
 
 pub solve-checking-spec : {M : Type 1} → statement M
 solve-checking-spec =

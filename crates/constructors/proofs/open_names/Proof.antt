@@ -14,7 +14,7 @@ use Rattle.constructors.proofs.open_names.Tie as tie
 -- what is left from here is the whole
 abbrev Inv-loop : tie.InvT-loop
 Inv-loop board₀ n run₀ left₀ board run left =
-    Stacked board (run .board) × (length board ≡ length board₀) × ((b : List ℕ) (r : Run) → Named board run left b r → Named board₀ run₀ n b r)
+    Stacked board (run .counters .board) × (length board ≡ length board₀) × ((b : List ℕ) (r : Run) → Named board run left b r → Named board₀ run₀ n b r)
 
 abbrev μ-loop : tie.MeasureT-loop
 μ-loop board₀ n run₀ left₀ board run left = left

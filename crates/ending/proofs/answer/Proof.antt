@@ -8,7 +8,7 @@ use Rattle.ending.proofs.answer.Tie as tie
 
 returns : tie.Need-returns
 returns c =
-    λ (rep : List ℕ). let a = c .before .before .before .before .before .args in answer-is (a .plain) (endOf rep (a .c)) (a .c .taken) (a .c .fresh) (c .before .before .end-number .ensures rep) (c .before .end-details .ensures (a .c .board .entries) rep) (c .plain-number .ensures)
+    λ (rep : List ℕ). let a = c .before .before .before .before .before .args in answer-is (a .plain) (endOf rep (a .c)) (a .c .counters .taken) (a .c .counters .fresh) (c .before .before .end-number .ensures rep) (c .before .end-details .ensures (a .c .counters .board .entries) rep) (c .plain-number .ensures)
 
 pub answer-spec : {M : Type 1} → statement M
 answer-spec =

@@ -12,14 +12,14 @@ returns c =
     let a = c .before .before .before .before .before .before .before .args .c in
     let g : going (a .halt) ≡ true = sym (c .before .before .before .before .before .is-going .ensures) ∙ c .before .before .before .before .if1 .taken in
     let x = c .before .if2 .taken in
-    rw (g, lt-ltb 0 (a .board .entries) (omega arith)) refl
+    rw (g, lt-ltb 0 (a .counters .board .entries) (omega arith)) refl
 
 returns-2 : tie.Need-returns-2
 returns-2 c =
     let a = c .before .before .before .before .before .before .args .c in
     let g : going (a .halt) ≡ true = sym (c .before .before .before .before .is-going .ensures) ∙ c .before .before .before .if1 .taken in
     let x = c .if2 .left in
-    rw (g, le-ltb 0 (a .board .entries) (omega arith)) refl
+    rw (g, le-ltb 0 (a .counters .board .entries) (omega arith)) refl
 
 returns-3 : tie.Need-returns-3
 returns-3 c =

@@ -33,7 +33,7 @@ solve-evar-requires c κs =
     let y = c .before .before .before .before .before .before .before .before .before .before .before .before .before .before .before .before .fresh-part .result in
     let m = fresh-made y (c .before .before .before .before .before .before .before .before .before .before .before .before .fresh-part2 .result) (c .before .before .before .before .before .before .before .before .before .before .before .before .fresh-part2 .ensures .0) (alive D3 (alive D4 h)) in
     let n = le-trans (grows D3) (grows D4) in
-    pair-solves _ (c .before .before .before .before .push-tvar2 .result) 13 (c .before .before .before .before .before .before .before .before .before .before .before .before .before .before .before .before .before .before .before .before .before .args .x) (y .fresh) (λ e. omega arith) f (fresh-sols D2 ∙ fresh-sols D1) (c .before .before .before .before .before .before .before .before .before .before .before .before .before .before .before .before .before .before .before .before .before .pre .1 .0) (c .before .before .before .before .before .before .before .before .before .before .before .before .before .before .before .before .before .before .before .before .before .pre .1 .1) (grows D1) (omega arith))
+    pair-solves _ (c .before .before .before .before .push-tvar2 .result) 13 (c .before .before .before .before .before .before .before .before .before .before .before .before .before .before .before .before .before .before .before .before .before .args .x) (y .counters .fresh) (λ e. omega arith) f (fresh-sols D2 ∙ fresh-sols D1) (c .before .before .before .before .before .before .before .before .before .before .before .before .before .before .before .before .before .before .before .before .before .pre .1 .0) (c .before .before .before .before .before .before .before .before .before .before .before .before .before .before .before .before .before .before .before .before .before .pre .1 .1) (grows D1) (omega arith))
 
 push-sub-requires : tie.Need-push-sub-requires
 push-sub-requires c κs = (kept-solved (c .before .before .before .before .solve-evar .ensures) (kept-board (c .before .before .before .before .before .before .before .before .before .push-tvar2 .ensures .2) (kept-board (c .before .before .before .before .before .before .before .before .before .before .before .before .before .push-tvar .ensures .2) (kept-book (c .before .before .before .before .before .before .before .before .before .before .before .before .before .before .before .before .before .fresh-part2 .ensures .2) (kept-book (c .before .before .before .before .before .before .before .before .before .before .before .before .before .before .before .before .before .before .before .before .before .fresh-part .ensures .2) (c .before .before .before .before .before .before .before .before .before .before .before .before .before .before .before .before .before .before .before .before .before .before .before .before .before .before .pre .0))))) .board, search needs, c .before .before .before .before .before .before .before .before .before .before .before .before .before .before .before .before .before .before .before .before .before .before .before .before .before .before .pre .2)

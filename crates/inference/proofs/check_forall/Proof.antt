@@ -19,7 +19,7 @@ returns : tie.Need-returns
 returns c = (
   c .before .before .before .before .before .before .before .substitute-type .ensures,
   λ w ls E T rep.
-      let s = substituted (c .before .before .before .before .before .before .before .before .before .before .before .before .before .before .before .before .before .before .before .before .args .name) (node 18 (c .before .before .before .before .before .before .before .before .before .before .before .before .before .before .before .before .before .before .before .before .args .c .fresh)) _ _ (c .before .before .before .before .before .before .before .before .before .before .before .before .before .before .before .before .before .before .before .before .args .at) (c .before .before .before .before .before .before .before .before .before .before .before .before .before .before .before .before .before .before .before .before .args .n) (c .before .before .before .before .before .before .before .before .before .before .before .before .before .before .before .before .before .before .before .before .pre .1) (c .before .before .before .before .before .before .before .substitute-type .ensures) in
+      let s = substituted (c .before .before .before .before .before .before .before .before .before .before .before .before .before .before .before .before .before .before .before .before .args .name) (node 18 (c .before .before .before .before .before .before .before .before .before .before .before .before .before .before .before .before .before .before .before .before .args .c .counters .fresh)) _ _ (c .before .before .before .before .before .before .before .before .before .before .before .before .before .before .before .before .before .before .before .before .args .at) (c .before .before .before .before .before .before .before .before .before .before .before .before .before .before .before .before .before .before .before .before .args .n) (c .before .before .before .before .before .before .before .before .before .before .before .before .before .before .before .before .before .before .before .before .pre .1) (c .before .before .before .before .before .before .before .substitute-type .ensures) in
       let D1 = c .before .before .before .before .before .before .before .before .before .before .before .before .before .before .before .fresh-universal .ensures .2 w ls _ rep (c .before .before .before .before .before .before .before .before .before .before .before .before .before .before .before .before .before .before .before .before .pre .0) in
       let D2 = c .before .before .before .before .before .before .before .before .before .before .before .push-tvar .ensures .2 w ls _ rep (D1 .kept) in
       let D3 = c .before .before .push-chk .ensures .2 w ls _ rep (D2 .kept) in

@@ -1,6 +1,7 @@
 use Rattle.nodes.specs.Nodes.{nodesAt}
 use Rattle.operations.proofs.Then.{push-then}
 use Rattle.inference.proofs.Keeps.{chk-keeps}
+use native.Mathlib.Omega.{arith}
 use borrow.Author.Needs.{needs}
 use Rattle.inference.proofs.infer_bin_op.Statement.{statement}
 use Rattle.inference.proofs.infer_bin_op.Tie as tie
@@ -9,7 +10,7 @@ push-chk-requires-2 : tie.Need-push-chk-requires-2
 push-chk-requires-2 c κs = (chk-keeps (c .before .before .before .before .before .before .before .before .before .before .args .e1) (c .before .before .before .before .before .before .before .before .before .before .pre .0) (c .before .before .before .before .push-chk .ensures), search needs)
 
 push-sub-requires : tie.Need-push-sub-requires
-push-sub-requires c κs = (chk-keeps (c .before .before .before .before .before .before .before .before .before .before .before .before .before .before .before .args .e2) (chk-keeps (c .before .before .before .before .before .before .before .before .before .before .before .before .before .before .before .args .e1) (c .before .before .before .before .before .before .before .before .before .before .before .before .before .before .before .pre .0) (c .before .before .before .before .before .before .before .before .before .push-chk .ensures)) (c .before .before .before .before .push-chk2 .ensures), search needs, search needs)
+push-sub-requires c κs = (chk-keeps (c .before .before .before .before .before .before .before .before .before .before .before .before .before .before .before .args .e2) (chk-keeps (c .before .before .before .before .before .before .before .before .before .before .before .before .before .before .before .args .e1) (c .before .before .before .before .before .before .before .before .before .before .before .before .before .before .before .pre .0) (c .before .before .before .before .before .before .before .before .before .push-chk .ensures)) (c .before .before .before .before .push-chk2 .ensures), search needs, (let q = c .before .before .before .before .before .before .before .before .before .before .before .before .before .before .before .pre .1 in omega arith))
 
 returns : tie.Need-returns
 unfolding nodesAt

@@ -35,7 +35,7 @@ returns c =
     let w = c .before .before .before .before .before .before .before .wide .ensures in
     let q = c .before .before .before .before .before .before .before .before .part-at .ensures in
     let I = c .before .before .before .before .infer-lambda .ensures in
-    (viewed p (lambda-view p refl (c .before .before .before .before .before .before .before .before .before .value-at .ensures) w q) (λ m. I .1 m (envOn (now (a .s)))), I .0 ∙ ap (λ (i : ℕ). sets (now (a .l)) 0 (words (arrow (typeOn (now (a .s)) (a .at + 1) (i - (a .at + 1))) (unknown (a .c .fresh))))) (w ∙ q))
+    (viewed p (lambda-view p refl (c .before .before .before .before .before .before .before .before .before .value-at .ensures) w q) (λ m. I .1 m (envOn (now (a .s)))), I .0 ∙ ap (λ (i : ℕ). sets (now (a .l)) 0 (words (arrow (typeOn (now (a .s)) (a .at + 1) (i - (a .at + 1))) (unknown (a .c .counters .fresh))))) (w ∙ q))
 
 pub lambda-term-spec : {M : Type 1} → statement M
 lambda-term-spec =

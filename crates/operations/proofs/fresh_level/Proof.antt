@@ -11,7 +11,7 @@ set-level-requires : tie.Need-set-level-requires
 set-level-requires c κs =
     let a = c .before .before .before .before .before .before .args in
     let p = c .before .before .before .before .before .before .pre in
-    (p .0 .room, ltb-true (a .c .fresh) mostNumbers (goes-on (a .c) (c .before .before .before .before .fresh-evar .ensures .0) (sym (c .before .before .is-going .ensures) ∙ c .before .if1 .taken) .1), p .1)
+    (p .0 .room, ltb-true (a .c .counters .fresh) mostNumbers (goes-on (a .c) (c .before .before .before .before .fresh-evar .ensures .0) (sym (c .before .before .is-going .ensures) ∙ c .before .if1 .taken) .1), p .1)
 
 returns : tie.Need-returns
 returns c =

@@ -30,10 +30,10 @@ solve-evar-requires c κs =
     let D4 = c .before .before .before .before .push-sub .ensures .2 anyWay [] _ [] (D3 .kept) in
     solve-asks (D4 .kept) (omega arith) (search needs)
     (λ h.
-    let a : ℕ = c .before .before .before .before .before .before .before .before .before .before .before .before .before .before .before .before .before .args .c .fresh in
-    let b : ℕ = c .before .before .before .before .before .before .before .before .before .before .before .before .before .fresh-evar .result .fresh in
+    let a : ℕ = c .before .before .before .before .before .before .before .before .before .before .before .before .before .before .before .before .before .args .c .counters .fresh in
+    let b : ℕ = c .before .before .before .before .before .before .before .before .before .before .before .before .before .fresh-evar .result .counters .fresh in
     let m : b ≡ a + 1 = fresh-made (c .before .before .before .before .before .before .before .before .before .before .before .before .before .before .before .before .before .args .c) (c .before .before .before .before .before .before .before .before .before .before .before .before .before .fresh-evar .result) (c .before .before .before .before .before .before .before .before .before .before .before .before .before .fresh-evar .ensures .0) (alive D2 (alive D3 (alive D4 h))) in
-    let n : c .before .before .before .before .before .before .before .before .before .before .before .before .fresh-evar2 .result .fresh ≡ b + 1 = fresh-made (c .before .before .before .before .before .before .before .before .before .before .before .before .before .fresh-evar .result) (c .before .before .before .before .before .before .before .before .before .before .before .before .fresh-evar2 .result) (c .before .before .before .before .before .before .before .before .before .before .before .before .fresh-evar2 .ensures .0) (alive D3 (alive D4 h)) in
+    let n : c .before .before .before .before .before .before .before .before .before .before .before .before .fresh-evar2 .result .counters .fresh ≡ b + 1 = fresh-made (c .before .before .before .before .before .before .before .before .before .before .before .before .before .fresh-evar .result) (c .before .before .before .before .before .before .before .before .before .before .before .before .fresh-evar2 .result) (c .before .before .before .before .before .before .before .before .before .before .before .before .fresh-evar2 .ensures .0) (alive D3 (alive D4 h)) in
     pair-solves _ (c .before .before .before .before .push-sub .result) 13 a b (λ e. omega arith) (D1 .kept) refl (omega arith) (unmade-free (c .before .before .before .before .before .before .before .before .before .before .before .before .before .before .before .before .before .pre .0) a (le-refl a)) (le-refl b) (omega (arith, n, grows D3, grows D4)))
 
 zonk-requires : tie.Need-zonk-requires
@@ -63,7 +63,7 @@ returns c =
     let D2 = c .before .before .before .before .before .before .before .before .before .before .before .before .before .before .before .before .before .before .before .before .before .before .before .before .before .before .before .fresh-evar2 .ensures .1 w ls _ _ R (D1 .kept) in
     let D3 = c .before .before .before .before .before .before .before .before .before .before .before .before .before .before .before .before .before .before .before .before .before .before .before .before .before .push-tvar .ensures .2 w ls _ R (D2 .kept) in
     let D4 = c .before .before .before .before .before .before .before .before .before .before .before .before .before .before .before .before .before .before .before .push-sub .ensures .2 w ls _ R (D3 .kept) in
-    let b : ℕ = c .before .before .before .before .before .before .before .before .before .before .before .before .before .before .before .before .before .before .before .before .before .before .before .before .before .before .before .before .fresh-evar .result .fresh in
+    let b : ℕ = c .before .before .before .before .before .before .before .before .before .before .before .before .before .before .before .before .before .before .before .before .before .before .before .before .before .before .before .before .fresh-evar .result .counters .fresh in
     let D5 = c .before .before .before .before .before .before .before .before .before .before .before .before .before .before .solve-evar .ensures .2 w ls _ R (sc _ _ (pair-plain 13 (λ e. omega arith) b b)) (D4 .kept) in
     let Z = c .before .before .before .before .before .before .before .before .zonk .ensures .2 in
     let D6 = Z .does f ls _ (D5 .kept) in

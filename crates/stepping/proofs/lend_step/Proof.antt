@@ -36,11 +36,11 @@ use denote.Triple.Statement.{Contract, Triple}
 use denote.Triple.Call.{calls-at}
 use denote.Triple.Table.{entered, cited}
 use denote.Triple.Walked.{says, needs, walkOf, ends-at}
-use Rattle.stepping.specs.declared.Counters.{Counters}
+use Rattle.operations.specs.declared.Counters.{Counters}
 use Rattle.stepping.specs.declared.Kept.{Kept}
 use Rattle.stepping.specs.declared.Stepped.{Stepped}
-use Rattle.stepping.proofs.Counters as CT
-use Rattle.stepping.proofs.Counters.Laws as CT′
+use Rattle.operations.proofs.Counters as CT
+use Rattle.operations.proofs.Counters.Laws as CT′
 use Rattle.stepping.proofs.Kept as KT
 use Rattle.stepping.proofs.Kept.Laws as KT′
 use Rattle.stepping.proofs.Stepped as ST

@@ -50,8 +50,8 @@ returns c = (
       let D4 = c .before .before .push-sub .ensures .2 w ls k R' (D3 .kept) in
       let e = c .before .before .before .before .before .before .before .before .before .before .before .before .before .before .before .before .substitute-type .ensures in
       let x : ℕ = getD R 1 0 in
-      let e1 = substituted-at x (node 17 (a .c .fresh)) R R' 2 (a .l - 1) e (omega arith) in
-      let e2 = beside x (node 17 (a .c .fresh)) R R' 2 (a .l - 1) e (2 * a .l) (a .r) (inr (omega arith)) in
+      let e1 = substituted-at x (node 17 (a .c .counters .fresh)) R R' 2 (a .l - 1) e (omega arith) in
+      let e2 = beside x (node 17 (a .c .counters .fresh)) R R' 2 (a .l - 1) e (2 * a .l) (a .r) (inr (omega arith)) in
       report-free (p .0 .goes) (fresh-then D1 (push-then D2 (push-then D3 (does-as (λ _. ap₂ (λ (x y : Ty). push (sub x y) done) e1 e2) D4)))),
   c .before .before .before .before .before .before .before .before .before .before .before .before .before .before .before .before .substitute-type .ensures,
 )

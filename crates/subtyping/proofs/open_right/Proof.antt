@@ -48,8 +48,8 @@ returns c = (
       let D3 = c .before .before .push-sub .ensures .2 w ls _ R' (D2 .kept) in
       let e = c .before .before .before .before .before .before .before .before .before .before .before .before .before .before .before .substitute-type .ensures in
       let x : ℕ = getD R (2 * a .l + 1) 0 in
-      let e1 = beside x (node 18 (a .c .fresh)) R R' (2 * a .l + 2) (a .r - 1) e 0 (a .l) (inl (omega arith)) in
-      let e2 = substituted-at x (node 18 (a .c .fresh)) R R' (2 * a .l + 2) (a .r - 1) e (omega arith) in
+      let e1 = beside x (node 18 (a .c .counters .fresh)) R R' (2 * a .l + 2) (a .r - 1) e 0 (a .l) (inl (omega arith)) in
+      let e2 = substituted-at x (node 18 (a .c .counters .fresh)) R R' (2 * a .l + 2) (a .r - 1) e (omega arith) in
       report-free (p .0 .goes) (fresh-then D1 (push-then D2 (does-as (λ _. ap₂ (λ (x y : Ty). push (sub x y) done) e1 e2) D3))),
   c .before .before .before .before .before .before .before .before .before .before .before .before .before .before .before .substitute-type .ensures,
 )

@@ -42,7 +42,7 @@ solve-evar-requires c κs =
     let D1 = c .before .before .before .before .before .before .before .before .fresh-part .ensures .2 anyWay [] _ [] f in
     let D2 = c .before .before .before .before .fresh-part2 .ensures .2 anyWay [] _ [] (D1 .kept) in
     solve-asks (D2 .kept) (omega arith) (search needs)
-    (λ g. pair-solves _ (c .before .before .before .before .fresh-part2 .result) (c .before .before .before .before .before .before .before .before .before .before .before .before .before .before .args .kind) (c .before .before .before .before .before .before .before .before .before .before .before .before .before .before .args .x) (c .before .before .before .before .before .before .before .before .fresh-part .result .fresh) (c .before .before .before .before .before .before .before .before .before .before .before .before .before .before .pre .pair .0) f (fresh-sols D2 ∙ fresh-sols D1) (c .before .before .before .before .before .before .before .before .before .before .before .before .before .before .pre .known) (c .before .before .before .before .before .before .before .before .before .before .before .before .before .before .pre .unsolved) (grows D1) (let z = fresh-made (c .before .before .before .before .before .before .before .before .fresh-part .result) (c .before .before .before .before .fresh-part2 .result) (c .before .before .before .before .fresh-part2 .ensures .0) g in omega arith))
+    (λ g. pair-solves _ (c .before .before .before .before .fresh-part2 .result) (c .before .before .before .before .before .before .before .before .before .before .before .before .before .before .args .kind) (c .before .before .before .before .before .before .before .before .before .before .before .before .before .before .args .x) (c .before .before .before .before .before .before .before .before .fresh-part .result .counters .fresh) (c .before .before .before .before .before .before .before .before .before .before .before .before .before .before .pre .pair .0) f (fresh-sols D2 ∙ fresh-sols D1) (c .before .before .before .before .before .before .before .before .before .before .before .before .before .before .pre .known) (c .before .before .before .before .before .before .before .before .before .before .before .before .before .before .pre .unsolved) (grows D1) (let z = fresh-made (c .before .before .before .before .before .before .before .before .fresh-part .result) (c .before .before .before .before .fresh-part2 .result) (c .before .before .before .before .fresh-part2 .ensures .0) g in omega arith))
 
 push-tvar-requires : tie.Need-push-tvar-requires
 push-tvar-requires c κs = (kept-solved (c .before .before .before .solve-evar .ensures) (kept-book (c .before .before .before .before .before .before .before .before .fresh-part2 .ensures .2) (kept-book (c .before .before .before .before .before .before .before .before .before .before .before .before .fresh-part .ensures .2) (c .before .before .before .before .before .before .before .before .before .before .before .before .before .before .before .before .before .before .pre .formed))) .board, omega arith)
@@ -70,7 +70,7 @@ returns c =
     let f = c .before .before .before .before .before .before .before .before .before .before .before .before .before .before .before .before .before .before .before .before .before .before .before .before .before .before .before .before .before .before .before .before .before .before .before .pre .formed in
     let D1 = c .before .before .before .before .before .before .before .before .before .before .before .before .before .before .before .before .before .before .before .before .before .before .before .before .before .before .before .before .before .fresh-part .ensures .2 w ls _ rep f in
     let D2 = c .before .before .before .before .before .before .before .before .before .before .before .before .before .before .before .before .before .before .before .before .before .before .before .before .before .fresh-part2 .ensures .2 w ls _ rep (D1 .kept) in
-    let D3 = c .before .before .before .before .before .before .before .before .before .before .before .before .before .before .before .before .before .before .before .before .solve-evar .ensures .2 w ls _ rep (sc (a .x) _ (pair-plain (a .kind) (c .before .before .before .before .before .before .before .before .before .before .before .before .before .before .before .before .before .before .before .before .before .before .before .before .before .before .before .before .before .before .before .before .before .before .before .pre .pair .1) (a .c .fresh) (c .before .before .before .before .before .before .before .before .before .before .before .before .before .before .before .before .before .before .before .before .before .before .before .before .before .before .before .before .before .fresh-part .result .fresh))) (D2 .kept) in
+    let D3 = c .before .before .before .before .before .before .before .before .before .before .before .before .before .before .before .before .before .before .before .before .solve-evar .ensures .2 w ls _ rep (sc (a .x) _ (pair-plain (a .kind) (c .before .before .before .before .before .before .before .before .before .before .before .before .before .before .before .before .before .before .before .before .before .before .before .before .before .before .before .before .before .before .before .before .before .before .before .pre .pair .1) (a .c .counters .fresh) (c .before .before .before .before .before .before .before .before .before .before .before .before .before .before .before .before .before .before .before .before .before .before .before .before .before .before .before .before .before .fresh-part .result .counters .fresh))) (D2 .kept) in
     let D4 = c .before .before .before .before .before .before .before .before .before .before .before .before .before .before .before .before .push-tvar .ensures .2 w ls _ rep (D3 .kept) in
     let D5 = c .before .before .before .before .before .before .before .before .before .before .before .before .push-tvar2 .ensures .2 w ls _ rep (D4 .kept) in
     let D6 = c .before .before .before .before .before .before .before .push-on .ensures w ls _ rep (D5 .kept) in
@@ -78,8 +78,8 @@ returns c =
     let e1 = first-nodes (now (a .t)) (a .at) (a .n) (c .before .before .before .before .before .before .before .before .before .before .before .before .before .before .before .before .before .before .before .before .before .before .before .before .before .before .before .before .before .before .before .first-part .result) (c .before .before .before .before .before .before .before .before .before .before .before .before .before .before .before .before .before .before .before .before .before .before .before .before .before .before .before .before .before .before .before .first-part .ensures) in
     let e2 = rest-nodes (now (a .t)) (a .at) (a .n) (c .before .before .before .before .before .before .before .before .before .before .before .before .before .before .before .before .before .before .before .before .before .before .before .before .before .before .before .before .before .before .before .first-part .result) (c .before .before .before .before .before .before .before .before .before .before .before .before .before .before .before .before .before .before .before .before .before .before .before .before .before .before .before .before .before .before .before .first-part .ensures) in
     fresh-then D1 (fresh-then D2 (solve-then D3 (push-then D4 (push-then D5
-    (push-then (does-as (λ _. ap (λ (x : Ty). push (onSide (sideOf (a .first)) (unknown (a .c .fresh)) x) done) e1) D6)
-    (does-as (λ _. ap (λ (x : Ty). push (onSide (sideOf (a .second)) (unknown (c .before .before .before .before .before .before .before .before .before .before .before .before .before .before .before .before .before .before .before .before .before .before .before .before .before .before .before .before .before .fresh-part .result .fresh)) x) done) e2) D7))))))
+    (push-then (does-as (λ _. ap (λ (x : Ty). push (onSide (sideOf (a .first)) (unknown (a .c .counters .fresh)) x) done) e1) D6)
+    (does-as (λ _. ap (λ (x : Ty). push (onSide (sideOf (a .second)) (unknown (c .before .before .before .before .before .before .before .before .before .before .before .before .before .before .before .before .before .before .before .before .before .before .before .before .before .before .before .before .before .fresh-part .result .counters .fresh)) x) done) e2) D7))))))
 
 pub split-spec : {M : Type 1} → statement M
 split-spec =

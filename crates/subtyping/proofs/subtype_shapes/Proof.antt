@@ -22,19 +22,19 @@ open-right-requires : tie.Need-open-right-requires
 open-right-requires c κs = (open-asks (c .before .before .before .before .before .before .before .before .before .before .before .pre), c .before .before .before .before .before .before .before .before .before .before .before .pre .formed, sizes (c .before .before .before .before .before .before .before .before .before .before .before .pre) .1)
 
 returns : tie.Need-returns
-returns c = (λ w ls. does-as (λ _. by-forall-right (c .before .before .before .before .before .before .before .before .before .before .before .before .before .before .before .before .before .before .pre) (c .before .before .before .before .before .before .before .before .before .before .before .before .before .shape .ensures) (c .before .before .before .before .before .before .before .before .before .before .before .shape2 .ensures) (c .before .before .before .before .before .before .before .before .before .before .if1 .taken)) (c .before .before .before .before .before .before .open-right .ensures .0 _ ls), c .before .before .before .before .before .before .open-right .ensures .1 ∙ report-forall-right (c .before .before .before .before .before .before .before .before .before .before .before .before .before .before .before .before .before .before .pre) (c .before .before .before .before .before .before .before .before .before .before .before .before .before .before .before .before .before .before .args .c .fresh) (c .before .before .before .before .before .before .before .before .before .before .before .before .before .shape .ensures) (c .before .before .before .before .before .before .before .before .before .before .before .shape2 .ensures) (c .before .before .before .before .before .before .before .before .before .before .if1 .taken))
+returns c = (λ w ls. does-as (λ _. by-forall-right (c .before .before .before .before .before .before .before .before .before .before .before .before .before .before .before .before .before .before .pre) (c .before .before .before .before .before .before .before .before .before .before .before .before .before .shape .ensures) (c .before .before .before .before .before .before .before .before .before .before .before .shape2 .ensures) (c .before .before .before .before .before .before .before .before .before .before .if1 .taken)) (c .before .before .before .before .before .before .open-right .ensures .0 _ ls), c .before .before .before .before .before .before .open-right .ensures .1 ∙ report-forall-right (c .before .before .before .before .before .before .before .before .before .before .before .before .before .before .before .before .before .before .pre) (c .before .before .before .before .before .before .before .before .before .before .before .before .before .before .before .before .before .before .args .c .counters .fresh) (c .before .before .before .before .before .before .before .before .before .before .before .before .before .shape .ensures) (c .before .before .before .before .before .before .before .before .before .before .before .shape2 .ensures) (c .before .before .before .before .before .before .before .before .before .before .if1 .taken))
 
 open-left-requires : tie.Need-open-left-requires
 open-left-requires c κs = (open-asks (c .before .before .before .before .before .before .before .before .before .before .before .pre), sizes (c .before .before .before .before .before .before .before .before .before .before .before .pre) .0)
 
 returns-2 : tie.Need-returns-2
-returns-2 c = (λ w ls. does-as (λ _. by-forall-left (c .before .before .before .before .before .before .before .before .before .before .before .before .before .before .before .before .pre) (c .before .before .before .before .before .before .before .before .before .before .before .shape .ensures) (c .before .before .before .before .before .before .before .before .before .shape2 .ensures) (c .before .before .before .before .before .before .before .before .if1 .left) (c .before .before .before .before .before .before .before .if2 .taken)) (c .before .before .before .before .open-left .ensures .0 _ ls _ (c .before .before .before .before .before .before .before .before .before .before .before .before .before .before .before .before .pre .formed)), c .before .before .before .before .open-left .ensures .1 ∙ report-forall-left (c .before .before .before .before .before .before .before .before .before .before .before .before .before .before .before .before .pre) (c .before .before .before .before .before .before .before .before .before .before .before .before .before .before .before .before .args .c .fresh) (c .before .before .before .before .before .before .before .before .before .before .before .shape .ensures) (c .before .before .before .before .before .before .before .before .before .shape2 .ensures) (c .before .before .before .before .before .before .before .before .if1 .left) (c .before .before .before .before .before .before .before .if2 .taken))
+returns-2 c = (λ w ls. does-as (λ _. by-forall-left (c .before .before .before .before .before .before .before .before .before .before .before .before .before .before .before .before .pre) (c .before .before .before .before .before .before .before .before .before .before .before .shape .ensures) (c .before .before .before .before .before .before .before .before .before .shape2 .ensures) (c .before .before .before .before .before .before .before .before .if1 .left) (c .before .before .before .before .before .before .before .if2 .taken)) (c .before .before .before .before .open-left .ensures .0 _ ls _ (c .before .before .before .before .before .before .before .before .before .before .before .before .before .before .before .before .pre .formed)), c .before .before .before .before .open-left .ensures .1 ∙ report-forall-left (c .before .before .before .before .before .before .before .before .before .before .before .before .before .before .before .before .pre) (c .before .before .before .before .before .before .before .before .before .before .before .before .before .before .before .before .args .c .counters .fresh) (c .before .before .before .before .before .before .before .before .before .before .before .shape .ensures) (c .before .before .before .before .before .before .before .before .before .shape2 .ensures) (c .before .before .before .before .before .before .before .before .if1 .left) (c .before .before .before .before .before .before .before .if2 .taken))
 
 unknown-left-requires : tie.Need-unknown-left-requires
 unknown-left-requires c κs = (c .before .before .before .before .before .before .before .before .before .before .before .before .before .pre, sym (c .before .before .before .before .before .before .before .before .shape .ensures) ∙ c .before .before .before .if3 .taken, λ z. c .before .before .before .before .before .if1 .left (c .before .before .before .before .before .before .shape2 .ensures ∙ z))
 
 returns-3 : tie.Need-returns-3
-returns-3 c = (λ w ls. does-as (λ _. by-unknown-left (c .before .before .before .before .before .before .before .before .before .before .before .before .before .before .before .before .before .before .before .before .pre) (c .before .before .before .before .before .before .before .before .before .before .before .before .before .before .before .shape .ensures) (c .before .before .before .before .before .before .before .before .before .before .before .before .before .shape2 .ensures) (c .before .before .before .before .before .before .before .before .before .before .before .before .if1 .left) (c .before .before .before .before .before .before .before .before .before .before .if3 .taken)) (c .before .before .before .before .before .before .unknown-left .ensures .0 w ls), c .before .before .before .before .before .before .unknown-left .ensures .1 ∙ report-unknown-left (c .before .before .before .before .before .before .before .before .before .before .before .before .before .before .before .before .before .before .before .before .pre) (c .before .before .before .before .before .before .before .before .before .before .before .before .before .before .before .before .before .before .before .before .args .c .fresh) (c .before .before .before .before .before .before .before .before .before .before .before .before .before .before .before .shape .ensures) (c .before .before .before .before .before .before .before .before .before .before .before .before .before .shape2 .ensures) (c .before .before .before .before .before .before .before .before .before .before .before .before .if1 .left) (c .before .before .before .before .before .before .before .before .before .before .if3 .taken))
+returns-3 c = (λ w ls. does-as (λ _. by-unknown-left (c .before .before .before .before .before .before .before .before .before .before .before .before .before .before .before .before .before .before .before .before .pre) (c .before .before .before .before .before .before .before .before .before .before .before .before .before .before .before .shape .ensures) (c .before .before .before .before .before .before .before .before .before .before .before .before .before .shape2 .ensures) (c .before .before .before .before .before .before .before .before .before .before .before .before .if1 .left) (c .before .before .before .before .before .before .before .before .before .before .if3 .taken)) (c .before .before .before .before .before .before .unknown-left .ensures .0 w ls), c .before .before .before .before .before .before .unknown-left .ensures .1 ∙ report-unknown-left (c .before .before .before .before .before .before .before .before .before .before .before .before .before .before .before .before .before .before .before .before .pre) (c .before .before .before .before .before .before .before .before .before .before .before .before .before .before .before .before .before .before .before .before .args .c .counters .fresh) (c .before .before .before .before .before .before .before .before .before .before .before .before .before .before .before .shape .ensures) (c .before .before .before .before .before .before .before .before .before .before .before .before .before .shape2 .ensures) (c .before .before .before .before .before .before .before .before .before .before .before .before .if1 .left) (c .before .before .before .before .before .before .before .before .before .before .if3 .taken))
 
 sub-push-parts : tie.Need-sub-push-parts
 sub-push-parts c = sizes (c .before .before .before .before .before .before .before .before .before .before .before .before .before .before .pre) .0
@@ -46,13 +46,13 @@ push-parts-requires : tie.Need-push-parts-requires
 push-parts-requires c κs = parts-asks (c .before .before .before .before .before .before .before .before .before .before .before .before .before .before .pre)
 
 returns-4 : tie.Need-returns-4
-returns-4 c = (λ w ls. does-as (λ _. by-arrows (c .before .before .before .before .before .before .before .before .before .before .before .before .before .before .before .before .before .pre) (c .before .before .before .before .before .before .before .before .before .before .before .before .shape .ensures) (c .before .before .before .before .before .before .before .before .before .before .shape2 .ensures) (c .before .before .before .before .before .before .if4 .taken) (c .before .before .before .before .before .if5 .taken)) (c .before .before .push-parts .ensures _ ls _ _ (c .before .before .before .before .before .before .before .before .before .before .before .before .before .before .before .before .before .pre .formed)), report-parts (c .before .before .before .before .before .before .before .before .before .before .before .before .before .before .before .before .before .pre) (c .before .before .before .before .before .before .before .before .before .before .before .before .before .before .before .before .before .args .c .fresh) (c .before .before .before .before .before .before .before .before .before .before .before .before .shape .ensures) (c .before .before .before .before .before .before .before .before .before .before .shape2 .ensures) (λ z. omega (arith, c .before .before .before .before .before .if5 .taken)) (λ z. omega (arith, c .before .before .before .before .before .before .if4 .taken)) (λ z. omega (arith, c .before .before .before .before .before .before .if4 .taken)) (λ z. omega (arith, c .before .before .before .before .before .if5 .taken)))
+returns-4 c = (λ w ls. does-as (λ _. by-arrows (c .before .before .before .before .before .before .before .before .before .before .before .before .before .before .before .before .before .pre) (c .before .before .before .before .before .before .before .before .before .before .before .before .shape .ensures) (c .before .before .before .before .before .before .before .before .before .before .shape2 .ensures) (c .before .before .before .before .before .before .if4 .taken) (c .before .before .before .before .before .if5 .taken)) (c .before .before .push-parts .ensures _ ls _ _ (c .before .before .before .before .before .before .before .before .before .before .before .before .before .before .before .before .before .pre .formed)), report-parts (c .before .before .before .before .before .before .before .before .before .before .before .before .before .before .before .before .before .pre) (c .before .before .before .before .before .before .before .before .before .before .before .before .before .before .before .before .before .args .c .counters .fresh) (c .before .before .before .before .before .before .before .before .before .before .before .before .shape .ensures) (c .before .before .before .before .before .before .before .before .before .before .shape2 .ensures) (λ z. omega (arith, c .before .before .before .before .before .if5 .taken)) (λ z. omega (arith, c .before .before .before .before .before .before .if4 .taken)) (λ z. omega (arith, c .before .before .before .before .before .before .if4 .taken)) (λ z. omega (arith, c .before .before .before .before .before .if5 .taken)))
 
 unknown-right-requires : tie.Need-unknown-right-requires
 unknown-right-requires c κs = (c .before .before .before .before .before .before .before .before .before .before .before .before .before .before .before .pre, λ z. c .before .before .before .before .before .before .if2 .left (c .before .before .before .before .before .before .before .before .before .before .shape .ensures ∙ z))
 
 returns-5 : tie.Need-returns-5
-returns-5 c = (λ w ls. does-as (λ _. by-right (c .before .before .before .before .before .before .before .before .before .before .before .before .before .before .before .before .before .before .before .before .before .before .pre) (c .before .before .before .before .before .before .before .before .before .before .before .before .before .before .before .before .before .shape .ensures) (c .before .before .before .before .before .before .before .before .before .before .before .before .before .before .before .shape2 .ensures) (c .before .before .before .before .before .before .before .before .before .before .before .before .before .before .if1 .left) (c .before .before .before .before .before .before .before .before .before .before .before .before .before .if2 .left) (c .before .before .before .before .before .before .before .before .before .before .before .before .if3 .left) (λ _. c .before .before .before .before .before .before .before .before .before .before .if5 .left) (λ z _. omega (arith, c .before .before .before .before .before .before .before .before .before .before .before .if4 .taken))) (c .before .before .before .before .before .before .unknown-right .ensures .0 w ls), c .before .before .before .before .before .before .unknown-right .ensures .1 ∙ report-right (c .before .before .before .before .before .before .before .before .before .before .before .before .before .before .before .before .before .before .before .before .before .before .pre) (c .before .before .before .before .before .before .before .before .before .before .before .before .before .before .before .before .before .before .before .before .before .before .args .c .fresh) (c .before .before .before .before .before .before .before .before .before .before .before .before .before .before .before .before .before .shape .ensures) (c .before .before .before .before .before .before .before .before .before .before .before .before .before .before .before .shape2 .ensures) (c .before .before .before .before .before .before .before .before .before .before .before .before .before .before .if1 .left) (c .before .before .before .before .before .before .before .before .before .before .before .before .before .if2 .left) (c .before .before .before .before .before .before .before .before .before .before .before .before .if3 .left))
+returns-5 c = (λ w ls. does-as (λ _. by-right (c .before .before .before .before .before .before .before .before .before .before .before .before .before .before .before .before .before .before .before .before .before .before .pre) (c .before .before .before .before .before .before .before .before .before .before .before .before .before .before .before .before .before .shape .ensures) (c .before .before .before .before .before .before .before .before .before .before .before .before .before .before .before .shape2 .ensures) (c .before .before .before .before .before .before .before .before .before .before .before .before .before .before .if1 .left) (c .before .before .before .before .before .before .before .before .before .before .before .before .before .if2 .left) (c .before .before .before .before .before .before .before .before .before .before .before .before .if3 .left) (λ _. c .before .before .before .before .before .before .before .before .before .before .if5 .left) (λ z _. omega (arith, c .before .before .before .before .before .before .before .before .before .before .before .if4 .taken))) (c .before .before .before .before .before .before .unknown-right .ensures .0 w ls), c .before .before .before .before .before .before .unknown-right .ensures .1 ∙ report-right (c .before .before .before .before .before .before .before .before .before .before .before .before .before .before .before .before .before .before .before .before .before .before .pre) (c .before .before .before .before .before .before .before .before .before .before .before .before .before .before .before .before .before .before .before .before .before .before .args .c .counters .fresh) (c .before .before .before .before .before .before .before .before .before .before .before .before .before .before .before .before .before .shape .ensures) (c .before .before .before .before .before .before .before .before .before .before .before .before .before .before .before .shape2 .ensures) (c .before .before .before .before .before .before .before .before .before .before .before .before .before .before .if1 .left) (c .before .before .before .before .before .before .before .before .before .before .before .before .before .if2 .left) (c .before .before .before .before .before .before .before .before .before .before .before .before .if3 .left))
 
 sub-push-parts-3 : tie.Need-sub-push-parts-3
 sub-push-parts-3 c = sizes (c .before .before .before .before .before .before .before .before .before .before .before .before .before .before .before .pre) .0
@@ -64,19 +64,19 @@ push-parts-requires-2 : tie.Need-push-parts-requires-2
 push-parts-requires-2 c κs = parts-asks (c .before .before .before .before .before .before .before .before .before .before .before .before .before .before .before .pre)
 
 returns-6 : tie.Need-returns-6
-returns-6 c = (λ w ls. does-as (λ _. by-apps (c .before .before .before .before .before .before .before .before .before .before .before .before .before .before .before .before .before .before .pre) (c .before .before .before .before .before .before .before .before .before .before .before .before .before .shape .ensures) (c .before .before .before .before .before .before .before .before .before .before .before .shape2 .ensures) (c .before .before .before .before .before .before .if6 .taken) (c .before .before .before .before .before .if7 .taken)) (c .before .before .push-parts2 .ensures _ ls _ _ (c .before .before .before .before .before .before .before .before .before .before .before .before .before .before .before .before .before .before .pre .formed)), report-parts (c .before .before .before .before .before .before .before .before .before .before .before .before .before .before .before .before .before .before .pre) (c .before .before .before .before .before .before .before .before .before .before .before .before .before .before .before .before .before .before .args .c .fresh) (c .before .before .before .before .before .before .before .before .before .before .before .before .before .shape .ensures) (c .before .before .before .before .before .before .before .before .before .before .before .shape2 .ensures) (λ z. omega (arith, c .before .before .before .before .before .if7 .taken)) (λ z. omega (arith, c .before .before .before .before .before .before .if6 .taken)) (λ z. omega (arith, c .before .before .before .before .before .before .if6 .taken)) (λ z. omega (arith, c .before .before .before .before .before .if7 .taken)))
+returns-6 c = (λ w ls. does-as (λ _. by-apps (c .before .before .before .before .before .before .before .before .before .before .before .before .before .before .before .before .before .before .pre) (c .before .before .before .before .before .before .before .before .before .before .before .before .before .shape .ensures) (c .before .before .before .before .before .before .before .before .before .before .before .shape2 .ensures) (c .before .before .before .before .before .before .if6 .taken) (c .before .before .before .before .before .if7 .taken)) (c .before .before .push-parts2 .ensures _ ls _ _ (c .before .before .before .before .before .before .before .before .before .before .before .before .before .before .before .before .before .before .pre .formed)), report-parts (c .before .before .before .before .before .before .before .before .before .before .before .before .before .before .before .before .before .before .pre) (c .before .before .before .before .before .before .before .before .before .before .before .before .before .before .before .before .before .before .args .c .counters .fresh) (c .before .before .before .before .before .before .before .before .before .before .before .before .before .shape .ensures) (c .before .before .before .before .before .before .before .before .before .before .before .shape2 .ensures) (λ z. omega (arith, c .before .before .before .before .before .if7 .taken)) (λ z. omega (arith, c .before .before .before .before .before .before .if6 .taken)) (λ z. omega (arith, c .before .before .before .before .before .before .if6 .taken)) (λ z. omega (arith, c .before .before .before .before .before .if7 .taken)))
 
 unknown-right-requires-2 : tie.Need-unknown-right-requires-2
 unknown-right-requires-2 c κs = (c .before .before .before .before .before .before .before .before .before .before .before .before .before .before .before .before .pre, λ z. c .before .before .before .before .before .before .before .if2 .left (c .before .before .before .before .before .before .before .before .before .before .before .shape .ensures ∙ z))
 
 returns-7 : tie.Need-returns-7
-returns-7 c = (λ w ls. does-as (λ _. by-right (c .before .before .before .before .before .before .before .before .before .before .before .before .before .before .before .before .before .before .before .before .before .before .before .pre) (c .before .before .before .before .before .before .before .before .before .before .before .before .before .before .before .before .before .before .shape .ensures) (c .before .before .before .before .before .before .before .before .before .before .before .before .before .before .before .before .shape2 .ensures) (c .before .before .before .before .before .before .before .before .before .before .before .before .before .before .before .if1 .left) (c .before .before .before .before .before .before .before .before .before .before .before .before .before .before .if2 .left) (c .before .before .before .before .before .before .before .before .before .before .before .before .before .if3 .left) (λ z _. omega (arith, c .before .before .before .before .before .before .before .before .before .before .before .if6 .taken)) (λ _. c .before .before .before .before .before .before .before .before .before .before .if7 .left)) (c .before .before .before .before .before .before .unknown-right2 .ensures .0 w ls), c .before .before .before .before .before .before .unknown-right2 .ensures .1 ∙ report-right (c .before .before .before .before .before .before .before .before .before .before .before .before .before .before .before .before .before .before .before .before .before .before .before .pre) (c .before .before .before .before .before .before .before .before .before .before .before .before .before .before .before .before .before .before .before .before .before .before .before .args .c .fresh) (c .before .before .before .before .before .before .before .before .before .before .before .before .before .before .before .before .before .before .shape .ensures) (c .before .before .before .before .before .before .before .before .before .before .before .before .before .before .before .before .shape2 .ensures) (c .before .before .before .before .before .before .before .before .before .before .before .before .before .before .before .if1 .left) (c .before .before .before .before .before .before .before .before .before .before .before .before .before .before .if2 .left) (c .before .before .before .before .before .before .before .before .before .before .before .before .before .if3 .left))
+returns-7 c = (λ w ls. does-as (λ _. by-right (c .before .before .before .before .before .before .before .before .before .before .before .before .before .before .before .before .before .before .before .before .before .before .before .pre) (c .before .before .before .before .before .before .before .before .before .before .before .before .before .before .before .before .before .before .shape .ensures) (c .before .before .before .before .before .before .before .before .before .before .before .before .before .before .before .before .shape2 .ensures) (c .before .before .before .before .before .before .before .before .before .before .before .before .before .before .before .if1 .left) (c .before .before .before .before .before .before .before .before .before .before .before .before .before .before .if2 .left) (c .before .before .before .before .before .before .before .before .before .before .before .before .before .if3 .left) (λ z _. omega (arith, c .before .before .before .before .before .before .before .before .before .before .before .if6 .taken)) (λ _. c .before .before .before .before .before .before .before .before .before .before .if7 .left)) (c .before .before .before .before .before .before .unknown-right2 .ensures .0 w ls), c .before .before .before .before .before .before .unknown-right2 .ensures .1 ∙ report-right (c .before .before .before .before .before .before .before .before .before .before .before .before .before .before .before .before .before .before .before .before .before .before .before .pre) (c .before .before .before .before .before .before .before .before .before .before .before .before .before .before .before .before .before .before .before .before .before .before .before .args .c .counters .fresh) (c .before .before .before .before .before .before .before .before .before .before .before .before .before .before .before .before .before .before .shape .ensures) (c .before .before .before .before .before .before .before .before .before .before .before .before .before .before .before .before .shape2 .ensures) (c .before .before .before .before .before .before .before .before .before .before .before .before .before .before .before .if1 .left) (c .before .before .before .before .before .before .before .before .before .before .before .before .before .before .if2 .left) (c .before .before .before .before .before .before .before .before .before .before .before .before .before .if3 .left))
 
 unknown-right-requires-3 : tie.Need-unknown-right-requires-3
 unknown-right-requires-3 c κs = (c .before .before .before .before .before .before .before .before .before .before .before .before .before .before .before .pre, λ z. c .before .before .before .before .before .before .if2 .left (c .before .before .before .before .before .before .before .before .before .before .shape .ensures ∙ z))
 
 returns-8 : tie.Need-returns-8
-returns-8 c = (λ w ls. does-as (λ _. by-right (c .before .before .before .before .before .before .before .before .before .before .before .before .before .before .before .before .before .before .before .before .before .before .pre) (c .before .before .before .before .before .before .before .before .before .before .before .before .before .before .before .before .before .shape .ensures) (c .before .before .before .before .before .before .before .before .before .before .before .before .before .before .before .shape2 .ensures) (c .before .before .before .before .before .before .before .before .before .before .before .before .before .before .if1 .left) (c .before .before .before .before .before .before .before .before .before .before .before .before .before .if2 .left) (c .before .before .before .before .before .before .before .before .before .before .before .before .if3 .left) (λ z _. c .before .before .before .before .before .before .before .before .before .before .before .if4 .left z) (λ z _. c .before .before .before .before .before .before .before .before .before .before .if6 .left z)) (c .before .before .before .before .before .before .unknown-right3 .ensures .0 w ls), c .before .before .before .before .before .before .unknown-right3 .ensures .1 ∙ report-right (c .before .before .before .before .before .before .before .before .before .before .before .before .before .before .before .before .before .before .before .before .before .before .pre) (c .before .before .before .before .before .before .before .before .before .before .before .before .before .before .before .before .before .before .before .before .before .before .args .c .fresh) (c .before .before .before .before .before .before .before .before .before .before .before .before .before .before .before .before .before .shape .ensures) (c .before .before .before .before .before .before .before .before .before .before .before .before .before .before .before .shape2 .ensures) (c .before .before .before .before .before .before .before .before .before .before .before .before .before .before .if1 .left) (c .before .before .before .before .before .before .before .before .before .before .before .before .before .if2 .left) (c .before .before .before .before .before .before .before .before .before .before .before .before .if3 .left))
+returns-8 c = (λ w ls. does-as (λ _. by-right (c .before .before .before .before .before .before .before .before .before .before .before .before .before .before .before .before .before .before .before .before .before .before .pre) (c .before .before .before .before .before .before .before .before .before .before .before .before .before .before .before .before .before .shape .ensures) (c .before .before .before .before .before .before .before .before .before .before .before .before .before .before .before .shape2 .ensures) (c .before .before .before .before .before .before .before .before .before .before .before .before .before .before .if1 .left) (c .before .before .before .before .before .before .before .before .before .before .before .before .before .if2 .left) (c .before .before .before .before .before .before .before .before .before .before .before .before .if3 .left) (λ z _. c .before .before .before .before .before .before .before .before .before .before .before .if4 .left z) (λ z _. c .before .before .before .before .before .before .before .before .before .before .if6 .left z)) (c .before .before .before .before .before .before .unknown-right3 .ensures .0 w ls), c .before .before .before .before .before .before .unknown-right3 .ensures .1 ∙ report-right (c .before .before .before .before .before .before .before .before .before .before .before .before .before .before .before .before .before .before .before .before .before .before .pre) (c .before .before .before .before .before .before .before .before .before .before .before .before .before .before .before .before .before .before .before .before .before .before .args .c .counters .fresh) (c .before .before .before .before .before .before .before .before .before .before .before .before .before .before .before .before .before .shape .ensures) (c .before .before .before .before .before .before .before .before .before .before .before .before .before .before .before .shape2 .ensures) (c .before .before .before .before .before .before .before .before .before .before .before .before .before .before .if1 .left) (c .before .before .before .before .before .before .before .before .before .before .before .before .before .if2 .left) (c .before .before .before .before .before .before .before .before .before .before .before .before .if3 .left))
 
 pub subtype-shapes-spec : {M : Type 1} → statement M
 subtype-shapes-spec =
