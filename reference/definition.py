@@ -4,8 +4,8 @@
 RECORDS is a file in the format of src/record.rs, as `reference generate --answers` and `reference record` write it. The
 repository is copied to a temporary folder, and there a crate is added whose one theorem says, by computation in the prover,
 that `judge` gives for every plan of a chunk, by the rule of its call, the recorded seven numbers, report types, solutions in
-order and levels. Plans refused before a run (1 to 5) are left out. Run it anywhere inside the repository; it needs `rt`. Exit
-status 1 at a difference.
+order and levels. Plans refused before a run (1 to 5) are left out, and so are raw records, which are calls with any bytes. Run
+it anywhere inside the repository; it needs `rt`. Exit status 1 at a difference.
 """
 import argparse, itertools, os, shutil, subprocess, sys, tempfile
 from collections import namedtuple
@@ -50,6 +50,7 @@ unfoldable pub row : Mode → ℕ → List Triple → Row
 row m c ls = let r = judge (LIMITS) c ls in ((numbers (r .answer), r .report, r .solutions), levelsFrom (r .levels) 0 (r .answer .fresh))
 """
 
+RAW = ("3 ", "4 ")
 Plan = namedtuple("Plan", "call ceiling lines seven report solutions levels")
 
 
@@ -164,7 +165,10 @@ def main():
     a.add_argument("--chunk", type=int, default=1000)
     a.add_argument("--limits", help="the limits that the records were made with, where they are not document 01's; none for no limit")
     o = a.parse_args()
-    plans = [parse(l) for l in open(o.records, encoding="utf-8") if not l.startswith("#")]
+    records = [l for l in open(o.records, encoding="utf-8") if not l.startswith("#")]
+    plans = [parse(l) for l in records if not l.startswith(RAW)]
+    if len(plans) < len(records):
+        print(f"{len(records) - len(plans)} raw records left out")
     plans = [p for p in plans if p.seven[0] not in (1, 2, 3, 4, 5)]
     same = 0
     with tempfile.TemporaryDirectory() as folder:

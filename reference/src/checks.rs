@@ -2,7 +2,7 @@
 //! every word of the three buffers.
 
 use crate::oracle::{answer_call, sizes, Answer, Door};
-use crate::proved::{Buffers, Check};
+use crate::proved::{lend, Buffers, Check};
 
 const UNKNOWNS: usize = 1000;
 
@@ -82,7 +82,7 @@ pub fn put(check: Check, call: &Call, salt: u32) -> Put {
     let before = dirty(salt, lengths);
     let answer = answer_call(door, sheet, ceiling, limit, lengths);
     let mut after = before.clone();
-    let (number, seven) = check(door, sheet, ceiling, limit, &mut after);
+    let (number, seven) = check(door, sheet, ceiling, limit, lend(&mut after, lengths));
     let same = number == answer.number
         && seven == answer.seven()
         && after == expected(&answer, limit, &before);

@@ -4,7 +4,7 @@
 use crate::checks::{put, Call, Put};
 use crate::damage::damaged;
 use crate::generate::limits::{self, Found};
-use crate::generate::{catalogue, compared, random, scoped, small, Made};
+use crate::generate::{catalogue, compared, grown, random, scoped, small, Made};
 use crate::oracle::{run_limited, sizes, under_limit, Door, LIMIT, MOST_LIMIT, MOST_STEPS};
 use crate::proved::{proved, Check, Proved};
 use crate::random::Random;
@@ -17,6 +17,8 @@ const DOORS: [Door; 2] = [Door::First, Door::Strict];
 struct Tally {
     check: Check,
     numbers: BTreeMap<(Door, u32), usize>,
+    /// By the number that a search went to and the one that came.
+    towards: BTreeMap<(u32, Door, u32), usize>,
     compared: usize,
     differences: usize,
 }
@@ -26,12 +28,14 @@ impl Tally {
         Tally {
             check,
             numbers: BTreeMap::new(),
+            towards: BTreeMap::new(),
             compared: 0,
             differences: 0,
         }
     }
 
-    fn put(&mut self, call: &Call) {
+    /// The number that comes.
+    fn put(&mut self, call: &Call) -> u32 {
         let put = put(self.check, call, self.compared as u32);
         self.compared += 1;
         let key = (call.door, put.answer.number);
@@ -40,6 +44,7 @@ impl Tally {
             self.differences += 1;
             self.show_difference(call, &put);
         }
+        put.answer.number
     }
 
     /// Under document 01's limit and with buffers longer by a few words.
@@ -62,14 +67,14 @@ impl Tally {
         }
     }
 
-    fn put_limited(&mut self, door: Door, sheet: &[u8], ceiling: u32, limit: u32) {
+    fn put_limited(&mut self, door: Door, sheet: &[u8], ceiling: u32, limit: u32) -> u32 {
         self.put(&Call {
             door,
             sheet,
             ceiling,
             limit,
             lengths: longer(limit, self.compared),
-        });
+        })
     }
 
     fn show_difference(&self, call: &Call, put: &Put) {
@@ -93,6 +98,9 @@ impl Tally {
         for ((door, number), count) in &self.numbers {
             println!("{door:?} call, number {number}: {count}");
         }
+        for ((towards, door, number), count) in &self.towards {
+            println!("towards {towards}, {door:?} call, number {number}: {count}");
+        }
         println!("compared: {}", self.compared);
         println!("differences: {}", self.differences);
     }
@@ -114,7 +122,8 @@ fn shorter(limit: u32, at: usize) -> [usize; 3] {
 /// True if both give the same on random plans, on damaged sheets, on the plans
 /// of the wall and the limits, on every small plan, with short buffers and under
 /// limits that a caller picks, these too on plans whose comparisons follow
-/// solutions, on plans over a catalogue, and on plans about scope.
+/// solutions, on plans over a catalogue, on plans about scope, and on plans that
+/// are grown until they come to a limit.
 pub fn compare(seed: u64, count: usize, damages: usize) -> bool {
     let Some(Proved { check, .. }) = proved() else {
         return false;
@@ -129,6 +138,7 @@ pub fn compare(seed: u64, count: usize, damages: usize) -> bool {
     followed(&mut tally, seed, count.div_ceil(5));
     marked(&mut tally, seed, count.div_ceil(5));
     in_scope(&mut tally, seed, count);
+    at_limits(&mut tally, seed, count.div_ceil(28));
     tally.show();
     tally.differences == 0
 }
@@ -170,6 +180,17 @@ fn in_scope(tally: &mut Tally, seed: u64, count: usize) {
             let limit = pick(&mut numbers);
             tally.put_limited(Door::Strict, &write(&made.lines), made.ceiling, limit);
         }
+    }
+}
+
+/// Plans at one below to two above the size at which they come to a limit, from so
+/// many searches for each.
+fn at_limits(tally: &mut Tally, seed: u64, count: usize) {
+    for grown in grown::random(seed + 9, count) {
+        let Made { ceiling, lines } = &grown.made;
+        let number = tally.put_limited(grown.door, &write(lines), *ceiling, grown.limit);
+        let key = (grown.towards, grown.door, number);
+        *tally.towards.entry(key).or_default() += 1;
     }
 }
 

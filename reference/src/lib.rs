@@ -4,12 +4,14 @@
 pub mod checks;
 pub mod compare;
 pub mod damage;
+pub mod edges;
 pub mod generate;
 pub mod mark;
 pub mod oracle;
 pub mod plan;
 pub mod proved;
 pub mod random;
+pub mod raws;
 pub mod readers;
 pub mod record;
 pub mod sheet;

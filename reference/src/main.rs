@@ -7,7 +7,7 @@ use reference::oracle::{
     answer_call, answer_lines, answer_sheet, sizes, under_limit, Answer, Door, LIMIT, MOST_STEPS,
 };
 use reference::plan::Node;
-use reference::{compare, readers, record, wall, with_stack};
+use reference::{compare, raws, readers, record, wall, with_stack};
 use std::collections::BTreeMap;
 use std::fmt::Display;
 use std::io::{Read, Write};
@@ -25,6 +25,7 @@ const USAGE: &str = "usage: reference COMMAND
                                        first or the strict call; other limits: entries, nodes,
                                        written out, fresh, solutions
   record --out FILE                    the recorded list of plans and answers
+  raw-checks --list FILE               the raw records of a list beside the proved checker
   wall                                 document 01's plans on the wall
   readers --seed S --count N           this reader beside the proved one
   checks --seed S --count N --damaged M
@@ -84,6 +85,7 @@ fn command(arguments: &[String]) -> Result<bool, String> {
         "answer" => answer(&options),
         "generate" => generate_plans(&options),
         "record" => record_list(options.text("--out").ok_or("--out is lacking")?),
+        "raw-checks" => raw_checks(options.text("--list").ok_or("--list is lacking")?),
         "wall" => Ok(wall::check()),
         "readers" => Ok(readers::compare(
             options.number("--seed", None)?,
@@ -239,6 +241,11 @@ fn record_list(path: &str) -> Result<bool, String> {
     std::fs::write(path, &list).map_err(|error| format!("{path}: {error}"))?;
     println!("{plans} plans, {} bytes", list.len());
     Ok(true)
+}
+
+fn raw_checks(path: &str) -> Result<bool, String> {
+    let list = std::fs::read_to_string(path).map_err(|error| format!("{path}: {error}"))?;
+    Ok(raws::compare(&list))
 }
 
 fn stats(options: &Options) -> Result<bool, String> {

@@ -7,7 +7,7 @@ use crate::plan::{name_number, nodes, unknown_number, Node, Plan};
 use crate::sheet::{self, Line, Refusal};
 use crate::stepwise::Stepwise;
 pub use limited::Door;
-use limited::{Limited, Passed, Peaks, Step};
+use limited::{Limited, Passed, Peaks, Rule, Step};
 use plain::core::CoreType;
 use plain::errors::TypeError;
 use plain::worklist::DKInference;
@@ -78,6 +78,8 @@ pub struct Run {
     pub passed: Option<Passed>,
     /// The unknown whose split the last judgment has begun.
     pub split: Option<u32>,
+    /// The last judgment and the limited operations that it has done.
+    pub last: (Rule, usize),
 }
 
 /// A whole call: 1, 32 and 2 before the sheet is looked at, then the Rust under the limit.
@@ -217,6 +219,7 @@ pub fn run_limited(door: Door, plan: &Plan, ceiling: u32) -> Run {
         peaks: rust.peaks(),
         passed,
         split: rust.split().map(|unknown| unknown as u32),
+        last: rust.last(),
     }
 }
 

@@ -7,8 +7,21 @@ use crate::sheet::Refusal;
 /// Board, book and report.
 pub type Buffers = [Vec<u32>; 3];
 
+/// The words of them that a call is lent.
+pub type Lent<'a> = [&'a mut [u32]; 3];
+
 /// Call, sheet, ceiling, limit and buffers to the number returned and the seven.
-pub type Check = fn(Door, &[u8], u32, u32, &mut Buffers) -> (u32, [u32; 7]);
+pub type Check = fn(Door, &[u8], u32, u32, Lent) -> (u32, [u32; 7]);
+
+/// So many words of each buffer, from its first one on.
+pub fn lend(buffers: &mut Buffers, lengths: [usize; 3]) -> Lent<'_> {
+    let [board, book, report] = buffers;
+    [
+        &mut board[..lengths[0]],
+        &mut book[..lengths[1]],
+        &mut report[..lengths[2]],
+    ]
+}
 
 /// Number and line, both 0 for a plan.
 pub type Read = fn(&[u8]) -> Refusal;
@@ -38,7 +51,7 @@ const PROVED: Option<Proved> = Some(Proved {
 
 #[cfg(feature = "proved")]
 mod linked {
-    use super::{Buffers, Door, Refusal};
+    use super::{Door, Lent, Refusal};
 
     extern "C" {
         fn kirvoghus_read_sheet(sheet: *const u8, len: usize, line: *mut u32) -> u32;
@@ -82,13 +95,12 @@ mod linked {
         sheet: &[u8],
         ceiling: u32,
         limit: u32,
-        buffers: &mut Buffers,
+        [board, book, report]: Lent,
     ) -> (u32, [u32; 7]) {
         let entry = match door {
             Door::First => kirvoghus_check_type,
             Door::Strict => kirvoghus_check_type_strict,
         };
-        let [board, book, report] = buffers;
         let mut result = [u32::MAX; 7];
         // The library stays within the lengths that it is told.
         let number = unsafe {

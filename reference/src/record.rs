@@ -1,10 +1,21 @@
 //! Plans with their answers as lines of decimal numbers: call (1 the first, 2 the
-//! strict one), ceiling, line count, the lines by threes; the seven numbers; the
-//! count of report nodes and the nodes; the count of solutions and, for each,
-//! unknown, node count and nodes; the levels, as many as the fourth of the seven
-//! says.
+//! strict one), ceiling, line count, the lines by threes; then the answer: the
+//! seven numbers; the count of report nodes and the nodes; the count of solutions
+//! and, for each, unknown, node count and nodes; the levels, as many as the fourth
+//! of the seven says. The limit is document 01's, and each buffer is some words
+//! longer than it has to be.
+//!
+//! A raw record, of any call with any bytes: call (3 the first, 4 the strict one),
+//! ceiling, limit, the words lent of board, book and report, line count, the lines
+//! by threes, the sheet's length in bytes, the count of edits and, for each, place
+//! (from 0) and byte; then the answer. The sheet is the lines as text, zeros up to
+//! its length, and then the edits. A line that spells no triple is 0 0 0 with edits.
+//! A line that begins with # says what follows it.
+
+pub mod raw;
 
 use crate::damage::damaged_lines;
+use crate::edges;
 use crate::generate::{limits, random, scoped, small, Made};
 use crate::oracle::{answer_lines, Answer, Door, MOST_STEPS};
 use crate::plan::Node;
@@ -79,6 +90,19 @@ pub fn list() -> String {
     for (door, made) in first.chain(both) {
         text += &answered_line(door, &made);
         text.push('\n');
+    }
+    text + &raw_list()
+}
+
+/// The raw records, each family below its title.
+fn raw_list() -> String {
+    let mut text = String::new();
+    for (title, calls) in edges::families() {
+        text += &format!("# Raw: {title}.\n");
+        for call in calls {
+            text += &raw::encode(&call, &call.answer());
+            text.push('\n');
+        }
     }
     text
 }

@@ -53,7 +53,8 @@ pub fn read_lines(sheet: &[u8]) -> Result<Vec<Line>, Refusal> {
         .collect()
 }
 
-fn read_line(bytes: &[u8]) -> Option<Line> {
+/// A line of 29 bytes that spells three numbers.
+pub fn read_line(bytes: &[u8]) -> Option<Line> {
     let kind = read_field(&bytes[KIND], false)?;
     let value = read_field(&bytes[VALUE], kind == LIT_INT)?;
     let count = read_field(&bytes[COUNT], false)?;

@@ -1,6 +1,8 @@
 //! The reader's refusals, round trips, the wall, the plain mark, and both
 //! inclusions of the Rust on generated plans (`answer_plan` panics where they differ).
 
+mod grown;
+mod raw;
 mod scope;
 
 use crate::generate::{limits, random, small};

@@ -6,6 +6,7 @@ use crate::core::CoreType;
 use crate::levels::{self, number_after};
 use rust_std::borrow::ToOwned;
 use rust_std::boxed::Box;
+use rust_std::cell::Cell;
 use rust_std::collections::BTreeMap;
 use rust_std::ops::Deref;
 use rust_std::string::String;
@@ -19,6 +20,19 @@ pub struct Passed {
     /// What the operation would have brought the limited number to; for 23 no
     /// more than a little past the limit, for 39 the universal's number.
     pub reached: usize,
+}
+
+rust_std::thread_local! {
+    /// The limited operations that the step under way has done.
+    static DONE: Cell<usize> = const { Cell::new(0) };
+}
+
+pub fn set_done(count: usize) {
+    DONE.set(count);
+}
+
+pub fn done() -> usize {
+    DONE.get()
 }
 
 /// `resume_unwind` rather than `panic!`: it runs no panic hook, so nothing is
@@ -43,6 +57,7 @@ fn granted(number: usize) {
     if number >= crate::limit(3) {
         refuse(24, number + 1);
     }
+    DONE.set(DONE.get() + 1);
 }
 
 /// A type's constructors: the length of its list of nodes.
@@ -97,6 +112,7 @@ impl<T: Element> Vec<T> {
         if T::ON_BOARD && nodes > crate::limit(1) {
             refuse(22, nodes);
         }
+        DONE.set(DONE.get() + usize::from(T::ON_BOARD));
         self.items.push(item);
         self.nodes = nodes;
         self.peak_len = self.peak_len.max(len);
@@ -166,6 +182,7 @@ impl HashMap<String, CoreType> {
             refuse(25, solved);
         }
         levels::given(unknown, ty, |other| self.map.contains_key(other));
+        DONE.set(DONE.get() + 1);
         self.solved = solved;
         self.order.push(name.to_owned());
     }

@@ -15,7 +15,7 @@ mod hooks;
 mod levels;
 
 pub use hooks::Passed;
-pub use worklist::{Limited, Peaks, Step};
+pub use worklist::{Limited, Peaks, Rule, Step};
 
 /// The two entry calls of W12.
 #[derive(Debug, Clone, Copy, Default, PartialEq, Eq, PartialOrd, Ord)]
@@ -70,7 +70,7 @@ fn limit(at: usize) -> usize {
 
 #[allow(dead_code)]
 mod worklist {
-    use crate::hooks::{node_count, Element, Passed, Vec};
+    use crate::hooks::{done, node_count, set_done, Element, Passed, Vec};
     use crate::levels::{number_after, Levels};
     use crate::Door;
     use rust_std::boxed::Box;
@@ -127,6 +127,33 @@ mod worklist {
         pub solved: usize,
     }
 
+    fn type_name(ty: &CoreType) -> &'static str {
+        match ty {
+            CoreType::Var(_) => "Var",
+            CoreType::ETVar(_) => "unknown",
+            CoreType::Con(_) => "Con",
+            CoreType::Arrow(..) => "Arrow",
+            CoreType::Forall(..) => "Forall",
+            CoreType::App(..) => "App",
+            CoreType::Product(_) => "Product",
+        }
+    }
+
+    fn term_name(term: &CoreTerm) -> &'static str {
+        match term {
+            CoreTerm::Var(_) => "Var",
+            CoreTerm::LitInt(_) => "LitInt",
+            CoreTerm::Lambda { .. } => "Lambda",
+            CoreTerm::App { .. } => "App",
+            CoreTerm::TypeLambda { .. } => "TypeLambda",
+            CoreTerm::Constructor { .. } => "Constructor",
+            CoreTerm::Case { .. } => "Case",
+            CoreTerm::BinOp { .. } => "BinOp",
+            CoreTerm::If { .. } => "If",
+            CoreTerm::IntrinsicCall { .. } => "IntrinsicCall",
+        }
+    }
+
     #[derive(Debug)]
     pub enum Step {
         Went,
@@ -134,11 +161,15 @@ mod worklist {
         Passed(Passed),
     }
 
+    /// A judgment's form and the heads of what it is about, types written out.
+    pub type Rule = [&'static str; 3];
+
     /// A run under the limits, one entry at a time.
     pub struct Limited {
         inference: DKInference,
         written: usize,
         levels: Levels,
+        rule: Rule,
     }
 
     impl Limited {
@@ -157,6 +188,7 @@ mod worklist {
                 inference,
                 written: 0,
                 levels: Levels::new(door),
+                rule: Rule::default(),
             }
         }
 
@@ -167,9 +199,12 @@ mod worklist {
             let WorklistEntry::Judgment(judgment) = entry else {
                 return Some(Step::Went);
             };
+            set_done(0);
+            self.rule = self.rule_of(&judgment);
             if let Err(passed) = self.write_out(&judgment) {
                 return Some(Step::Passed(passed));
             }
+            set_done(0);
             let splits = self.split_by(&judgment);
             let inference = &mut self.inference;
             let rule = AssertUnwindSafe(|| inference.solve_judgment(judgment));
@@ -182,6 +217,19 @@ mod worklist {
                     Err(other) => resume_unwind(other),
                 },
             })
+        }
+
+        fn rule_of(&self, judgment: &Judgment) -> Rule {
+            match judgment {
+                Judgment::Sub { left, right } => [
+                    "Sub",
+                    type_name(self.head(left)),
+                    type_name(self.head(right)),
+                ],
+                Judgment::Inf { term, .. } => ["Inf", term_name(term), ""],
+                Judgment::Chk { term, ty } => ["Chk", term_name(term), type_name(ty)],
+                Judgment::InfApp { func_ty, .. } => ["InfApp", type_name(self.head(func_ty)), ""],
+            }
         }
 
         /// The unknown that a rule splits, if it comes to making numbers: known
@@ -239,6 +287,7 @@ mod worklist {
                 });
             }
             self.written = self.written.max(count);
+            set_done(done() + 1);
             Ok(())
         }
 
@@ -290,6 +339,13 @@ mod worklist {
         /// The unknown whose split the last judgment has begun.
         pub fn split(&self) -> Option<usize> {
             self.levels.split()
+        }
+
+        /// The last judgment, and how many limited operations it has done: numbers
+        /// made, entries pushed, solutions given, or, where 23 ended it, types
+        /// written out.
+        pub fn last(&self) -> (Rule, usize) {
+            (self.rule, done())
         }
 
         pub fn peaks(&self) -> Peaks {

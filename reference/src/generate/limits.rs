@@ -96,7 +96,7 @@ fn edge(
     panic!("{title}: the family does not meet its limit and pass it by one, {met:?} {passed:?}")
 }
 
-pub(super) fn sheet(
+pub(crate) fn sheet(
     constructors: &[(u32, Ty)],
     context: &[(u32, Ty)],
     expected: Ty,
@@ -112,7 +112,7 @@ pub(super) fn seven() -> Line {
 }
 
 /// `n30` with parameters before it.
-pub(super) fn making_n30(params: &[Ty]) -> Ty {
+pub(crate) fn making_n30(params: &[Ty]) -> Ty {
     params
         .iter()
         .rev()

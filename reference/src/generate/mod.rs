@@ -3,6 +3,7 @@
 pub mod catalogue;
 pub mod compared;
 mod directed;
+pub mod grown;
 pub mod limits;
 mod open;
 mod related;
