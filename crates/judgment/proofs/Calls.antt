@@ -1,6 +1,6 @@
 -- Calls that are refused before a run, and calls with low limits and the highest, with the answers of `reference answer`, by computation;
 -- and books of several solutions, read back. Assumes nothing.
-use mathlib.Core.Path.{_≡_, refl, ap, _∙_}
+use mathlib.Core.Path.{_≡_, refl, sym, ap, subst, _∙_}
 use mathlib.Core.Bool.{cond, _||_}
 use mathlib.Core.List.{List, [], _∷_, _++_, map}
 use Prim.Native.Nat.{ℕ, _+_, _*_, _≤_}
@@ -23,7 +23,7 @@ use Rattle.judgment.specs.Board.{boardNodes, findVar, before, perform, o
 use Rattle.judgment.specs.Rules.{instantiateFrom, subtype, openNames, signatureFrom, insert, pushVars, checkPatterns, checkArms, inferApp}
 use Rattle.judgment.specs.Run.{runFrom, checkType}
 use Rattle.judgment.specs.Result.{Result, numbers, Buffers, Called, padded, placeFrom, nodeWords, bookWords, reportWords, boardWords, resultOf, runOf, judge, limitsFor, limits, refusedAt, written, byCheck, call, threesFrom}
-use Rattle.judgment.proofs.Words.{length-board}
+use Rattle.judgment.proofs.Words.{length-board, length-book, length-report}
 use Rattle.judgment.proofs.Wall.{l, firstSheet, Row}
 use Rattle.judgment.proofs.Telling.{answers}
 use Rattle.judgment.specs.Levels.{ownLevels, firstCall}
@@ -140,6 +140,19 @@ pub board-after : (w : ℕ) (b : Buffers) (r : Result) → 12288 ≤ length (b .
 unfolding boardWords
 board-after w b r h = sets-eq boardWords (b .board) 0 h
     ∙ ap (λ (k : ℕ). boardWords ++ drop k (b .board)) (zero-add (length boardWords) ∙ length-board)
+
+-- and the words of the book and of the report, those that follow in a longer one being kept
+pub book-after : (w : ℕ) (b : Buffers) (r : Result) → 11192 ≤ length (b .book) → written w b r .after .book ≡ bookWords (r .solutions) (r .levels) (r .answer .fresh) ++ drop 11192 (b .book)
+book-after w b r h =
+    let ws = bookWords (r .solutions) (r .levels) (r .answer .fresh) in
+    let whole : 0 + length ws ≡ 11192 = zero-add (length ws) ∙ length-book (r .solutions) (r .levels) (r .answer .fresh) in
+    sets-eq ws (b .book) 0 (subst (λ (k : ℕ). k ≤ length (b .book)) (sym whole) h) ∙ ap (λ (k : ℕ). ws ++ drop k (b .book)) whole
+
+pub report-after : (w : ℕ) (b : Buffers) (r : Result) → 4 * w ≤ length (b .report) → written w b r .after .report ≡ reportWords w (r .report) ++ drop (4 * w) (b .report)
+report-after w b r h =
+    let ws = reportWords w (r .report) in
+    let whole : 0 + length ws ≡ 4 * w = zero-add (length ws) ∙ length-report w (r .report) in
+    sets-eq ws (b .report) 0 (subst (λ (k : ℕ). k ≤ length (b .report)) (sym whole) h) ∙ ap (λ (k : ℕ). ws ++ drop k (b .report)) whole
 
 -- what stands where a book's three words say
 abbrev stands : List ℕ → Solution → Ty

@@ -1,5 +1,5 @@
--- What a rule did, as `operations` lists it, is what `perform` left; and no rule meets a solved unknown. Assumes nothing.
-use Prim.Native.Nat.{ℕ, zero, suc, _+_, _≤_, _<_}
+-- What a rule did, as `operations` lists it, is what `perform` left; and what all operations of a run are like (`run-orderly`): none meets a solved unknown. Assumes nothing.
+use Prim.Native.Nat.{ℕ, zero, suc, _+_}
 use native.Mathlib.Omega.{arith}
 use mathlib.Core.Path.{_≡_, refl, sym, _∙_, ap, subst⁻¹}
 use mathlib.Core.Bool.{Bool, true, false, cond}
@@ -8,7 +8,7 @@ use mathlib.Core.List.{List, [], _∷_, _++_, append-nil, append-assoc}
 use lib.ListN.{length}
 use Rattle.nodes.specs.Nodes.{Ty}
 use Rattle.nodes.specs.Lists.{All, count}
-use Rattle.nodes.proofs.ListLaws.{cond-ind, all-append, count-append}
+use Rattle.nodes.proofs.ListLaws.{cond-ind, all-append, all-map, count-append}
 use Rattle.judgment.specs.declared.TypeError.{TypeError}
 use Rattle.judgment.specs.declared.TypeError.the-variants.{TypeUnificationError}
 use Rattle.judgment.specs.Types.{canUnify}
@@ -20,7 +20,7 @@ use Rattle.judgment.specs.Run.{Step, step, End, refusedBy, Run, run, ste
 use Rattle.judgment.specs.Promise.{taken, events, pushes, given, NotMet, board, solutions}
 use Rattle.judgment.specs.Good.{Inv}
 use Rattle.judgment.proofs.SolutionLaws.{find-none}
-use Rattle.judgment.proofs.Invariant.{Good, Kept, inv-fresh, inv-push, inv-solve, perform-kept}
+use Rattle.judgment.proofs.Invariant.{Earlier, Good, Kept, perform-kept}
 use Rattle.judgment.proofs.RuleLaws.{EnvOK, Explains, rule-good}
 
 abbrev pub stateOf : Outcome → State
@@ -51,6 +51,19 @@ solve-left : {Γ : Board} {σ : Solutions} (f : Option Ty) (s : Ty) {x y z : Lis
 solve-left none s a b c = a
 solve-left (some t) s a b c = both (canUnify s t) b c
 
+-- What a good rule may do: an unknown is split before its parts are made, and no solve meets an unknown solved before.
+abbrev pub Orderly : Operation → Type 0
+Orderly (made o n) = Earlier n o
+Orderly (pushed e) = Unit {0}
+Orderly (gave k s) = Unit {0}
+Orderly (met k) = ⊥
+
+orderly-unmet : (o : Operation) → Orderly o → NotMet o
+orderly-unmet (made o n) h = tt
+orderly-unmet (pushed e) h = tt
+orderly-unmet (gave k s) h = tt
+orderly-unmet (met k) h = h
+
 module _ (L : Limits) where
   pub rule-left : (p : Rule) (Γ : Board) (σ : Solutions) (n : ℕ) → Left Γ σ (operations L p Γ σ n) (perform L p Γ σ n)
   unfolding perform operations count
@@ -73,28 +86,22 @@ module _ (L : Limits) where
   rule-left (zonk t f) Γ σ n = both (within (length (writeOut σ t)) (L .written)) (rule-left (f (writeOut σ t)) Γ σ n) (refuses _ _ Γ σ n)
   rule-left (look f) Γ σ n = rule-left (f Γ) Γ σ n
 
-  -- a rule that keeps the invariant meets no solved unknown
-  pub rule-unmet : (Plain : Type 0) (Q : Board → Solutions → ℕ → Type 0) (p : Rule) (Γ : Board) (σ : Solutions) (n : ℕ) → Inv Plain Γ σ n → Good Plain p Γ σ n Q
-      → All NotMet (operations L p Γ σ n)
+  pub rule-orderly : (Plain : Type 0) (Q : Board → Solutions → ℕ → Type 0) (p : Rule) (Γ : Board) (σ : Solutions) (n : ℕ) → Good Plain p Γ σ n Q → All Orderly (operations L p Γ σ n)
   unfolding operations
-  rule-unmet Plain Q done Γ σ n i g = tt
-  rule-unmet Plain Q (refuse r ts) Γ σ n i g = tt
-  rule-unmet Plain Q (fresh o f) Γ σ n i g =
-      cond-ind (All NotMet) (below n (L .numbers)) (λ _. (tt, rule-unmet Plain Q (f n) Γ σ (suc n) (inv-fresh Plain i) (g .1))) (λ _. tt)
-  rule-unmet Plain Q (push e p) Γ σ n i g =
-      cond-ind (All NotMet) (roomFor L e Γ) (λ _. (tt, rule-unmet Plain Q p (e ∷ Γ) σ n (inv-push Plain e (g .0) i) (g .1))) (λ _. tt)
-  rule-unmet Plain Q (solve k s p) Γ σ n i g =
-      subst⁻¹ (λ o. All NotMet (solving o s
+  rule-orderly Plain Q done Γ σ n g = tt
+  rule-orderly Plain Q (refuse r ts) Γ σ n g = tt
+  rule-orderly Plain Q (fresh o f) Γ σ n g = cond-ind (All Orderly) (below n (L .numbers)) (λ _. (g .0, rule-orderly Plain Q (f n) Γ σ (suc n) (g .1))) (λ _. tt)
+  rule-orderly Plain Q (push e p) Γ σ n g = cond-ind (All Orderly) (roomFor L e Γ) (λ _. (tt, rule-orderly Plain Q p (e ∷ Γ) σ n (g .1))) (λ _. tt)
+  rule-orderly Plain Q (solve k s p) Γ σ n g =
+      subst⁻¹ (λ o. All Orderly (solving o s
       (cond (L .scope k s) (cond (within (solutionNodes σ + length s) (L .solved)) (gave k s ∷ operations L p Γ (σ ++ (_≔_ k s ∷ [])) n) []) [])
       (met k ∷ operations L p Γ σ n)
       (met k ∷ [])))
       (find-none σ k (g .0 .unsolved))
-      (cond-ind (All NotMet) (L .scope k s)
-      (λ _. cond-ind (All NotMet) (within (solutionNodes σ + length s) (L .solved))
-      (λ _. (tt, rule-unmet Plain Q p Γ (σ ++ (_≔_ k s ∷ [])) n (inv-solve Plain k s (g .0) i) (g .1))) (λ _. tt)) (λ _. tt))
-  rule-unmet Plain Q (zonk t f) Γ σ n i g =
-      cond-ind (All NotMet) (within (length (writeOut σ t)) (L .written)) (λ _. rule-unmet Plain Q (f (writeOut σ t)) Γ σ n i g) (λ _. tt)
-  rule-unmet Plain Q (look f) Γ σ n i g = rule-unmet Plain Q (f Γ) Γ σ n i g
+      (cond-ind (All Orderly) (L .scope k s)
+      (λ _. cond-ind (All Orderly) (within (solutionNodes σ + length s) (L .solved)) (λ _. (tt, rule-orderly Plain Q p Γ (σ ++ (_≔_ k s ∷ [])) n (g .1))) (λ _. tt)) (λ _. tt))
+  rule-orderly Plain Q (zonk t f) Γ σ n g = cond-ind (All Orderly) (within (length (writeOut σ t)) (L .written)) (λ _. rule-orderly Plain Q (f (writeOut σ t)) Γ σ n g) (λ _. tt)
+  rule-orderly Plain Q (look f) Γ σ n g = rule-orderly Plain Q (f Γ) Γ σ n g
 
 -- ---- given and pushed, of several steps
 given-append : (xs ys : List Operation) → given (xs ++ ys) ≡ given xs ++ given ys
@@ -185,24 +192,29 @@ module _ (L : Levels → Limits) (E : Env) where
       (rule-left (L v) (rule E e) Γ σ n) (λ Γ₁ σ₁ n₁. run-adds c (levelsAfter (operations (L v) (rule E e) Γ σ n) v) Γ₁ σ₁ n₁)
 
   module _ (Plain : Type 0) (hE : EnvOK Plain E) where
-    onward-unmet : (s : State) (e : Entry) (os : List Operation) (o : Outcome) (Q : Board → Solutions → ℕ → Type 0) (again : State → Run) → All NotMet os → Kept Plain Q o
-        → ((Γ₁ : Board) (σ₁ : Solutions) (n₁ : ℕ) → Inv Plain Γ₁ σ₁ n₁ → All NotMet (events (steps (again (state Γ₁ σ₁ n₁)))))
-        → All NotMet (events (steps (onward L E s e os o again)))
-    onward-unmet s e os (finished (state Γ₁ σ₁ n₁)) Q again u k f = step-unmet (again (state Γ₁ σ₁ n₁)) (f Γ₁ σ₁ n₁ (k .0))
+    onward-orderly : (s : State) (e : Entry) (os : List Operation) (o : Outcome) (Q : Board → Solutions → ℕ → Type 0) (again : State → Run) → All Orderly os → Kept Plain Q o
+        → ((Γ₁ : Board) (σ₁ : Solutions) (n₁ : ℕ) → Inv Plain Γ₁ σ₁ n₁ → All Orderly (events (steps (again (state Γ₁ σ₁ n₁)))))
+        → All Orderly (events (steps (onward L E s e os o again)))
+    onward-orderly s e os (finished (state Γ₁ σ₁ n₁)) Q again u k f = step-orderly (again (state Γ₁ σ₁ n₁)) (f Γ₁ σ₁ n₁ (k .0))
       where
-        step-unmet : (R : Run) → All NotMet (events (steps R)) → All NotMet (events (steps (addStep (step s e os (finished (state Γ₁ σ₁ n₁))) R)))
-        step-unmet (run ss d t) h = all-append NotMet os (events ss) u h
-    onward-unmet s e os (refused r ts s′) Q again u k f = all-append NotMet os [] u tt
+        step-orderly : (R : Run) → All Orderly (events (steps R)) → All Orderly (events (steps (addStep (step s e os (finished (state Γ₁ σ₁ n₁))) R)))
+        step-orderly (run ss d t) h = all-append Orderly os (events ss) u h
+    onward-orderly s e os (refused r ts s′) Q again u k f = all-append Orderly os [] u tt
 
-    pub run-unmet : (c : ℕ) (v : Levels) (Γ : Board) (σ : Solutions) (n : ℕ) → Inv Plain Γ σ n → All NotMet (events (steps (runFrom L E c v (state Γ σ n))))
+    -- of all operations of a run
+    pub run-orderly : (c : ℕ) (v : Levels) (Γ : Board) (σ : Solutions) (n : ℕ) → Inv Plain Γ σ n → All Orderly (events (steps (runFrom L E c v (state Γ σ n))))
     unfolding runFrom
-    run-unmet zero v [] σ n i = tt
-    run-unmet zero v (e ∷ Γ) σ n i = tt
-    run-unmet (suc c) v [] σ n i = tt
-    run-unmet (suc c) v (e ∷ Γ) σ n i =
+    run-orderly zero v [] σ n i = tt
+    run-orderly zero v (e ∷ Γ) σ n i = tt
+    run-orderly (suc c) v [] σ n i = tt
+    run-orderly (suc c) v (e ∷ Γ) σ n i =
         let j : Inv Plain Γ σ n = record { entries = i .entries .1; fine = i .fine; solutions = i .solutions } in
         let g = rule-good Plain E hE Γ σ n j e (i .entries .0) in
-        onward-unmet (state (e ∷ Γ) σ n) e (operations (L v) (rule E e) Γ σ n) (perform (L v) (rule E e) Γ σ n) (Explains Plain σ e) (λ s. runFrom L E c (levelsAfter (operations (L v) (rule E e) Γ σ n) v) s)
-        (rule-unmet (L v) Plain (Explains Plain σ e) (rule E e) Γ σ n j g)
+        let os : List Operation = operations (L v) (rule E e) Γ σ n in
+        onward-orderly (state (e ∷ Γ) σ n) e os (perform (L v) (rule E e) Γ σ n) (Explains Plain σ e) (λ s. runFrom L E c (levelsAfter os v) s)
+        (rule-orderly (L v) Plain (Explains Plain σ e) (rule E e) Γ σ n g)
         (perform-kept Plain (L v) (Explains Plain σ e) (rule E e) Γ σ n j g)
-        (λ Γ₁ σ₁ n₁ i₁. run-unmet c (levelsAfter (operations (L v) (rule E e) Γ σ n) v) Γ₁ σ₁ n₁ i₁)
+        (λ Γ₁ σ₁ n₁ i₁. run-orderly c (levelsAfter os v) Γ₁ σ₁ n₁ i₁)
+
+    pub run-unmet : (c : ℕ) (v : Levels) (Γ : Board) (σ : Solutions) (n : ℕ) → Inv Plain Γ σ n → All NotMet (events (steps (runFrom L E c v (state Γ σ n))))
+    run-unmet c v Γ σ n i = all-map orderly-unmet (events (steps (runFrom L E c v (state Γ σ n)))) (run-orderly c v Γ σ n i)

@@ -1,9 +1,9 @@
 -- Levels along a run: no unknown's level is above its number (`level-small`), and a number that is not made yet has its own (`level-own`).
 -- Assumes nothing.
-use Prim.Native.Nat.{ℕ, zero, suc, _+_, _≤_, _<_}
-use native.Mathlib.Nat.{le-refl, le-trans}
+use Prim.Native.Nat.{ℕ, zero, suc, _+_, _≤_}
+use native.Mathlib.Nat.{le-refl}
 use native.Mathlib.Omega.{arith}
-use mathlib.Core.Path.{_≡_, refl, sym, _∙_, ap, subst, subst⁻¹}
+use mathlib.Core.Path.{_≡_, refl, subst, subst⁻¹}
 use mathlib.Core.Bool.{Bool, true, false, cond, _||_}
 use mathlib.Core.List.{List, [], _∷_, _++_, append-nil}
 use lib.Dec.{eqb, ltb}
@@ -11,38 +11,31 @@ use lib.ListN.{length}
 use borrow.Author.Tests.{ltb-true}
 use Rattle.nodes.specs.Nodes.{Ty}
 use Rattle.nodes.specs.Lists.{All}
-use Rattle.nodes.proofs.ListLaws.{cond-ind, all-append, all-split}
-use Rattle.spelling.specs.declared.Triple.{Triple}
+use Rattle.nodes.proofs.ListLaws.{cond-ind, all-split}
 use Rattle.grammar.specs.declared.Check.the-variants.{Plan}
 use Rattle.grammar.specs.Check.{check}
 use Rattle.sheet.specs.Plan.{triples, planOf}
 use Rattle.judgment.specs.declared.TypeError.the-variants.{TypeUnificationError, SolutionsFull, OutOfScope}
 use Rattle.judgment.specs.Types.{isNode, occurs}
-use Rattle.judgment.specs.Solutions.{Solution, _≔_, Solutions, find, writeOut, solutionNodes}
+use Rattle.judgment.specs.Solutions.{_≔_, Solutions, writeOut, solutionNodes}
 use Rattle.judgment.specs.Board.{below, within, Entry, chk, Board, Limits, Origin, own, universal, splits, Rule, done, refuse, fresh, push, solve, zonk, look, Operation, made, pushed, gave, met, State, state, Outcome, finished, refused, roomFor, solving, perform, operations}
 use Rattle.judgment.specs.Levels.{Levels, ownLevels, put, atMost, lower, levelMade, levelAfter, levelsAfter}
 use Rattle.judgment.specs.Chain.{counterOf}
 use Rattle.judgment.specs.Rules.{Env, rule}
-use Rattle.judgment.specs.Run.{Step, step, Run, run, steps, events, addStep, onward, runFrom, checkType}
+use Rattle.judgment.specs.Run.{step, Run, run, steps, events, addStep, onward, runFrom, checkType}
 use Rattle.judgment.specs.Result.{envOf, runOf, resultOf, judge}
 use Rattle.judgment.proofs.LevelLaws.{levels-append}
 use Rattle.judgment.proofs.TypeLaws.{eqb-true, isNode-true}
 use Rattle.judgment.proofs.SolutionLaws.{find-none}
 use Rattle.judgment.proofs.Invariant.{Earlier, Good, Kept, perform-kept}
 use Rattle.judgment.specs.Good.{OK, Inv}
+use Rattle.judgment.proofs.Events.{Orderly, run-orderly}
 use Rattle.judgment.proofs.RuleLaws.{EnvOK, Explains, rule-good}
 use Rattle.judgment.proofs.Plans.{plan-env, plan-inv, sheet-plan}
 
 -- ---- levels that are no larger than their numbers
 abbrev pub Small : Levels → Type 0
 Small v = (k : ℕ) → v k ≤ k
-
--- an unknown is split before its parts are made
-abbrev pub Later : Operation → Type 0
-Later (made o n) = Earlier n o
-Later (pushed e) = Unit {0}
-Later (gave k s) = Unit {0}
-Later (met k) = Unit {0}
 
 at-most : (b : Bool) (m l k : ℕ) → l ≤ k → atMost b m l ≤ k
 at-most true m l k h = cond-ind (λ (x : ℕ). x ≤ k) (ltb m l) (λ e. (let z = ltb-true m l e in omega arith)) (λ _. h)
@@ -58,66 +51,24 @@ small-made own n v l h = h
 small-made universal n v l h = small-put n 0 v (omega arith) h
 small-made (splits j) n v l h = small-put n (v j) v (let z = h j in omega arith) h
 
-small-after : (o : Operation) (v : Levels) → Later o → Small v → Small (levelAfter o v)
+small-after : (o : Operation) (v : Levels) → Orderly o → Small v → Small (levelAfter o v)
 unfolding levelAfter lower
 small-after (made o n) v l h = small-made o n v l h
 small-after (pushed e) v l h = h
 small-after (gave j s) v l h = λ k. at-most (occurs k s) (v j) (v k) k (h k)
 small-after (met j) v l h = h
 
-pub all-small : (os : List Operation) (v : Levels) → All Later os → Small v → Small (levelsAfter os v)
+pub all-small : (os : List Operation) (v : Levels) → All Orderly os → Small v → Small (levelsAfter os v)
 unfolding levelsAfter
 all-small [] v l h = h
 all-small (o ∷ os) v l h = all-small os (levelAfter o v) (l .1) (small-after o v (l .0) h)
 
 -- ---- a run
-module _ (Plain : Type 0) where
-  rule-later : (L : Limits) (Q : Board → Solutions → ℕ → Type 0) (p : Rule) (Γ : Board) (σ : Solutions) (n : ℕ) → Good Plain p Γ σ n Q → All Later (operations L p Γ σ n)
-  unfolding operations
-  rule-later L Q done Γ σ n g = tt
-  rule-later L Q (refuse r ts) Γ σ n g = tt
-  rule-later L Q (fresh o f) Γ σ n g = cond-ind (All Later) (below n (L .numbers)) (λ _. (g .0, rule-later L Q (f n) Γ σ (suc n) (g .1))) (λ _. tt)
-  rule-later L Q (push e p) Γ σ n g = cond-ind (All Later) (roomFor L e Γ) (λ _. (tt, rule-later L Q p (e ∷ Γ) σ n (g .1))) (λ _. tt)
-  rule-later L Q (solve k s p) Γ σ n g =
-      subst⁻¹ (λ o. All Later (solving o s
-      (cond (L .scope k s) (cond (within (solutionNodes σ + length s) (L .solved)) (gave k s ∷ operations L p Γ (σ ++ (_≔_ k s ∷ [])) n) []) [])
-      (met k ∷ operations L p Γ σ n)
-      (met k ∷ [])))
-      (find-none σ k (g .0 .unsolved))
-      (cond-ind (All Later) (L .scope k s)
-      (λ _. cond-ind (All Later) (within (solutionNodes σ + length s) (L .solved)) (λ _. (tt, rule-later L Q p Γ (σ ++ (_≔_ k s ∷ [])) n (g .1))) (λ _. tt)) (λ _. tt))
-  rule-later L Q (zonk t f) Γ σ n g = cond-ind (All Later) (within (length (writeOut σ t)) (L .written)) (λ _. rule-later L Q (f (writeOut σ t)) Γ σ n g) (λ _. tt)
-  rule-later L Q (look f) Γ σ n g = rule-later L Q (f Γ) Γ σ n g
-
-  module _ (L : Levels → Limits) (E : Env) (hE : EnvOK Plain E) where
-    onward-later : (s : State) (e : Entry) (os : List Operation) (o : Outcome) (Q : Board → Solutions → ℕ → Type 0) (again : State → Run) → All Later os → Kept Plain Q o
-        → ((Γ₁ : Board) (σ₁ : Solutions) (n₁ : ℕ) → Inv Plain Γ₁ σ₁ n₁ → All Later (events (steps (again (state Γ₁ σ₁ n₁)))))
-        → All Later (events (steps (onward L E s e os o again)))
-    onward-later s e os (finished (state Γ₁ σ₁ n₁)) Q again l k f = step-later (again (state Γ₁ σ₁ n₁)) (f Γ₁ σ₁ n₁ (k .0))
-      where
-        step-later : (R : Run) → All Later (events (steps R)) → All Later (events (steps (addStep (step s e os (finished (state Γ₁ σ₁ n₁))) R)))
-        step-later (run ss d t) h = all-append Later os (events ss) l h
-    onward-later s e os (refused r ts s′) Q again l k f = all-append Later os [] l tt
-
-    pub run-later : (c : ℕ) (v : Levels) (Γ : Board) (σ : Solutions) (n : ℕ) → Inv Plain Γ σ n → All Later (events (steps (runFrom L E c v (state Γ σ n))))
-    unfolding runFrom
-    run-later zero v [] σ n i = tt
-    run-later zero v (e ∷ Γ) σ n i = tt
-    run-later (suc c) v [] σ n i = tt
-    run-later (suc c) v (e ∷ Γ) σ n i =
-        let j : Inv Plain Γ σ n = record { entries = i .entries .1; fine = i .fine; solutions = i .solutions } in
-        let g = rule-good Plain E hE Γ σ n j e (i .entries .0) in
-        let os : List Operation = operations (L v) (rule E e) Γ σ n in
-        onward-later (state (e ∷ Γ) σ n) e os (perform (L v) (rule E e) Γ σ n) (Explains Plain σ e) (λ s. runFrom L E c (levelsAfter os v) s)
-        (rule-later (L v) (Explains Plain σ e) (rule E e) Γ σ n g)
-        (perform-kept Plain (L v) (Explains Plain σ e) (rule E e) Γ σ n j g)
-        (λ Γ₁ σ₁ n₁ i₁. run-later c (levelsAfter os v) Γ₁ σ₁ n₁ i₁)
-
 -- after each operation of a run, of any good start with such levels
 pub start-small : (Plain : Type 0) (L : Levels → Limits) (E : Env) → EnvOK Plain E → (c : ℕ) (v : Levels) (Γ : Board) (σ : Solutions) (n : ℕ) → Inv Plain Γ σ n → Small v
     → (os ps : List Operation) → events (steps (runFrom L E c v (state Γ σ n))) ≡ os ++ ps → Small (levelsAfter os v)
 start-small Plain L E hE c v Γ σ n i h os ps e =
-    all-small os v (all-split Later os ps (subst (All Later) e (run-later Plain L E hE c v Γ σ n i)) .0) h
+    all-small os v (all-split Orderly os ps (subst (All Orderly) e (run-orderly L E Plain hE c v Γ σ n i)) .0) h
 
 -- LEVELS: of every sheet that passes refusals 3 to 5, under any limits and every ceiling, after each operation of the run
 pub level-small : (L : Levels → Limits) (s : List ℕ) (c : ℕ) → check s ≡ Plan → (os ps : List Operation) → events (steps (runOf L c (planOf (triples s)))) ≡ os ++ ps

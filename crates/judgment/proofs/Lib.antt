@@ -1,8 +1,11 @@
 pub mod Wall
 pub mod Telling
+pub mod TellingMore
 pub mod Marks
 pub mod AtLimits
+pub mod LimitRows
 pub mod Calls
+pub mod CallRows
 pub mod Following
 pub mod TypeLaws
 pub mod SolutionLaws
