@@ -182,7 +182,7 @@ use Rattle.spelling.specs.Text.{fieldText, lineText}
 use Rattle.kinds.specs.Kinds.{find, table, rowOf, begins, headOf}
 use Rattle.grammar.specs.declared.Check.{Check}
 use Rattle.grammar.specs.declared.Check.the-variants.{Plan, Length, Misspelt, Unfit}
-use Rattle.grammar.specs.Grammar.{entries, declaredBy, isGoal, arms, following, read, readAt}
+use Rattle.grammar.specs.Grammar.{entries, declaredBy, arms, following, read, readAt}
 use Rattle.grammar.specs.Check.{endOf, fitting, readSheet, check}
 
 abbrev t : ℕ → ℕ → ℕ → Triple
@@ -216,10 +216,10 @@ times (suc n) ts = ts ++ times n ts
 abbrev LinesRow : Type 0
 LinesRow = List Triple × Check
 """
-OPENED = "lineText fieldText fieldFrom lineOf lineAt linesFrom linesOf firstMisspelt find table rowOf begins headOf declaredBy isGoal arms following read readAt readSheet check"
+OPENED = "lineText fieldText fieldFrom lineOf lineAt linesFrom linesOf firstMisspelt find table rowOf begins headOf declaredBy arms following read readAt readSheet check"
 
 
-READ = "find table rowOf begins headOf declaredBy isGoal arms following read"
+READ = "find table rowOf begins headOf declaredBy arms following read"
 # of rows by bytes, and by lines
 FORMS = {"l": ("Row", "check (text (q .0))", f"l r {OPENED}"), "t": ("LinesRow", "checkLines (q .0)", f"checkLines {READ}")}
 

@@ -477,7 +477,7 @@ ran m s c w board book report =
 SPELT = {
     "spelling.specs.Spelling": "fieldFrom lineOf lineAt linesFrom linesOf firstMisspelt",
     "spelling.specs.Text": "fieldText lineText",
-    "grammar.specs.Grammar": "declaredBy isGoal arms following read readAt",
+    "grammar.specs.Grammar": "declaredBy arms following read readAt",
     "grammar.specs.Check": "readSheet check",
 }
 WORDS = "padded placeFrom threesFrom nodeWords bookWords reportWords call"

@@ -12,7 +12,7 @@ use Rattle.spelling.specs.Text.{fieldText, lineText}
 use Rattle.kinds.specs.Kinds.{find, table, rowOf, begins, headOf}
 use Rattle.grammar.specs.declared.Check.{Check}
 use Rattle.grammar.specs.declared.Check.the-variants.{Plan, Length, Misspelt, Unfit}
-use Rattle.grammar.specs.Grammar.{entries, declaredBy, isGoal, arms, following, read, readAt}
+use Rattle.grammar.specs.Grammar.{entries, declaredBy, arms, following, read, readAt}
 use Rattle.grammar.specs.Check.{endOf, fitting, readSheet, check}
 
 abbrev t : ℕ → ℕ → ℕ → Triple
@@ -49,7 +49,7 @@ LinesRow = List Triple × Check
 -- so many spaces: 3 for their length, or 4 for their first line
 pub lengths : map (λ n. check (replicate n 32)) (0 ∷ 1 ∷ 28 ∷ 29 ∷ 30 ∷ 57 ∷ 58 ∷ 59 ∷ 28999 ∷ 29000 ∷ 29001 ∷ 57970 ∷ 57971 ∷ 57972 ∷ 57999 ∷ 58000 ∷ 58001 ∷ 58028 ∷ 58029 ∷ 58030 ∷ 58028 ∷ 116000 ∷ []) ≡
     Length ∷ Length ∷ Length ∷ Misspelt 1 ∷ Length ∷ Length ∷ Misspelt 1 ∷ Length ∷ Length ∷ Misspelt 1 ∷ Length ∷ Length ∷ Misspelt 1 ∷ Length ∷ Length ∷ Misspelt 1 ∷ Length ∷ Length ∷ Length ∷ Length ∷ Length ∷ Length ∷ []
-unfolding lineText fieldText fieldFrom lineOf lineAt linesFrom linesOf firstMisspelt find table rowOf begins headOf declaredBy isGoal arms following read readAt readSheet check
+unfolding lineText fieldText fieldFrom lineOf lineAt linesFrom linesOf firstMisspelt find table rowOf begins headOf declaredBy arms following read readAt readSheet check
 lengths = refl
 
 abbrev rowsFirstLines : List Row
@@ -66,7 +66,7 @@ rowsFirstLines =
     []
 
 pub first-lines : map (λ q. check (text (q .0))) rowsFirstLines ≡ map (λ q. q .1) rowsFirstLines
-unfolding l r lineText fieldText fieldFrom lineOf lineAt linesFrom linesOf firstMisspelt find table rowOf begins headOf declaredBy isGoal arms following read readAt readSheet check
+unfolding l r lineText fieldText fieldFrom lineOf lineAt linesFrom linesOf firstMisspelt find table rowOf begins headOf declaredBy arms following read readAt readSheet check
 first-lines = refl
 
 abbrev rowsSpellings : List Row
@@ -145,7 +145,7 @@ rowsSpellings =
     []
 
 pub spellings : map (λ q. check (text (q .0))) rowsSpellings ≡ map (λ q. q .1) rowsSpellings
-unfolding l r lineText fieldText fieldFrom lineOf lineAt linesFrom linesOf firstMisspelt find table rowOf begins headOf declaredBy isGoal arms following read readAt readSheet check
+unfolding l r lineText fieldText fieldFrom lineOf lineAt linesFrom linesOf firstMisspelt find table rowOf begins headOf declaredBy arms following read readAt readSheet check
 spellings = refl
 
 abbrev rowsLiterals : List Row
@@ -183,7 +183,7 @@ rowsLiterals =
     []
 
 pub literals : map (λ q. check (text (q .0))) rowsLiterals ≡ map (λ q. q .1) rowsLiterals
-unfolding l r lineText fieldText fieldFrom lineOf lineAt linesFrom linesOf firstMisspelt find table rowOf begins headOf declaredBy isGoal arms following read readAt readSheet check
+unfolding l r lineText fieldText fieldFrom lineOf lineAt linesFrom linesOf firstMisspelt find table rowOf begins headOf declaredBy arms following read readAt readSheet check
 literals = refl
 
 abbrev rowsMinusSigns : List Row
@@ -254,7 +254,7 @@ rowsMinusSigns =
     []
 
 pub minus-signs : map (λ q. check (text (q .0))) rowsMinusSigns ≡ map (λ q. q .1) rowsMinusSigns
-unfolding l r lineText fieldText fieldFrom lineOf lineAt linesFrom linesOf firstMisspelt find table rowOf begins headOf declaredBy isGoal arms following read readAt readSheet check
+unfolding l r lineText fieldText fieldFrom lineOf lineAt linesFrom linesOf firstMisspelt find table rowOf begins headOf declaredBy arms following read readAt readSheet check
 minus-signs = refl
 
 abbrev rowsValues : List LinesRow
@@ -290,7 +290,7 @@ rowsValues =
     []
 
 pub values : map (λ q. checkLines (q .0)) rowsValues ≡ map (λ q. q .1) rowsValues
-unfolding checkLines find table rowOf begins headOf declaredBy isGoal arms following read
+unfolding checkLines find table rowOf begins headOf declaredBy arms following read
 values = refl
 
 abbrev rowsNoCounts : List LinesRow
@@ -352,7 +352,7 @@ rowsNoCounts =
     []
 
 pub no-counts : map (λ q. checkLines (q .0)) rowsNoCounts ≡ map (λ q. q .1) rowsNoCounts
-unfolding checkLines find table rowOf begins headOf declaredBy isGoal arms following read
+unfolding checkLines find table rowOf begins headOf declaredBy arms following read
 no-counts = refl
 
 abbrev rowsCounts : List LinesRow
@@ -405,7 +405,7 @@ rowsCounts =
     []
 
 pub counts : map (λ q. checkLines (q .0)) rowsCounts ≡ map (λ q. q .1) rowsCounts
-unfolding checkLines find table rowOf begins headOf declaredBy isGoal arms following read
+unfolding checkLines find table rowOf begins headOf declaredBy arms following read
 counts = refl
 
 abbrev rowsEntryNames : List LinesRow
@@ -429,7 +429,7 @@ rowsEntryNames =
     []
 
 pub entry-names : map (λ q. checkLines (q .0)) rowsEntryNames ≡ map (λ q. q .1) rowsEntryNames
-unfolding checkLines find table rowOf begins headOf declaredBy isGoal arms following read
+unfolding checkLines find table rowOf begins headOf declaredBy arms following read
 entry-names = refl
 
 abbrev rowsLacking : List LinesRow
@@ -459,7 +459,7 @@ rowsLacking =
     []
 
 pub lacking : map (λ q. checkLines (q .0)) rowsLacking ≡ map (λ q. q .1) rowsLacking
-unfolding checkLines find table rowOf begins headOf declaredBy isGoal arms following read
+unfolding checkLines find table rowOf begins headOf declaredBy arms following read
 lacking = refl
 
 abbrev rowsPlaces : List LinesRow
@@ -977,5 +977,5 @@ rowsPlaces =
     []
 
 pub places : map (λ q. checkLines (q .0)) rowsPlaces ≡ map (λ q. q .1) rowsPlaces
-unfolding checkLines find table rowOf begins headOf declaredBy isGoal arms following read
+unfolding checkLines find table rowOf begins headOf declaredBy arms following read
 places = refl

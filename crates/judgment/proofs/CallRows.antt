@@ -17,7 +17,7 @@ use Rattle.judgment.specs.Result.{numbers, Buffers, Called, limitsFor, r
 use Rattle.judgment.specs.Levels.{Mode, firstCall, strictCall, put, lower, levelMade, levelAfter, levelsAfter, noneAbove}
 use Rattle.spelling.specs.Spelling.{fieldFrom, lineOf, lineAt, linesFrom, linesOf, firstMisspelt}
 use Rattle.spelling.specs.Text.{fieldText, lineText}
-use Rattle.grammar.specs.Grammar.{declaredBy, isGoal, arms, following, read, readAt}
+use Rattle.grammar.specs.Grammar.{declaredBy, arms, following, read, readAt}
 use Rattle.grammar.specs.Check.{readSheet, check}
 use Rattle.nodes.specs.Nodes.{words}
 use Rattle.spelling.specs.declared.Triple.{Triple}
@@ -107,7 +107,7 @@ pub refused0 : callsRefused0 ≡
     (2 ∷ 0 ∷ 0 ∷ 0 ∷ 0 ∷ 0 ∷ 0 ∷ [], filled ((2, 7) ∷ []) ((3, 7) ∷ []) ((1, 7) ∷ [])) ∷
     (2 ∷ 0 ∷ 0 ∷ 0 ∷ 0 ∷ 0 ∷ 0 ∷ [], filled ((2, 7) ∷ []) ((3, 7) ∷ []) ((1, 7) ∷ [])) ∷
     []
-unfolding refused called partsOf rowOf findRow table begins headOf planOf declarations bindingsIn endFrom entriesEnd placesOf partLine isPlain names plainEntries plainPlan lookup triples view occurs isMonotype substitute rename frontNames afterFront canUnify termView lambdaOf find links anySolved writeOutBy writeOut solutionNodes boardNodes findVar before perform operations instantiateFrom subtype openNames signatureFrom insert pushVars checkPatterns checkArms inferApp runFrom checkType resultOf runOf judge padded placeFrom threesFrom nodeWords bookWords reportWords call put lower levelMade levelAfter levelsAfter noneAbove fieldFrom lineOf lineAt linesFrom linesOf firstMisspelt fieldText lineText declaredBy isGoal arms following read readAt readSheet check words
+unfolding refused called partsOf rowOf findRow table begins headOf planOf declarations bindingsIn endFrom entriesEnd placesOf partLine isPlain names plainEntries plainPlan lookup triples view occurs isMonotype substitute rename frontNames afterFront canUnify termView lambdaOf find links anySolved writeOutBy writeOut solutionNodes boardNodes findVar before perform operations instantiateFrom subtype openNames signatureFrom insert pushVars checkPatterns checkArms inferApp runFrom checkType resultOf runOf judge padded placeFrom threesFrom nodeWords bookWords reportWords call put lower levelMade levelAfter levelsAfter noneAbove fieldFrom lineOf lineAt linesFrom linesOf firstMisspelt fieldText lineText declaredBy arms following read readAt readSheet check words
 refused0 = refl
 
 abbrev callsRefused1 : List Refused
@@ -136,7 +136,7 @@ pub refused1 : callsRefused1 ≡
     (1 ∷ 0 ∷ 0 ∷ 0 ∷ 0 ∷ 0 ∷ 0 ∷ [], filled ((12288, 7) ∷ []) ((11192, 7) ∷ []) ((4096, 7) ∷ [])) ∷
     (1 ∷ 0 ∷ 0 ∷ 0 ∷ 0 ∷ 0 ∷ 0 ∷ [], filled ((2, 7) ∷ []) ((3, 7) ∷ []) ((1, 7) ∷ [])) ∷
     []
-unfolding refused called partsOf rowOf findRow table begins headOf planOf declarations bindingsIn endFrom entriesEnd placesOf partLine isPlain names plainEntries plainPlan lookup triples view occurs isMonotype substitute rename frontNames afterFront canUnify termView lambdaOf find links anySolved writeOutBy writeOut solutionNodes boardNodes findVar before perform operations instantiateFrom subtype openNames signatureFrom insert pushVars checkPatterns checkArms inferApp runFrom checkType resultOf runOf judge padded placeFrom threesFrom nodeWords bookWords reportWords call put lower levelMade levelAfter levelsAfter noneAbove fieldFrom lineOf lineAt linesFrom linesOf firstMisspelt fieldText lineText declaredBy isGoal arms following read readAt readSheet check words
+unfolding refused called partsOf rowOf findRow table begins headOf planOf declarations bindingsIn endFrom entriesEnd placesOf partLine isPlain names plainEntries plainPlan lookup triples view occurs isMonotype substitute rename frontNames afterFront canUnify termView lambdaOf find links anySolved writeOutBy writeOut solutionNodes boardNodes findVar before perform operations instantiateFrom subtype openNames signatureFrom insert pushVars checkPatterns checkArms inferApp runFrom checkType resultOf runOf judge padded placeFrom threesFrom nodeWords bookWords reportWords call put lower levelMade levelAfter levelsAfter noneAbove fieldFrom lineOf lineAt linesFrom linesOf firstMisspelt fieldText lineText declaredBy arms following read readAt readSheet check words
 refused1 = refl
 
 abbrev callsRefused2 : List Refused
@@ -165,7 +165,7 @@ pub refused2 : callsRefused2 ≡
     (1 ∷ 0 ∷ 0 ∷ 0 ∷ 0 ∷ 0 ∷ 0 ∷ [], filled ((2, 7) ∷ []) ((3, 7) ∷ []) ((1, 7) ∷ [])) ∷
     (1 ∷ 0 ∷ 0 ∷ 0 ∷ 0 ∷ 0 ∷ 0 ∷ [], filled ((2, 7) ∷ []) ((3, 7) ∷ []) ((1, 7) ∷ [])) ∷
     []
-unfolding refused called partsOf rowOf findRow table begins headOf planOf declarations bindingsIn endFrom entriesEnd placesOf partLine isPlain names plainEntries plainPlan lookup triples view occurs isMonotype substitute rename frontNames afterFront canUnify termView lambdaOf find links anySolved writeOutBy writeOut solutionNodes boardNodes findVar before perform operations instantiateFrom subtype openNames signatureFrom insert pushVars checkPatterns checkArms inferApp runFrom checkType resultOf runOf judge padded placeFrom threesFrom nodeWords bookWords reportWords call put lower levelMade levelAfter levelsAfter noneAbove fieldFrom lineOf lineAt linesFrom linesOf firstMisspelt fieldText lineText declaredBy isGoal arms following read readAt readSheet check words
+unfolding refused called partsOf rowOf findRow table begins headOf planOf declarations bindingsIn endFrom entriesEnd placesOf partLine isPlain names plainEntries plainPlan lookup triples view occurs isMonotype substitute rename frontNames afterFront canUnify termView lambdaOf find links anySolved writeOutBy writeOut solutionNodes boardNodes findVar before perform operations instantiateFrom subtype openNames signatureFrom insert pushVars checkPatterns checkArms inferApp runFrom checkType resultOf runOf judge padded placeFrom threesFrom nodeWords bookWords reportWords call put lower levelMade levelAfter levelsAfter noneAbove fieldFrom lineOf lineAt linesFrom linesOf firstMisspelt fieldText lineText declaredBy arms following read readAt readSheet check words
 refused2 = refl
 
 abbrev callsRefused3 : List Refused
@@ -194,7 +194,7 @@ pub refused3 : callsRefused3 ≡
     (32 ∷ 0 ∷ 0 ∷ 0 ∷ 0 ∷ 0 ∷ 0 ∷ [], filled ((12288, 7) ∷ []) ((11192, 7) ∷ []) ((16384, 7) ∷ [])) ∷
     (32 ∷ 0 ∷ 0 ∷ 0 ∷ 0 ∷ 0 ∷ 0 ∷ [], filled ((12288, 7) ∷ []) ((11192, 7) ∷ []) ((16384, 7) ∷ [])) ∷
     []
-unfolding refused called partsOf rowOf findRow table begins headOf planOf declarations bindingsIn endFrom entriesEnd placesOf partLine isPlain names plainEntries plainPlan lookup triples view occurs isMonotype substitute rename frontNames afterFront canUnify termView lambdaOf find links anySolved writeOutBy writeOut solutionNodes boardNodes findVar before perform operations instantiateFrom subtype openNames signatureFrom insert pushVars checkPatterns checkArms inferApp runFrom checkType resultOf runOf judge padded placeFrom threesFrom nodeWords bookWords reportWords call put lower levelMade levelAfter levelsAfter noneAbove fieldFrom lineOf lineAt linesFrom linesOf firstMisspelt fieldText lineText declaredBy isGoal arms following read readAt readSheet check words
+unfolding refused called partsOf rowOf findRow table begins headOf planOf declarations bindingsIn endFrom entriesEnd placesOf partLine isPlain names plainEntries plainPlan lookup triples view occurs isMonotype substitute rename frontNames afterFront canUnify termView lambdaOf find links anySolved writeOutBy writeOut solutionNodes boardNodes findVar before perform operations instantiateFrom subtype openNames signatureFrom insert pushVars checkPatterns checkArms inferApp runFrom checkType resultOf runOf judge padded placeFrom threesFrom nodeWords bookWords reportWords call put lower levelMade levelAfter levelsAfter noneAbove fieldFrom lineOf lineAt linesFrom linesOf firstMisspelt fieldText lineText declaredBy arms following read readAt readSheet check words
 refused3 = refl
 
 abbrev callsRefused4 : List Refused
@@ -217,7 +217,7 @@ pub refused4 : callsRefused4 ≡
     (32 ∷ 0 ∷ 0 ∷ 0 ∷ 0 ∷ 0 ∷ 0 ∷ [], filled ([]) ([]) ([])) ∷
     (2 ∷ 0 ∷ 0 ∷ 0 ∷ 0 ∷ 0 ∷ 0 ∷ [], filled ((12288, 7) ∷ []) ((11192, 7) ∷ []) ((3, 7) ∷ [])) ∷
     []
-unfolding refused called partsOf rowOf findRow table begins headOf planOf declarations bindingsIn endFrom entriesEnd placesOf partLine isPlain names plainEntries plainPlan lookup triples view occurs isMonotype substitute rename frontNames afterFront canUnify termView lambdaOf find links anySolved writeOutBy writeOut solutionNodes boardNodes findVar before perform operations instantiateFrom subtype openNames signatureFrom insert pushVars checkPatterns checkArms inferApp runFrom checkType resultOf runOf judge padded placeFrom threesFrom nodeWords bookWords reportWords call put lower levelMade levelAfter levelsAfter noneAbove fieldFrom lineOf lineAt linesFrom linesOf firstMisspelt fieldText lineText declaredBy isGoal arms following read readAt readSheet check words
+unfolding refused called partsOf rowOf findRow table begins headOf planOf declarations bindingsIn endFrom entriesEnd placesOf partLine isPlain names plainEntries plainPlan lookup triples view occurs isMonotype substitute rename frontNames afterFront canUnify termView lambdaOf find links anySolved writeOutBy writeOut solutionNodes boardNodes findVar before perform operations instantiateFrom subtype openNames signatureFrom insert pushVars checkPatterns checkArms inferApp runFrom checkType resultOf runOf judge padded placeFrom threesFrom nodeWords bookWords reportWords call put lower levelMade levelAfter levelsAfter noneAbove fieldFrom lineOf lineAt linesFrom linesOf firstMisspelt fieldText lineText declaredBy arms following read readAt readSheet check words
 refused4 = refl
 
 abbrev callsRan0 : List Ran
@@ -232,7 +232,7 @@ pub ran0 : callsRan0 ≡
     (15 ∷ 0 ∷ 4 ∷ 1 ∷ 1 ∷ 1 ∷ 1 ∷ [], laid ((1, 3000) ∷ (1, 1) ∷ (2998, 0) ∷ (1, 12) ∷ (1, 1) ∷ (8190, 0) ∷ []), laid ((1, 12) ∷ (1, 1) ∷ (1, 12) ∷ (1, 2) ∷ (16380, 0) ∷ [])) ∷
     (21 ∷ 0 ∷ 0 ∷ 0 ∷ 0 ∷ 0 ∷ 1 ∷ [], laid ((11192, 0) ∷ []), laid ((4096, 0) ∷ [])) ∷
     []
-unfolding ran called partsOf rowOf findRow table begins headOf planOf declarations bindingsIn endFrom entriesEnd placesOf partLine isPlain names plainEntries plainPlan lookup triples view occurs isMonotype substitute rename frontNames afterFront canUnify termView lambdaOf find links anySolved writeOutBy writeOut solutionNodes boardNodes findVar before perform operations instantiateFrom subtype openNames signatureFrom insert pushVars checkPatterns checkArms inferApp runFrom checkType resultOf runOf judge padded placeFrom threesFrom nodeWords bookWords reportWords call put lower levelMade levelAfter levelsAfter noneAbove fieldFrom lineOf lineAt linesFrom linesOf firstMisspelt fieldText lineText declaredBy isGoal arms following read readAt readSheet check words
+unfolding ran called partsOf rowOf findRow table begins headOf planOf declarations bindingsIn endFrom entriesEnd placesOf partLine isPlain names plainEntries plainPlan lookup triples view occurs isMonotype substitute rename frontNames afterFront canUnify termView lambdaOf find links anySolved writeOutBy writeOut solutionNodes boardNodes findVar before perform operations instantiateFrom subtype openNames signatureFrom insert pushVars checkPatterns checkArms inferApp runFrom checkType resultOf runOf judge padded placeFrom threesFrom nodeWords bookWords reportWords call put lower levelMade levelAfter levelsAfter noneAbove fieldFrom lineOf lineAt linesFrom linesOf firstMisspelt fieldText lineText declaredBy arms following read readAt readSheet check words
 ran0 = refl
 
 abbrev callsRan1 : List Ran
@@ -247,7 +247,7 @@ pub ran1 : callsRan1 ≡
     (15 ∷ 0 ∷ 4 ∷ 1 ∷ 1 ∷ 1 ∷ 1 ∷ [], laid ((1, 3000) ∷ (1, 1) ∷ (2998, 0) ∷ (1, 12) ∷ (1, 1) ∷ (8190, 0) ∷ []), laid ((1, 12) ∷ (1, 1) ∷ (1, 12) ∷ (1, 2) ∷ (4092, 0) ∷ [])) ∷
     (15 ∷ 0 ∷ 4 ∷ 1 ∷ 1 ∷ 1 ∷ 1 ∷ [], laid ((1, 3000) ∷ (1, 1) ∷ (2998, 0) ∷ (1, 12) ∷ (1, 1) ∷ (8190, 0) ∷ []), laid ((1, 12) ∷ (1, 1) ∷ (1, 12) ∷ (1, 2) ∷ (4092, 0) ∷ [])) ∷
     []
-unfolding ran called partsOf rowOf findRow table begins headOf planOf declarations bindingsIn endFrom entriesEnd placesOf partLine isPlain names plainEntries plainPlan lookup triples view occurs isMonotype substitute rename frontNames afterFront canUnify termView lambdaOf find links anySolved writeOutBy writeOut solutionNodes boardNodes findVar before perform operations instantiateFrom subtype openNames signatureFrom insert pushVars checkPatterns checkArms inferApp runFrom checkType resultOf runOf judge padded placeFrom threesFrom nodeWords bookWords reportWords call put lower levelMade levelAfter levelsAfter noneAbove fieldFrom lineOf lineAt linesFrom linesOf firstMisspelt fieldText lineText declaredBy isGoal arms following read readAt readSheet check words
+unfolding ran called partsOf rowOf findRow table begins headOf planOf declarations bindingsIn endFrom entriesEnd placesOf partLine isPlain names plainEntries plainPlan lookup triples view occurs isMonotype substitute rename frontNames afterFront canUnify termView lambdaOf find links anySolved writeOutBy writeOut solutionNodes boardNodes findVar before perform operations instantiateFrom subtype openNames signatureFrom insert pushVars checkPatterns checkArms inferApp runFrom checkType resultOf runOf judge padded placeFrom threesFrom nodeWords bookWords reportWords call put lower levelMade levelAfter levelsAfter noneAbove fieldFrom lineOf lineAt linesFrom linesOf firstMisspelt fieldText lineText declaredBy arms following read readAt readSheet check words
 ran1 = refl
 
 abbrev callsRan2 : List Ran
@@ -262,7 +262,7 @@ pub ran2 : callsRan2 ≡
     (0 ∷ 0 ∷ 16 ∷ 6 ∷ 0 ∷ 0 ∷ 0 ∷ [], laid ((1, 3004) ∷ (1, 3) ∷ (1, 0) ∷ (1, 3002) ∷ (2, 1) ∷ (1, 3000) ∷ (1, 1) ∷ (1, 2) ∷ (1, 3012) ∷ (1, 1) ∷ (1, 0) ∷ (1, 3010) ∷ (1, 1) ∷ (2986, 0) ∷ (1, 12) ∷ (1, 1) ∷ (1, 12) ∷ (1, 1) ∷ (1, 13) ∷ (1, 0) ∷ (1, 17) ∷ (1, 3) ∷ (1, 17) ∷ (1, 4) ∷ (1, 18) ∷ (1, 5) ∷ (1, 12) ∷ (1, 1) ∷ (8178, 0) ∷ []), laid ((4096, 0) ∷ [])) ∷
     (11 ∷ 0 ∷ 4 ∷ 3 ∷ 99 ∷ 0 ∷ 1 ∷ [], laid ((5, 0) ∷ (1, 1) ∷ (2, 0) ∷ (1, 2) ∷ (11183, 0) ∷ []), laid ((4096, 0) ∷ [])) ∷
     []
-unfolding ran called partsOf rowOf findRow table begins headOf planOf declarations bindingsIn endFrom entriesEnd placesOf partLine isPlain names plainEntries plainPlan lookup triples view occurs isMonotype substitute rename frontNames afterFront canUnify termView lambdaOf find links anySolved writeOutBy writeOut solutionNodes boardNodes findVar before perform operations instantiateFrom subtype openNames signatureFrom insert pushVars checkPatterns checkArms inferApp runFrom checkType resultOf runOf judge padded placeFrom threesFrom nodeWords bookWords reportWords call put lower levelMade levelAfter levelsAfter noneAbove fieldFrom lineOf lineAt linesFrom linesOf firstMisspelt fieldText lineText declaredBy isGoal arms following read readAt readSheet check words
+unfolding ran called partsOf rowOf findRow table begins headOf planOf declarations bindingsIn endFrom entriesEnd placesOf partLine isPlain names plainEntries plainPlan lookup triples view occurs isMonotype substitute rename frontNames afterFront canUnify termView lambdaOf find links anySolved writeOutBy writeOut solutionNodes boardNodes findVar before perform operations instantiateFrom subtype openNames signatureFrom insert pushVars checkPatterns checkArms inferApp runFrom checkType resultOf runOf judge padded placeFrom threesFrom nodeWords bookWords reportWords call put lower levelMade levelAfter levelsAfter noneAbove fieldFrom lineOf lineAt linesFrom linesOf firstMisspelt fieldText lineText declaredBy arms following read readAt readSheet check words
 ran2 = refl
 
 abbrev callsRan3 : List Ran
@@ -273,5 +273,5 @@ callsRan3 =
 pub ran3 : callsRan3 ≡
     (39 ∷ 0 ∷ 11 ∷ 6 ∷ 0 ∷ 0 ∷ 0 ∷ [], laid ((1, 3004) ∷ (1, 3) ∷ (1, 0) ∷ (1, 3002) ∷ (2, 1) ∷ (1, 3000) ∷ (1, 1) ∷ (1, 2) ∷ (2991, 0) ∷ (1, 12) ∷ (1, 1) ∷ (1, 12) ∷ (1, 1) ∷ (1, 13) ∷ (1, 0) ∷ (1, 17) ∷ (1, 3) ∷ (1, 17) ∷ (1, 4) ∷ (8182, 0) ∷ []), laid ((4096, 0) ∷ [])) ∷
     []
-unfolding ran called partsOf rowOf findRow table begins headOf planOf declarations bindingsIn endFrom entriesEnd placesOf partLine isPlain names plainEntries plainPlan lookup triples view occurs isMonotype substitute rename frontNames afterFront canUnify termView lambdaOf find links anySolved writeOutBy writeOut solutionNodes boardNodes findVar before perform operations instantiateFrom subtype openNames signatureFrom insert pushVars checkPatterns checkArms inferApp runFrom checkType resultOf runOf judge padded placeFrom threesFrom nodeWords bookWords reportWords call put lower levelMade levelAfter levelsAfter noneAbove fieldFrom lineOf lineAt linesFrom linesOf firstMisspelt fieldText lineText declaredBy isGoal arms following read readAt readSheet check words
+unfolding ran called partsOf rowOf findRow table begins headOf planOf declarations bindingsIn endFrom entriesEnd placesOf partLine isPlain names plainEntries plainPlan lookup triples view occurs isMonotype substitute rename frontNames afterFront canUnify termView lambdaOf find links anySolved writeOutBy writeOut solutionNodes boardNodes findVar before perform operations instantiateFrom subtype openNames signatureFrom insert pushVars checkPatterns checkArms inferApp runFrom checkType resultOf runOf judge padded placeFrom threesFrom nodeWords bookWords reportWords call put lower levelMade levelAfter levelsAfter noneAbove fieldFrom lineOf lineAt linesFrom linesOf firstMisspelt fieldText lineText declaredBy arms following read readAt readSheet check words
 ran3 = refl
