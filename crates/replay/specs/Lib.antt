@@ -1,1 +1,4 @@
+pub mod Parsing
+pub mod Recorded
+pub mod Reading
 pub mod Replay

@@ -1,10 +1,10 @@
-use borrow.Author.Needs.{needs}
-use mathlib.Core.Path.{_≡_, refl, _∙_}
+use mathlib.Core.Path.{_≡_, refl}
 use Prim.Native.Nat.{ℕ, _-_, _≤_, _<_}
 use native.Mathlib.Omega.{arith}
-use lib.ListN.{length, getD, length-set}
+use lib.ListN.{length, length-set, getD}
 use borrow.Author.Count.{below-none}
-use Rattle.replay.proofs.Laws.{fill-step}
+use Rattle.replay.proofs.Laws.{fill-step, soiled}
+use borrow.Author.Needs.{needs}
 use Rattle.replay.proofs.soil.Statement.{statement}
 use Rattle.replay.proofs.soil.Tie as tie
 
@@ -23,7 +23,7 @@ loop-again c =
     (simp length-set (omega arith), simp length-set (v .1), fill-step (c .before .loop .words) (c .before .loop .i) 3735928559 (c .loop-test .taken) (v .2))
 
 returns : tie.Need-returns Inv-loop μ-loop
-returns c = λ k h. c .before .loop .inv .2 k (omega (arith, c .before .loop .inv .1, c .loop-test .left))
+returns c = soiled (c .before .loop .words) (c .before .before .args .words .now) (c .before .loop .inv .1) (λ k h. c .before .loop .inv .2 k (omega (arith, c .before .loop .inv .1, c .loop-test .left)))
 
 pub soil-spec : {M : Type 1} → statement M
 soil-spec =
