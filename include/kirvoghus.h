@@ -18,7 +18,7 @@ extern "C" {
 
 /* The number of this interface. It rises with every change that a caller has to
  * follow; kirvoghus_version says the library's. */
-#define KIRVOGHUS_VERSION 5
+#define KIRVOGHUS_VERSION 6
 
 /* The limit: so many nodes may one type have that is written out. A caller picks
  * 1 to the highest; the programs that come with the library pick 1,024. */
@@ -203,7 +203,8 @@ uint32_t kirvoghus_read_sheet(
 /*
  * How many bytes the term has that starts at a line, lines being numbered from
  * 1: they stand from sheet + 29 * (line - 1) on, and are the lines of that term
- * alone. 0 if no whole term starts there. Any bytes and any line are taken.
+ * alone. 0 if no whole term starts there, and for more bytes than a sheet has,
+ * KIRVOGHUS_SHEET_BYTES. Any bytes and any line are taken.
  */
 size_t kirvoghus_term_bytes(
     const uint8_t *sheet, size_t sheet_len,

@@ -1,6 +1,7 @@
 #!/bin/sh
-# Builds the C program with warnings as errors, compares the header's constants with the
-# library's, runs the program on the sheets of `cases` and compares with the stored outputs.
+# Builds the C programs with warnings as errors, compares the header's constants with the
+# library's, asks for terms of long byte strings, runs the program on the sheets of `cases` and
+# compares with the stored outputs.
 # KIRVOGHUS_LIB names the library, from this folder.
 cd "$(dirname "$0")" || exit 2
 library=${KIRVOGHUS_LIB:-../../target/staticlib/libexports.a}
@@ -10,7 +11,7 @@ if [ ! -f "$library" ]; then
     exit 2
 fi
 mkdir -p target || exit 2
-for name in check constants two; do
+for name in check constants terms two; do
     ${CC:-cc} -std=c99 -Wall -Wextra -Werror -pedantic -O2 -g -pthread -I../../include $name.c "$library" -o target/$name || exit 2
 done
 # The header is C++ as well; asked where there is a compiler for it.
@@ -19,12 +20,14 @@ if command -v "${CXX:-c++}" > /dev/null; then
 fi
 
 failed=0
-if target/constants; then
-    echo "ok        constants"
-else
-    echo "DIFFERENT constants"
-    failed=1
-fi
+for name in constants terms; do
+    if target/$name; then
+        echo "ok        $name"
+    else
+        echo "DIFFERENT $name"
+        failed=1
+    fi
+done
 
 # A case's output and exit status, 0 only for an accepted plan, beside the stored output.
 compare() {

@@ -93,7 +93,8 @@ pub fn read_sheet(sheet: &[u8]) -> (u32, u32) {
     (number, line)
 }
 
-/// How many bytes the term has that starts at a line, from 1; 0 if none does.
+/// How many bytes the term has that starts at a line, from 1; 0 if none does, or if
+/// there are more bytes than a sheet has.
 pub fn term_bytes(sheet: &[u8], line: u32) -> usize {
     // SAFETY: as above.
     unsafe { kirvoghus_term_bytes(sheet.as_ptr(), sheet.len(), line) }

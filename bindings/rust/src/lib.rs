@@ -34,7 +34,7 @@ pub use types::{Name, Type};
 
 /// The number of the interface that this crate is made for; it rises with every
 /// change that a caller has to follow.
-pub const VERSION: u32 = 5;
+pub const VERSION: u32 = 6;
 
 /// The highest ceiling: so many entries may be taken at most.
 pub const MOST_STEPS: u32 = 10_000;
@@ -105,7 +105,8 @@ pub fn read_sheet(sheet: &[u8]) -> Verdict {
 }
 
 /// The lines of the term that starts at a line of a sheet, lines being numbered
-/// from 1, as a part of the sheet: empty if no whole term starts there.
+/// from 1, as a part of the sheet: empty if no whole term starts there, and if
+/// there are more bytes than a sheet has, [`SHEET_BYTES`].
 ///
 /// The sheet need not hold a plan; the part reads as that term by itself.
 pub fn term(sheet: &[u8], line: u32) -> &[u8] {

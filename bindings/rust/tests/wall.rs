@@ -214,6 +214,33 @@ fn terms_of_a_sheet() {
     assert_eq!(term(&plan[..29 * 8], 7), &[0u8; 0]);
 }
 
+/// So many lines that are one term: TypeLambdas over a literal.
+fn type_lambdas(lines: usize) -> Vec<u8> {
+    let mut numbers = [25, 10, 0].repeat(lines - 1);
+    numbers.extend([22, 7, 0]);
+    sheet(&numbers)
+}
+
+/// As many bytes as a sheet has, and more: no sub-term is looked for in these, so
+/// that a thread's stack is enough, however deep they nest.
+#[test]
+fn terms_of_more_bytes_than_a_sheet_has() {
+    let look = || {
+        let longest = type_lambdas(2000);
+        assert_eq!(longest.len(), SHEET_BYTES);
+        assert_eq!(term(&longest, 1), longest);
+        assert_eq!(term(&longest, 2000), &longest[29 * 1999..]);
+        let one_byte_more = [&longest[..], b" "].concat();
+        for more in [one_byte_more, type_lambdas(2001), type_lambdas(32_800)] {
+            for line in [0, 1, 2, 2000, 2001, u32::MAX] {
+                assert_eq!(term(&more, line), &[0u8; 0], "{} bytes", more.len());
+            }
+        }
+    };
+    let thread = std::thread::Builder::new().stack_size(1 << 20);
+    thread.spawn(look).unwrap().join().unwrap();
+}
+
 #[test]
 fn deep_types() {
     let depth = 990;

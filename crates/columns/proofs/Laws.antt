@@ -75,6 +75,11 @@ length-column n = length-field (width n) (Number false n)
 then : {l m : List ℕ} {i n j : ℕ} → Written l i n m j → (ws : List ℕ) → sets m j ws ≡ sets l i (column n ++ ws)
 then {l} {m} {i} {n} {j} w ws = rw (w .text, w .next, sym (length-column n)) (sym (sets-append l i (column n) ws))
 
+pub answer-length : (a : Answer) → length (answerText a)
+    ≡ width (a .number) + width (a .line) + width (a .taken) + width (a .fresh) + width (a .detail1) + width (a .detail2) + width (a .plain) + 1
+unfolding answerText columnsText
+answer-length a = simp (length-append, length-column) (omega arith)
+
 -- the seven columns of an answer and LF
 module _ (a : Answer) {l₀ l₁ l₂ l₃ l₄ l₅ l₆ l₇ : List ℕ} {p₁ p₂ p₃ p₄ p₅ p₆ p₇ : ℕ} (c₁ : Written l₀ 0 (a .number) l₁ p₁) (c₂ : Written l₁ p₁ (a .line) l₂ p₂)
     (c₃ : Written l₂ p₂ (a .taken) l₃ p₃) (c₄ : Written l₃ p₃ (a .fresh) l₄ p₄) (c₅ : Written l₄ p₄ (a .detail1) l₅ p₅) (c₆ : Written l₅ p₅ (a .detail2) l₆ p₆)
@@ -82,9 +87,3 @@ module _ (a : Answer) {l₀ l₁ l₂ l₃ l₄ l₅ l₆ l₇ : List ℕ} {p₁
   pub answer-written : (set l₇ p₇ 10 ≡ sets l₀ 0 (answerText a)) × (p₇ + 1 ≡ length (answerText a))
   unfolding answerText columnsText
   answer-written = (then c₇ _ ∙ then c₆ _ ∙ then c₅ _ ∙ then c₄ _ ∙ then c₃ _ ∙ then c₂ _ ∙ then c₁ _, simp (length-append, length-column) (omega arith))
-
-pub answer-short : (a : Answer) → length (answerText a) ≤ 71
-unfolding answerText columnsText
-answer-short a =
-    let w : (n : ℕ) → width n ≤ 10 = width-small in
-    simp (length-append, length-column) (omega (arith, w (a .number), w (a .line), w (a .taken), w (a .fresh), w (a .detail1), w (a .detail2), w (a .plain)))

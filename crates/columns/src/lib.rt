@@ -10,6 +10,9 @@ use judgment::Answer;
 use spelling::Field;
 use spelling::Triple;
 
+// The bytes of the seven numbers of any call, six each, and LF (`proofs/Sixes.antt`).
+pub const ANSWER_BYTES: usize = 43;
+
 // The last byte of a field.
 fn last_byte(f: Field) -> u8
     ensures { λ r. ⌜ r ≡ last f ⌝ }
@@ -84,7 +87,7 @@ fn width_of(n: u32) -> usize
 
 // Answers where the next one starts.
 fn write_column(out: &mut [u8], at: usize, n: u32) -> usize
-    requires { ⌜ at + 10 ≤ length (now out) ⌝ }
+    requires { ⌜ at + width n ≤ length (now out) ⌝ }
     ensures { λ r. ⌜ Written (now (out .entry)) at n (now (out .exit)) r ⌝ }
 {
     let w = width_of(n);
@@ -92,9 +95,9 @@ fn write_column(out: &mut [u8], at: usize, n: u32) -> usize
     at + w
 }
 
-// The seven numbers and LF at the front of `out`. Answers how many bytes they are.
+// The seven numbers and LF at the front of `out`, which has room for them. Answers how many bytes they are.
 pub fn write_answer(out: &mut [u8], a: Answer) -> usize
-    requires { ⌜ 71 ≤ length (now out) ⌝ }
+    requires { ⌜ length (answerText a) ≤ length (now out) ⌝ }
     ensures { λ r. ⌜ (now (out .exit) ≡ sets (now (out .entry)) 0 (answerText a)) × (r ≡ length (answerText a)) ⌝ }
 {
     let line = write_column(out, 0, a.number);

@@ -1,22 +1,32 @@
--- The number of the interface, and what its sizes are held to. Assumes nothing: these are definitions.
+-- What the calls of the interface give, its number, and what its sizes are held to. Assumes nothing: these are definitions.
 use Prim.Native.Nat.{ℕ, _-_, _%_, _≤_}
 use mathlib.Core.Path.{_≡_}
 use mathlib.Core.Bool.{true, false, cond, _||_}
 use mathlib.Core.List.{List, []}
 use lib.Dec.{ltb, eqb}
 use lib.ListN.{length}
+use Rattle.sizes.specs.Sizes.{sheetBytes}
 use Rattle.grammar.specs.Grammar.{subTerm}
 use Rattle.grammar.specs.Check.{lengthOk}
+use Rattle.judgment.specs.declared.Answer.{Answer}
 use Rattle.judgment.specs.Levels.{Mode}
-use Rattle.judgment.specs.Result.{Buffers, tooShort, call}
+use Rattle.judgment.specs.Result.{Buffers, numbers, tooShort, call}
+use Rattle.checker.specs.Answered.{Answered}
 
--- the lines of the term that starts at a line; lines are numbered from 1
+-- an entry call gives the checker's answer, with the promise of the run that it is read off: r is the first of its seven numbers
+pub record Given (m : Mode) (s : List ℕ) (c w : ℕ) (before : Buffers) (r : ℕ) (seven : List ℕ) (after : Buffers) : Type 0 where
+  pub answer : Answer
+  pub answered : Answered m s c w before answer after
+  pub all : seven ≡ numbers answer
+  pub first : r ≡ answer .number
+
+-- the lines of the term that starts at a line, of bytes that are no more than a sheet's; lines are numbered from 1
 abbrev pub termOn : List ℕ → ℕ → List ℕ
-termOn s line = cond (eqb line 0) [] (subTerm s (line - 1))
+termOn s line = cond (ltb sheetBytes (length s)) [] (cond (eqb line 0) [] (subTerm s (line - 1)))
 
 -- the number of the interface; it rises with every change that a caller has to follow
 abbrev pub version : ℕ
-version = 5
+version = 6
 
 -- refusal 2 is, with this limit, for buffers of which one has fewer words than these
 abbrev pub Least : ℕ → ℕ → ℕ → ℕ → Type 0

@@ -21,8 +21,8 @@ ghost use Rattle.grammar.specs.Check.{check, checkNumber, checkLine};
 ghost use Rattle.nodes.specs.Nodes.{Ty};
 ghost use Rattle.judgment.specs.Solutions.{Solutions};
 ghost use Rattle.judgment.specs.Levels.{Levels, firstCall, strictCall};
-ghost use Rattle.judgment.specs.Result.{numbers, call, boardWords, bookWords, reportWords};
-ghost use Rattle.exports.specs.Interface.{termOn, version, Least, Highest, HighestLimit, Longest, OneLine};
+ghost use Rattle.judgment.specs.Result.{numbers, boardWords, bookWords, reportWords};
+ghost use Rattle.exports.specs.Interface.{Given, termOn, version, Least, Highest, HighestLimit, Longest, OneLine};
 
 // Document 01's number of a sheet, 0, 3, 4 or 5, and its line.
 #[no_mangle]
@@ -49,11 +49,15 @@ pub extern "C" fn kirvoghus_read_sheet(sheet: &[u8], line: &mut u32) -> u32
     }
 }
 
-// How many bytes the term has that starts at a line, which are numbered from 1: they stand from byte 29 (line - 1) on. 0 if no whole term starts there.
+// How many bytes the term has that starts at a line, which are numbered from 1: they stand from byte 29 (line - 1) on. 0 if no whole
+// term starts there, and for more bytes than a sheet has: the readers call themselves, and their depth goes with the lines.
 #[no_mangle]
 pub extern "C" fn kirvoghus_term_bytes(sheet: &[u8], line: u32) -> usize
     ensures { λ r. ⌜ r ≡ length (termOn (now (sheet .entry)) line) ⌝ }
 {
+    if SHEET_BYTES < sheet.len() {
+        return 0;
+    }
     if line == 0 {
         return 0;
     }
@@ -87,7 +91,7 @@ pub extern "C" fn kirvoghus_check_type(
     report: &mut [u32],
     result: &mut [u32; 7],
 ) -> u32
-    ensures { λ r. ⌜ (r ≡ call firstCall (now (sheet .entry)) ceiling limit (record { board = now (board .entry); book = now (book .entry); report = now (report .entry) }) .answer .number) × (now (result .exit) ≡ numbers (call firstCall (now (sheet .entry)) ceiling limit (record { board = now (board .entry); book = now (book .entry); report = now (report .entry) }) .answer)) × (record { board = now (board .exit); book = now (book .exit); report = now (report .exit) } ≡ call firstCall (now (sheet .entry)) ceiling limit (record { board = now (board .entry); book = now (book .entry); report = now (report .entry) }) .after) ⌝ }
+    ensures { λ r. ⌜ Given firstCall (now (sheet .entry)) ceiling limit (record { board = now (board .entry); book = now (book .entry); report = now (report .entry) }) r (now (result .exit)) (record { board = now (board .exit); book = now (book .exit); report = now (report .exit) }) ⌝ }
 {
     let a = check_type(sheet, ceiling, limit, board, book, report);
     *result = seven(a);
@@ -105,7 +109,7 @@ pub extern "C" fn kirvoghus_check_type_strict(
     report: &mut [u32],
     result: &mut [u32; 7],
 ) -> u32
-    ensures { λ r. ⌜ (r ≡ call strictCall (now (sheet .entry)) ceiling limit (record { board = now (board .entry); book = now (book .entry); report = now (report .entry) }) .answer .number) × (now (result .exit) ≡ numbers (call strictCall (now (sheet .entry)) ceiling limit (record { board = now (board .entry); book = now (book .entry); report = now (report .entry) }) .answer)) × (record { board = now (board .exit); book = now (book .exit); report = now (report .exit) } ≡ call strictCall (now (sheet .entry)) ceiling limit (record { board = now (board .entry); book = now (book .entry); report = now (report .entry) }) .after) ⌝ }
+    ensures { λ r. ⌜ Given strictCall (now (sheet .entry)) ceiling limit (record { board = now (board .entry); book = now (book .entry); report = now (report .entry) }) r (now (result .exit)) (record { board = now (board .exit); book = now (book .exit); report = now (report .exit) }) ⌝ }
 {
     let a = check_type_strict(sheet, ceiling, limit, board, book, report);
     *result = seven(a);
@@ -117,7 +121,7 @@ pub extern "C" fn kirvoghus_check_type_strict(
 pub extern "C" fn kirvoghus_version() -> u32
     ensures { λ r. ⌜ r ≡ version ⌝ }
 {
-    5
+    6
 }
 
 // The words of the board: so many are written by a run, and a call takes no fewer.

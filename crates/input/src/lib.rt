@@ -1,7 +1,8 @@
-// Standard input into a buffer, a read that failed told apart from the end of the input.
+// Input into a buffer, a read that failed told apart from the end of the input.
 ghost use Prim.Native.Nat.{_≤_};
 ghost use lib.ListN.{length};
 ghost use Rattle.input.specs.Filled.{Filled};
+use libc::STDIN_FILENO;
 
 // Where the bytes in a buffer end, or that a read failed.
 pub enum Got {
@@ -10,12 +11,12 @@ pub enum Got {
 }
 
 // One read into the bytes from `at` on; none come at the end of the input.
-fn read_from(buf: &mut [u8], at: usize) -> Got
+fn read_from(fd: i32, buf: &mut [u8], at: usize) -> Got
     requires { ⌜ at ≤ length (now buf) ⌝ }
-    ensures { λ r. ⌜ Filled at r (length (now (buf .entry))) ⌝ }
+    ensures { λ r. ⌜ Filled at r (now (buf .entry)) (now (buf .exit)) ⌝ }
 {
     let part = &mut buf[at..];
-    let got = libc::read(libc::STDIN_FILENO, part);
+    let got = libc::read(fd, part);
     if got < 0 {
         return Got::Failed;
     }
@@ -23,13 +24,13 @@ fn read_from(buf: &mut [u8], at: usize) -> Got
 }
 
 // Reads into the bytes from `at` on, until the buffer is full, the input ends or a read fails.
-pub fn fill(buf: &mut [u8], at: usize) -> Got
+pub fn fill_from(fd: i32, buf: &mut [u8], at: usize) -> Got
     requires { ⌜ at ≤ length (now buf) ⌝ }
-    ensures { λ r. ⌜ Filled at r (length (now (buf .entry))) ⌝ }
+    ensures { λ r. ⌜ Filled at r (now (buf .entry)) (now (buf .exit)) ⌝ }
 {
     let mut end = at;
     while end < buf.len() {
-        let Got::To(n) = read_from(buf, end) else {
+        let Got::To(n) = read_from(fd, buf, end) else {
             return Got::Failed;
         };
         if n == end {
@@ -38,4 +39,12 @@ pub fn fill(buf: &mut [u8], at: usize) -> Got
         end = n;
     }
     Got::To(end)
+}
+
+// The same from standard input.
+pub fn fill(buf: &mut [u8], at: usize) -> Got
+    requires { ⌜ at ≤ length (now buf) ⌝ }
+    ensures { λ r. ⌜ Filled at r (now (buf .entry)) (now (buf .exit)) ⌝ }
+{
+    fill_from(STDIN_FILENO, buf, at)
 }

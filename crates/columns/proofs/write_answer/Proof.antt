@@ -1,10 +1,51 @@
 use mathlib.Core.Path.{ap, _∙_}
+use native.Mathlib.Omega.{arith}
 use lib.ListN.{length}
 use lib.Seq.{length-sets}
-use Rattle.columns.proofs.Laws.{answer-written}
+use Rattle.columns.proofs.Laws.{answer-length, answer-written}
 use borrow.Author.Needs.{needs}
 use Rattle.columns.proofs.write_answer.Statement.{statement}
 use Rattle.columns.proofs.write_answer.Tie as tie
+
+write-column-requires : tie.Need-write-column-requires
+write-column-requires c κs =
+    let h = answer-length (c .before .before .args .a) in
+    search needs
+
+write-column-requires-2 : tie.Need-write-column-requires-2
+write-column-requires-2 c κs =
+    let h = answer-length (c .before .before .before .before .before .before .args .a) in
+    search needs
+
+write-column-requires-3 : tie.Need-write-column-requires-3
+write-column-requires-3 c κs =
+    let h = answer-length (c .before .before .before .before .before .before .before .before .before .before .args .a) in
+    search needs
+
+write-column-requires-4 : tie.Need-write-column-requires-4
+write-column-requires-4 c κs =
+    let h = answer-length (c .before .before .before .before .before .before .before .before .before .before .before .before .before .before .args .a) in
+    search needs
+
+write-column-requires-5 : tie.Need-write-column-requires-5
+write-column-requires-5 c κs =
+    let h = answer-length (c .before .before .before .before .before .before .before .before .before .before .before .before .before .before .before .before .before .before .args .a) in
+    search needs
+
+write-column-requires-6 : tie.Need-write-column-requires-6
+write-column-requires-6 c κs =
+    let h = answer-length (c .before .before .before .before .before .before .before .before .before .before .before .before .before .before .before .before .before .before .before .before .before .before .args .a) in
+    search needs
+
+write-column-requires-7 : tie.Need-write-column-requires-7
+write-column-requires-7 c κs =
+    let h = answer-length (c .before .before .before .before .before .before .before .before .before .before .before .before .before .before .before .before .before .before .before .before .before .before .before .before .before .before .args .a) in
+    search needs
+
+slice-write-out : tie.Need-slice-write-out
+slice-write-out c =
+    let h = answer-length (c .before .before .before .before .before .before .before .before .before .before .before .before .before .before .before .before .before .before .before .before .before .before .before .before .before .before .before .before .before .args .a) in
+    search needs
 
 returns : tie.Need-returns
 returns c =
@@ -22,4 +63,4 @@ same-length c = ap length (returns c .0) ∙ simp length-sets
 
 pub write-answer-spec : {M : Type 1} → statement M
 write-answer-spec =
-    tie.close (tie.spec (λ c κs. search needs) (λ c κs. search needs) (λ c κs. search needs) (λ c κs. search needs) (λ c κs. search needs) (λ c κs. search needs) (λ c κs. search needs) (λ c. search needs) (λ c. search needs) same-length returns)
+    tie.close (tie.spec write-column-requires write-column-requires-2 write-column-requires-3 write-column-requires-4 write-column-requires-5 write-column-requires-6 write-column-requires-7 slice-write-out (λ c. search needs) same-length returns)
