@@ -1,6 +1,6 @@
 #!/bin/sh
-# Makes data/, args and stdout anew: sheets, their names, and what `reference answer` says of each, the name before the
-# seven numbers. KIRVOGHUS_REFERENCE names the judge, from the top.
+# Makes data/, args and stdout anew: sheets, their names, and what `reference answer` says of each, the name before
+# the seven numbers. KIRVOGHUS_REFERENCE names the judge, from the top.
 cd "$(dirname "$0")/../.." || exit 2
 judge=${KIRVOGHUS_REFERENCE:-reference/target/release/reference}
 crate=crates/plan_check_runs
@@ -23,8 +23,8 @@ for name in $large; do
     awk -v result=${name#result-} -f examples/explain/large.awk > $crate/data/$name || exit 2
 done
 
-# Each of 2,000 lines: a Constructor whose arguments nobody reads; and 498 entries of either kind, under a sum that names
-# the first and the last. Then its last LF missing, and one byte more.
+# Each of 2,000 lines: a Constructor whose arguments nobody reads; and 498 entries of either kind, under a sum that
+# names the first and the last. Then its last LF missing, and one byte more.
 line='function line(kind, value, count) { printf "%3d%20d%5d\n", kind, value, count }'
 awk "$line"' BEGIN {
     line(1, 20, 0); line(12, 30, 0); line(3, 0, 0); line(12, 30, 0); line(4, 0, 0)

@@ -34,7 +34,8 @@ static int differs(size_t count, size_t after, uint32_t line, size_t wanted)
 
     if (found == wanted)
         return 0;
-    printf("%lu bytes, line %lu: a term of %lu bytes\n", (unsigned long)bytes, (unsigned long)line, (unsigned long)found);
+    printf("%lu bytes, line %lu: a term of %lu bytes\n",
+        (unsigned long)bytes, (unsigned long)line, (unsigned long)found);
     return 1;
 }
 

@@ -22,6 +22,6 @@ telling {s} {b} {after} {a} {l} {m} {r} q e h w =
     let k : 300 + 23 * (length (after .report) / 2) ≤ length l = rw e (omega arith) in
     let v = held a (after .report) l m r k w in
     let t : explained a (after .report) ≡ told s b =
-        ap (λ (x : Answer). explained x (after .report)) (q .answer)
-        ∙ ap (λ (x : Buffers). explained (called s b .answer) (x .report)) (q .buffers) in
+    ap (λ (x : Answer). explained x (after .report)) (q .answer)
+    ∙ ap (λ (x : Buffers). explained (called s b .answer) (x .report)) (q .buffers) in
     record { text = w .text ∙ ap (sets l 0) t; bytes = v .0 ∙ ap length t; within = v .2; buffers = q .buffers }

@@ -51,7 +51,10 @@ fn tell_input(
     ensures { λ r. ⌜ (length (now (sheet .exit)) ≡ length (now (sheet .entry))) × ToldOf r (now (sheet .exit)) (record { board = now (board .entry); book = now (book .entry); report = now (report .entry) }) (now (text .entry)) (now (text .exit)) (record { board = now (board .exit); book = now (book .exit); report = now (report .exit) }) ⌝ }
 {
     let Got::To(n) = fill(sheet, 0) else {
-        let _told = write_all(STDERR_FILENO, b"plan_explain: standard input was not read\n");
+        let _told = write_all(
+            STDERR_FILENO,
+            b"plan_explain: standard input was not read\n",
+        );
         return Got::Failed;
     };
     let end = tell(&sheet[..n], board, book, report, text);
