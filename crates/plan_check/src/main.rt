@@ -4,18 +4,11 @@ use input::Got;
 use io::write_all;
 use libc::STDERR_FILENO;
 use libc::STDIN_FILENO;
-use libc::STDOUT_FILENO;
 use sizes::BOARD_SIZE;
 use sizes::BOOK_SIZE;
 use sizes::SHEET_BYTES;
 use sizes::USUAL_REPORT;
-use telling::tell_from;
-
-fn write_out(text: &[u8; ANSWER_BYTES]) {
-    if !write_all(STDOUT_FILENO, text) {
-        let _told = write_all(STDERR_FILENO, b"plan_check: the answer was not written\n");
-    }
-}
+use telling::tell_out;
 
 // A sheet that fills its buffer is too long, and gets 3 as it stands.
 fn main() {
@@ -24,17 +17,16 @@ fn main() {
     let mut book = [0u32; BOOK_SIZE];
     let mut report = [0u32; USUAL_REPORT];
     let mut text = [0u8; ANSWER_BYTES];
-    match tell_from(
+    let Got::To(_) = tell_out(
         STDIN_FILENO,
+        b"",
         &mut sheet,
         &mut board,
         &mut book,
         &mut report,
         &mut text,
-    ) {
-        Got::Failed => {
-            let _told = write_all(STDERR_FILENO, b"plan_check: standard input was not read\n");
-        }
-        Got::To(_) => write_out(&text),
-    }
+    ) else {
+        let _told = write_all(STDERR_FILENO, b"plan_check: standard input was not read\n");
+        return;
+    };
 }

@@ -4,14 +4,12 @@ ghost use lib.ListN.{length};
 ghost use Rattle.telling.specs.Told.{ToldOf};
 use columns::ANSWER_BYTES;
 use input::Got;
-use io::write_all;
-use libc::STDOUT_FILENO;
 use os::fail;
 use sizes::BOARD_SIZE;
 use sizes::BOOK_SIZE;
 use sizes::SHEET_BYTES;
 use sizes::USUAL_REPORT;
-use telling::tell_from;
+use telling::tell_out;
 
 // As `plan_check` does, from a file in place of standard input.
 fn tell_file(
@@ -28,14 +26,9 @@ fn tell_file(
     if fd < 0 {
         return Got::Failed;
     }
-    let got = tell_from(fd, sheet, board, book, report, text);
+    let got = tell_out(fd, name, sheet, board, book, report, text);
     let _closed = libc::close(fd);
     got
-}
-
-fn write_out(name: &[u8], text: &[u8; ANSWER_BYTES]) {
-    let _name = write_all(STDOUT_FILENO, name);
-    let _text = write_all(STDOUT_FILENO, text);
 }
 
 // The file that an argument names.
@@ -52,9 +45,8 @@ fn tell_argument(
 {
     let bytes = os::arg(at, name);
     let got = tell_file(&name[..bytes], sheet, board, book, report, text);
-    match got {
-        Got::Failed => fail(&name[..bytes]),
-        Got::To(_) => write_out(&name[..bytes], text),
+    if let Got::Failed = got {
+        fail(&name[..bytes]);
     }
     got
 }

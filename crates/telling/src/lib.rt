@@ -7,6 +7,9 @@ use columns::ANSWER_BYTES;
 use columns::write_answer;
 use input::Got;
 use input::fill_from;
+use io::write_all;
+use libc::STDERR_FILENO;
+use libc::STDOUT_FILENO;
 use sizes::HIGHEST_CEILING;
 use sizes::USUAL_LIMIT;
 
@@ -39,4 +42,30 @@ pub fn tell_from(
     };
     tell(&sheet[..n], board, book, report, text);
     Got::To(n)
+}
+
+fn write_out(label: &[u8], text: &[u8; ANSWER_BYTES]) {
+    let _label = write_all(STDOUT_FILENO, label);
+    if !write_all(STDOUT_FILENO, text) {
+        let _told = write_all(STDERR_FILENO, b"the answer was not written\n");
+    }
+}
+
+// The same, and written to standard output behind a label.
+pub fn tell_out(
+    fd: i32,
+    label: &[u8],
+    sheet: &mut [u8],
+    board: &mut [u32],
+    book: &mut [u32],
+    report: &mut [u32],
+    text: &mut [u8; ANSWER_BYTES],
+) -> Got
+    ensures { λ r. ⌜ (length (now (sheet .exit)) ≡ length (now (sheet .entry))) × ToldOf r (now (sheet .exit)) (record { board = now (board .entry); book = now (book .entry); report = now (report .entry) }) (now (text .entry)) (now (text .exit)) (record { board = now (board .exit); book = now (book .exit); report = now (report .exit) }) ⌝ }
+{
+    let got = tell_from(fd, sheet, board, book, report, text);
+    if let Got::To(_) = got {
+        write_out(label, text);
+    }
+    got
 }
