@@ -14,7 +14,7 @@ use telling::tell_out;
 // As `plan_check` does, from a file in place of standard input.
 fn tell_file(
     name: &[u8],
-    sheet: &mut [u8],
+    sheet: &mut [u8; SHEET_BYTES + 1],
     board: &mut [u32],
     book: &mut [u32],
     report: &mut [u32],
@@ -35,7 +35,7 @@ fn tell_file(
 fn tell_argument(
     at: usize,
     name: &mut [u8],
-    sheet: &mut [u8],
+    sheet: &mut [u8; SHEET_BYTES + 1],
     board: &mut [u32],
     book: &mut [u32],
     report: &mut [u32],
@@ -54,7 +54,7 @@ fn tell_argument(
 // One after the other, in buffers that hold what the file before left.
 fn tell_arguments(
     name: &mut [u8],
-    sheet: &mut [u8],
+    sheet: &mut [u8; SHEET_BYTES + 1],
     board: &mut [u32],
     book: &mut [u32],
     report: &mut [u32],

@@ -11,6 +11,7 @@ use io::write_all;
 use libc::STDERR_FILENO;
 use libc::STDOUT_FILENO;
 use sizes::HIGHEST_CEILING;
+use sizes::SHEET_BYTES;
 use sizes::USUAL_LIMIT;
 
 pub fn tell(
@@ -47,15 +48,15 @@ pub fn tell_from(
 fn write_out(label: &[u8], text: &[u8; ANSWER_BYTES]) {
     let _label = write_all(STDOUT_FILENO, label);
     if !write_all(STDOUT_FILENO, text) {
-        let _told = write_all(STDERR_FILENO, b"the answer was not written\n");
+        let _told = write_all(STDERR_FILENO, b"plan_check: the answer was not written\n");
     }
 }
 
-// The same, and written to standard output behind a label.
+// The same with a buffer one byte longer than any sheet, and written to standard output behind a label.
 pub fn tell_out(
     fd: i32,
     label: &[u8],
-    sheet: &mut [u8],
+    sheet: &mut [u8; SHEET_BYTES + 1],
     board: &mut [u32],
     book: &mut [u32],
     report: &mut [u32],
