@@ -1,11 +1,12 @@
 -- Laws of the lines of a text. Assumes nothing.
-use mathlib.Core.Path.{_≡_, refl}
+use mathlib.Core.Path.{_≡_, refl, ap, _∙_}
 use mathlib.Core.Bool.{Bool, false, cond}
 use mathlib.Core.List.{List, [], _∷_}
-use Prim.Native.Nat.{ℕ, _+_, _≤_, _<_}
+use Prim.Native.Nat.{ℕ, _+_, _-_, _≤_, _<_}
 use native.Mathlib.Omega.{arith}
 use lib.Dec.{eqb, ltb}
-use lib.ListN.{length, getD}
+use lib.ListN.{length, getD, take, drop, length-drop}
+use lib.Seq.{sets, sets-eq, take-at, length-take-le}
 use borrow.Author.Tests.{ltb-true}
 use Rattle.nodes.proofs.ListLaws.{cond-ind}
 use Rattle.replay.specs.declared.Unread.{Unread}
@@ -32,6 +33,15 @@ pub next-in : {t t' : List ℕ} {v u : Unread} {a b : ℕ} → length t' ≡ len
 next-in {t} {t'} {v} {u} {a} {b} k i (here e f) = rw k (line-in t (v .at) (v .end) (v .more) a b u (i .stop) f)
 next-in {t} {t'} {v} {u} {a} {b} k i (anew m n (failed e)) = absurd (let z : _≡_ {A = ℕ} 0 1 = cc in omega arith)
 next-in {t} {t'} {v} {u} {a} {b} k i (anew m n (filled r)) = line-in t' 0 (r .to) (eqb (r .to) (length t')) a b u (r .stop) (r .line)
+
+-- bytes that were moved to the front are there after what was read behind them
+pub held-kept : (l m d : List ℕ) (at end : ℕ) → (at ≤ end) × (end ≤ length l) → m ≡ sets l 0 (take (end - at) (drop at l)) → take (end - at) d ≡ take (end - at) m
+    → take (end - at) d ≡ take (end - at) (drop at l)
+held-kept l m d at end h e k =
+    let t = take (end - at) (drop at l) in
+    let w : length t ≡ end - at = length-take-le (end - at) (drop at l) (omega (arith, h .0, h .1, length-drop at l)) in
+    let s : 0 + length t ≤ length l = omega (arith, h .0, h .1) in
+    k ∙ ap (take (end - at)) e ∙ ap (take (end - at)) (sets-eq t l 0 s) ∙ take-at t _ (end - at) w
 
 -- ---- a comment
 pub comment-some : (l : List ℕ) → 0 < length l → eqb (getD l 0 0) 35 ≡ isComment l

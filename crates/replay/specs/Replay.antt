@@ -100,17 +100,19 @@ FirstLine text at end more (Line a b u) = LineAt text at end more a b u
 FirstLine text at end more Ended = at ≡ end
 FirstLine text at end more Failed = ⊥
 
--- the first line of a text that was filled up to n, n not before what was held; the input goes on if the text is full
-pub record FilledLine (text : List ℕ) (held : ℕ) (r : Step) : Type 0 where
+-- The first line of a text that was filled anew: in front stand the bytes from `at` to `end` of the text before, and what was read follows
+-- them. The input goes on if the text is full.
+pub record FilledLine (before : List ℕ) (at end : ℕ) (text : List ℕ) (r : Step) : Type 0 where
   pub to : ℕ
-  pub start : held ≤ to
+  pub held : take (end - at) text ≡ take (end - at) (drop at before)
+  pub start : end - at ≤ to
   pub stop : to ≤ length text
   pub line : FirstLine text 0 to (eqb to (length text)) r
 
 -- or a read failed
-pub data Refilled (text : List ℕ) (held : ℕ) (r : Step) : Type 0 where
-  failed : r ≡ Failed → Refilled text held r
-  filled : FilledLine text held r → Refilled text held r
+pub data Refilled (before : List ℕ) (at end : ℕ) (text : List ℕ) (r : Step) : Type 0 where
+  failed : r ≡ Failed → Refilled before at end text r
+  filled : FilledLine before at end text r → Refilled before at end text r
 
 -- what is unread has no LF
 abbrev pub Unended : List ℕ → Unread → Type 0
@@ -119,7 +121,7 @@ Unended text u = (k : ℕ) → k < u .end → u .at ≤ k → getD text k 0 ≡ 
 -- the next line of the text before the call; or, where that has none and the input goes on, of the text filled anew
 pub data NextLine (text : List ℕ) (u : Unread) (text' : List ℕ) (r : Step) : Type 0 where
   here : text' ≡ text → FirstLine text (u .at) (u .end) (u .more) r → NextLine text u text' r
-  anew : u .more ≡ true → Unended text u → Refilled text' (u .end - u .at) r → NextLine text u text' r
+  anew : u .more ≡ true → Unended text u → Refilled text (u .at) (u .end) text' r → NextLine text u text' r
 
 -- ---- counts
 abbrev pub more : ℕ → ℕ

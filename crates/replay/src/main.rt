@@ -856,7 +856,7 @@ fn first_line(text: &[u8], at: usize, end: usize, more: bool) -> Step
 // Holds the start of a line and fills the text behind it. A line longer than the text comes in parts, which are no records.
 fn refill(text: &mut [u8], at: usize, end: usize) -> Step
     requires { ⌜ (at ≤ end) × (end ≤ length (now text)) ⌝ }
-    ensures { λ r. ⌜ Refilled (now (text .exit)) (end - at) r ⌝ }
+    ensures { λ r. ⌜ Refilled (now (text .entry)) at end (now (text .exit)) r ⌝ }
 {
     let held = end - at;
     move_to_front(text, at, held);
