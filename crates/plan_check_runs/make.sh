@@ -14,7 +14,7 @@ rm -rf $crate/data && mkdir $crate/data || exit 2
 small="seven lambda arms identity catalogue named empty cut misspelt unfit lacking unbound constructor not-a-function
     pattern bool universal types instantiation print intrinsic"
 large="result-21 result-22 result-23 result-24 result-25"
-long="long-unread long-catalogue long-misspelt one-byte-more"
+long="long-unread long-type long-catalogue long-misspelt one-byte-more"
 
 for name in $small; do
     cp examples/c/sheets/$name.sheet $crate/data/$name || exit 2
@@ -23,9 +23,15 @@ for name in $large; do
     awk -v result=${name#result-} -f examples/explain/large.awk > $crate/data/$name || exit 2
 done
 
-# Each of 2,000 lines: a Constructor whose arguments nobody reads; and 498 entries of either kind, under a sum that
-# names the first and the last. Then its last LF missing, and one byte more.
+# A type of 991 nodes written out, near the limit of 1,024. Each of 2,000 lines: a Constructor whose arguments nobody
+# reads; and 498 entries of either kind, under a sum that names the first and the last. Then its last LF missing, and
+# one byte more.
 line='function line(kind, value, count) { printf "%3d%20d%5d\n", kind, value, count }'
+awk "$line"' function type(at, part) {
+    line(16, 0, 99)
+    for (at = 0; at < 99; at++) { line(16, 0, 9); for (part = 0; part < 9; part++) line(12, 1, 0) }
+}
+BEGIN { line(2, 40, 0); type(); line(3, 0, 0); type(); line(4, 0, 0); line(21, 40, 0) }' > $crate/data/long-type || exit 2
 awk "$line"' BEGIN {
     line(1, 20, 0); line(12, 30, 0); line(3, 0, 0); line(12, 30, 0); line(4, 0, 0)
     for (at = 0; at < 1994; at++) line(26, 20, 1)

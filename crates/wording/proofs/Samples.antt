@@ -1,6 +1,6 @@
--- Types and their texts, by computation. Assumes nothing.
+-- Types and numbers and their texts, by computation. Assumes nothing.
 use mathlib.Core.Path.{_≡_, refl}
-use mathlib.Core.List.{List, [], _∷_}
+use mathlib.Core.List.{List, [], _∷_, map}
 use Prim.Native.String.{String}
 use Rattle.nodes.specs.Nodes.{node, Ty}
 use Rattle.nodes.specs.Lists.{All}
@@ -26,3 +26,9 @@ samples =
 spelt-so : All (λ (s : Ty × String). typeText (s .0) ≡ bytes (s .1)) samples
 unfolding fieldText numberText nameText quantifier leaf bare pieces spelt typeText
 spelt-so = (refl, (refl, (refl, (refl, (refl, (refl, (refl, (refl, (refl, (refl, (refl, tt)))))))))))
+
+-- the first and the last number of each length
+pub numbers : map numberText (0 ∷ 9 ∷ 10 ∷ 99 ∷ 100 ∷ 999 ∷ 1000 ∷ 9999 ∷ 10000 ∷ 99999 ∷ 100000 ∷ 999999 ∷ 1000000 ∷ 9999999 ∷ 10000000 ∷ 99999999 ∷ 100000000 ∷ 999999999 ∷ 1000000000 ∷ 4294967295 ∷ []) ≡
+    bytes "0" ∷ bytes "9" ∷ bytes "10" ∷ bytes "99" ∷ bytes "100" ∷ bytes "999" ∷ bytes "1000" ∷ bytes "9999" ∷ bytes "10000" ∷ bytes "99999" ∷ bytes "100000" ∷ bytes "999999" ∷ bytes "1000000" ∷ bytes "9999999" ∷ bytes "10000000" ∷ bytes "99999999" ∷ bytes "100000000" ∷ bytes "999999999" ∷ bytes "1000000000" ∷ bytes "4294967295" ∷ []
+unfolding fieldText numberText
+numbers = refl
