@@ -5,7 +5,7 @@ use crate::floor::floor;
 use reference::checks::Call;
 use reference::oracle::{inference, MOST_STEPS};
 use reference::plan::Plan;
-use reference::proved::{Buffers, Check};
+use reference::proved::{lend, Buffers, Check};
 use std::hint::black_box;
 use std::time::Duration;
 
@@ -71,7 +71,13 @@ impl Dirty {
 /// The Rust's `check_type`, our whole call, and the floor.
 pub fn measure(turns: Turns, check: Check, plan: &Plan, call: &Call) -> Measured {
     let (mut our_buffers, mut floor_buffers) = (Dirty::new(call.lengths), Dirty::new(call.lengths));
-    let (door, sheet, limit) = (call.door, call.sheet, call.limit);
+    let Call {
+        door,
+        sheet,
+        limit,
+        lengths,
+        ..
+    } = *call;
     let [rust, ours, floor] = by_turns(
         turns,
         [
@@ -80,8 +86,10 @@ pub fn measure(turns: Turns, check: Check, plan: &Plan, call: &Call) -> Measured
                 time(|| rust.check_type(black_box(&plan.term), &plan.expected))
             },
             &mut || {
-                our_buffers
-                    .time(|buffers| check(door, black_box(sheet), MOST_STEPS, limit, buffers))
+                our_buffers.time(|buffers| {
+                    let lent = lend(buffers, lengths);
+                    check(door, black_box(sheet), MOST_STEPS, limit, lent)
+                })
             },
             &mut || floor_buffers.time(|buffers| floor(black_box(sheet), buffers)),
         ],
