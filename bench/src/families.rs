@@ -13,59 +13,44 @@ use std::collections::BTreeMap;
 type Lines = Vec<Line>;
 type Entries = BTreeMap<u32, Ty>;
 
-/// Where a long term goes on.
-#[derive(Clone, Copy, PartialEq, Eq)]
-pub enum Shape {
-    Left,
-    Right,
-    Wide,
-    Other,
-}
-
 pub struct Family {
     pub title: &'static str,
     pub door: Door,
-    pub shape: Shape,
     pub make: fn(usize) -> Lines,
 }
 
-const fn family(title: &'static str, shape: Shape, make: fn(usize) -> Lines) -> Family {
+const fn family(title: &'static str, make: fn(usize) -> Lines) -> Family {
     let door = Door::First;
-    Family {
-        title,
-        door,
-        shape,
-        make,
-    }
+    Family { title, door, make }
 }
 
 /// Put to the strict call, which accepts it too.
 const fn strict(title: &'static str, make: fn(usize) -> Lines) -> Family {
     Family {
         door: Door::Strict,
-        ..family(title, Shape::Other, make)
+        ..family(title, make)
     }
 }
 
 pub const PLAIN: [Family; 10] = [
-    family("Lambdas", Shape::Right, lambdas),
-    family("long type, refused", Shape::Other, long_sheet),
-    family("long type", Shape::Other, long_type),
-    family("sum, left", Shape::Left, sum_left),
-    family("sum, right", Shape::Right, sum_right),
-    family("sum, flat", Shape::Wide, sum_flat),
-    family("calls, left", Shape::Left, calls_left),
-    family("calls, right", Shape::Right, calls_right),
-    family("Case arms", Shape::Wide, arms),
-    family("Constructor", Shape::Wide, constructor),
+    family("Lambdas", lambdas),
+    family("long type, refused", long_sheet),
+    family("long type", long_type),
+    family("sum, left", sum_left),
+    family("sum, right", sum_right),
+    family("sum, flat", sum_flat),
+    family("calls, left", calls_left),
+    family("calls, right", calls_right),
+    family("Case arms", arms),
+    family("Constructor", constructor),
 ];
 
 pub const QUANTIFIED: [Family; 5] = [
-    family("Foralls", Shape::Other, foralls),
-    family("TypeLambdas", Shape::Other, type_lambdas),
-    family("identity", Shape::Other, identities),
-    family("Foralls compared", Shape::Other, compared),
-    family("lowered", Shape::Other, lowered),
+    family("Foralls", foralls),
+    family("TypeLambdas", type_lambdas),
+    family("identity", identities),
+    family("Foralls compared", compared),
+    family("lowered", lowered),
 ];
 
 pub const STRICT: [Family; 2] = [

@@ -1,6 +1,7 @@
 //! Measures `check_type` of the Rust and of the proved checker in one process
 //! on the same plans.
 
+mod anchor;
 mod clock;
 mod families;
 mod floor;
@@ -10,7 +11,8 @@ mod readers;
 mod table;
 mod targets;
 
-use measure::{measure, Turns, FULL, QUICK};
+use anchor::{agrees, anchor_of};
+use measure::{in_a_row, measure, Turns, FULL, QUICK};
 use plans::{plans, Plan};
 use reference::checks::{put, Call};
 use reference::oracle::{sizes, MOST_STEPS};
@@ -20,6 +22,7 @@ use reference::with_stack;
 use std::io::Write;
 use std::process::ExitCode;
 use table::Row;
+use targets::ROW;
 
 const USAGE: &str = "usage: bench [--quick] [--only TEXT] [--sheets]
   --quick      fewer turns
@@ -81,34 +84,56 @@ fn run(options: &Options) -> Result<(), String> {
         rows.push(row);
     }
     targets::print(&rows);
+    print_in_a_row(proved.check, &rows);
     if options.only.is_empty() {
         readers::print(options.turns, proved.read);
     }
     Ok(())
 }
 
-/// Puts a plan to both, then measures it; an error if the answers differ.
-fn row(turns: Turns, check: Check, plan: Plan) -> Result<Row, String> {
-    let sheet = write(&plan.lines);
-    let call = Call {
+/// The whole call of a plan.
+fn call<'a>(plan: &Plan, sheet: &'a [u8]) -> Call<'a> {
+    Call {
         door: plan.door,
-        sheet: &sheet,
+        sheet,
         ceiling: MOST_STEPS,
         limit: plan.limit,
         lengths: sizes(plan.limit),
-    };
+    }
+}
+
+/// Puts a plan to both and to the anchor, then measures it; an error if the
+/// answers differ.
+fn row(turns: Turns, check: Check, plan: Plan) -> Result<Row, String> {
+    let sheet = write(&plan.lines);
+    let call = call(&plan, &sheet);
+    let title = &plan.title;
     let put = put(check, &call, 1);
     if !put.same {
-        let (title, rust, ours) = (&plan.title, put.answer.seven(), put.seven);
+        let (rust, ours) = (put.answer.seven(), put.seven);
         return Err(format!(
             "{title}: numbers or buffers differ: the Rust {rust:?}, ours {ours:?}"
         ));
     }
-    let trees = read(&sheet).map_err(|refusal| format!("{}: {refusal:?}", plan.title))?;
-    let measured = measure(turns, check, &trees, &call);
+    let anchor = anchor_of(&plan.lines);
+    if anchor.is_some_and(|anchor| !agrees(anchor, check, &call)) {
+        return Err(format!("{title}: numbers or buffers of the anchor differ"));
+    }
+    let trees = read(&sheet).map_err(|refusal| format!("{title}: {refusal:?}"))?;
+    let measured = measure(turns, check, anchor, &trees, &call);
     Ok(Row {
         plan,
         answer: put.answer,
         measured,
     })
+}
+
+/// As many calls of the dearest hard sheet as a shop's set has plans.
+fn print_in_a_row(check: Check, rows: &[Row]) {
+    let hard = rows.iter().filter(|row| row.plan.hard);
+    if let Some(row) = hard.max_by_key(|row| row.measured.ours.minimum) {
+        let sheet = write(&row.plan.lines);
+        let time = in_a_row(ROW, check, &call(&row.plan, &sheet));
+        targets::print_in_a_row(&row.plan.title, time);
+    }
 }

@@ -45,6 +45,8 @@ pub struct Measured {
     pub rust: Times,
     pub ours: Times,
     pub floor: Times,
+    /// Of the plans that it checks.
+    pub anchor: Option<Times>,
 }
 
 /// Buffers with words that no run leaves, made so again before every timed call.
@@ -68,47 +70,78 @@ impl Dirty {
     }
 }
 
-/// The Rust's `check_type`, our whole call, and the floor.
-pub fn measure(turns: Turns, check: Check, plan: &Plan, call: &Call) -> Measured {
-    let (mut our_buffers, mut floor_buffers) = (Dirty::new(call.lengths), Dirty::new(call.lengths));
-    let Call {
-        door,
-        sheet,
-        limit,
-        lengths,
-        ..
-    } = *call;
-    let [rust, ours, floor] = by_turns(
-        turns,
-        [
-            &mut || {
-                let mut rust = inference(plan);
-                time(|| rust.check_type(black_box(&plan.term), &plan.expected))
-            },
-            &mut || {
-                our_buffers.time(|buffers| {
-                    let lent = lend(buffers, lengths);
-                    check(door, black_box(sheet), MOST_STEPS, limit, lent)
-                })
-            },
-            &mut || floor_buffers.time(|buffers| floor(black_box(sheet), buffers)),
-        ],
-    );
-    Measured { rust, ours, floor }
+/// One whole call of a checker, with buffers that are kept for it.
+fn calling<'a>(check: Check, call: &'a Call) -> impl FnMut() -> Duration + 'a {
+    let mut dirty = Dirty::new(call.lengths);
+    move || {
+        dirty.time(|buffers| {
+            let lent = lend(buffers, call.lengths);
+            check(
+                call.door,
+                black_box(call.sheet),
+                MOST_STEPS,
+                call.limit,
+                lent,
+            )
+        })
+    }
 }
 
-/// Every one in each turn, for its part of the time and once at least.
+/// The Rust's `check_type`, our whole call, the floor, and the anchor's call.
+pub fn measure(
+    turns: Turns,
+    check: Check,
+    anchor: Option<Check>,
+    plan: &Plan,
+    call: &Call,
+) -> Measured {
+    let mut rust = || {
+        let mut rust = inference(plan);
+        time(|| rust.check_type(black_box(&plan.term), &plan.expected))
+    };
+    let mut dirty = Dirty::new(call.lengths);
+    let mut floor = || dirty.time(|buffers| floor(black_box(call.sheet), buffers));
+    let mut ours = calling(check, call);
+    let Some(anchor) = anchor else {
+        let [rust, ours, floor] = by_turns(turns, [&mut rust, &mut ours, &mut floor]);
+        return Measured {
+            rust,
+            ours,
+            floor,
+            anchor: None,
+        };
+    };
+    let mut anchor = calling(anchor, call);
+    let timed: [&mut dyn FnMut() -> Duration; 4] = [&mut rust, &mut ours, &mut floor, &mut anchor];
+    let [rust, ours, floor, anchor] = by_turns(turns, timed);
+    Measured {
+        rust,
+        ours,
+        floor,
+        anchor: Some(anchor),
+    }
+}
+
+/// So many calls one after the other.
+pub fn in_a_row(count: usize, check: Check, call: &Call) -> Duration {
+    let mut one = calling(check, call);
+    (0..count).map(|_| one()).sum()
+}
+
+/// Every one in each turn, until it has had its part of the time: once at least,
+/// and no more where one call takes as long as all turns.
 pub fn by_turns<const N: usize>(
     turns: Turns,
     mut timed: [&mut dyn FnMut() -> Duration; N],
 ) -> [Times; N] {
     let mut calls = [const { Vec::new() }; N];
-    for _ in 0..turns.turns {
-        for (one, calls) in timed.iter_mut().zip(&mut calls) {
-            let mut spent = Duration::ZERO;
-            while spent < turns.total / turns.turns {
+    let mut spent = [Duration::ZERO; N];
+    for turn in 1..=turns.turns {
+        let due = turns.total * turn / turns.turns;
+        for ((one, calls), spent) in timed.iter_mut().zip(&mut calls).zip(&mut spent) {
+            while *spent < due {
                 let time = one();
-                spent += time;
+                *spent += time;
                 calls.push(time);
             }
         }

@@ -1,18 +1,10 @@
-//! The plans that are measured, with what is wanted of each.
+//! The plans that are measured.
 
 use crate::families::{self, Family, PLAIN, QUANTIFIED, STRICT};
+use reference::generate::hard;
+use reference::generate::limits::Found;
 use reference::oracle::{Door, LIMIT, MOST_LIMIT};
 use reference::sheet::Line;
-
-/// What is wanted of our time.
-#[derive(Clone, Copy)]
-pub enum Target {
-    /// So many times faster than the Rust.
-    Ratio(f64),
-    /// Within so many times the floor.
-    Floor(f64),
-    Nothing,
-}
 
 pub struct Plan {
     pub title: String,
@@ -22,14 +14,12 @@ pub struct Plan {
     pub lines: Vec<Line>,
     /// On one written-out type.
     pub limit: u32,
-    pub target: Target,
+    /// One of the hard sheets.
+    pub hard: bool,
 }
 
-/// About so many lines, and how many times faster than the Rust we are to be.
-pub const SIZES: [(usize, f64); 3] = [(20, 5.0), (200, 50.0), (2000, 500.0)];
-
-/// Our time for a line is to be flat between these.
-pub const FLAT: (usize, usize) = (200, 2000);
+/// About so many lines.
+pub const SIZES: [usize; 3] = [20, 200, 2000];
 
 static FAMILIES: [&[Family]; 3] = [&PLAIN, &QUANTIFIED, &STRICT];
 
@@ -38,47 +28,22 @@ pub fn families() -> impl Iterator<Item = &'static Family> {
 }
 
 pub fn plans() -> Vec<Plan> {
-    let mut plans = vec![single(
-        "7 : Int",
-        Target::Floor(2.5),
-        families::seven_as_int(),
-    )];
-    for family in families() {
-        plans.extend(SIZES.map(|(size, ratio)| Plan {
-            title: format!("{} {size}", family.title),
-            of: Some((family.title, size)),
-            door: family.door,
-            lines: (family.make)(size),
-            limit: LIMIT,
-            // The Rust has no strict call.
-            target: match family.door {
-                Door::First => Target::Ratio(ratio),
-                Door::Strict => Target::Nothing,
-            },
-        }));
-    }
-    plans.push(single(
-        "1,000 fresh numbers",
-        Target::Nothing,
-        families::numbers(),
-    ));
-    plans.push(single(
-        "10,000 entries taken",
-        Target::Nothing,
-        families::ceiling(),
-    ));
-    let catalogues = [
+    let mut plans = vec![single("7 : Int", families::seven_as_int())];
+    plans.extend(families().flat_map(|family| SIZES.map(|size| member(family, size))));
+    let singles = [
+        ("1,000 fresh numbers", families::numbers()),
+        ("10,000 entries taken", families::ceiling()),
         ("catalogue, none named", families::catalogue_unnamed()),
         ("catalogue, all named", families::catalogue_named()),
     ];
-    plans.extend(catalogues.map(|(title, lines)| single(title, Target::Nothing, lines)));
+    plans.extend(singles.map(|(title, lines)| single(title, lines)));
     let again = [
         ("lowered again", Door::First),
         ("strict lowered again", Door::Strict),
     ];
     plans.extend(again.map(|(title, door)| Plan {
         door,
-        ..single(title, Target::Nothing, families::lowered_again())
+        ..single(title, families::lowered_again())
     }));
     let under_most = [
         ("4,096 nodes written out", families::written()),
@@ -86,19 +51,37 @@ pub fn plans() -> Vec<Plan> {
     ];
     plans.extend(under_most.map(|(title, lines)| Plan {
         limit: MOST_LIMIT,
-        ..single(title, Target::Nothing, lines)
+        ..single(title, lines)
     }));
+    plans.extend(hard::plans().into_iter().map(hard_plan));
     plans
 }
 
-fn single(title: &str, target: Target, lines: Vec<Line>) -> Plan {
+fn member(family: &'static Family, size: usize) -> Plan {
+    let title = format!("{} {size}", family.title);
+    Plan {
+        of: Some((family.title, size)),
+        door: family.door,
+        ..single(&title, (family.make)(size))
+    }
+}
+
+fn hard_plan(Found { title, made, limit }: Found) -> Plan {
+    Plan {
+        limit,
+        hard: true,
+        ..single(&title, made.lines)
+    }
+}
+
+fn single(title: &str, lines: Vec<Line>) -> Plan {
     Plan {
         title: title.to_string(),
         of: None,
         door: Door::First,
         lines,
         limit: LIMIT,
-        target,
+        hard: false,
     }
 }
 
@@ -128,6 +111,8 @@ mod tests {
         let number = match title {
             "long type, refused 2000" => 23,
             "4,096 nodes written out" => 13,
+            "H3 spines 899" => 21,
+            _ if plan.hard => hard_number(title),
             _ if title.contains("refused") => 15,
             _ => 0,
         };
@@ -137,6 +122,15 @@ mod tests {
             "10,000 entries taken" => assert_eq!(answer.taken, 10_000),
             "lowered again" => assert_lowered(&answer),
             _ => {}
+        }
+    }
+
+    /// Board full where patterns are checked, or no such constructor.
+    fn hard_number(title: &str) -> u32 {
+        match &title[..2] {
+            "H1" | "H4" | "H6" => 22,
+            "H5" => 12,
+            _ => 0,
         }
     }
 

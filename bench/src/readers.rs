@@ -16,7 +16,7 @@ pub fn print(turns: Turns, read: Read) {
         "{:>5} {:>10} {:>10} {:>10}",
         "lines", "reference", "ours", "floor"
     );
-    for (lines, _) in SIZES {
+    for lines in SIZES {
         let sheet = write(&long_sheet(lines));
         let [trees, ours, plain] = by_turns(
             turns,

@@ -4,7 +4,7 @@
 use crate::checks::{put, Call, Put};
 use crate::damage::damaged;
 use crate::generate::limits::{self, Found};
-use crate::generate::{catalogue, compared, grown, random, scoped, small, Made};
+use crate::generate::{catalogue, compared, grown, hard, random, scoped, small, Made};
 use crate::oracle::{run_limited, sizes, under_limit, Door, LIMIT, MOST_LIMIT, MOST_STEPS};
 use crate::proved::{proved, Check, Proved};
 use crate::random::Random;
@@ -120,10 +120,10 @@ fn shorter(limit: u32, at: usize) -> [usize; 3] {
 }
 
 /// True if both give the same on random plans, on damaged sheets, on the plans
-/// of the wall and the limits, on every small plan, with short buffers and under
-/// limits that a caller picks, these too on plans whose comparisons follow
-/// solutions, on plans over a catalogue, on plans about scope, and on plans that
-/// are grown until they come to a limit.
+/// of the wall and the limits, on the hard sheets, on every small plan, with short
+/// buffers and under limits that a caller picks, these too on plans whose
+/// comparisons follow solutions, on plans over a catalogue, on plans about scope,
+/// and on plans that are grown until they come to a limit.
 pub fn compare(seed: u64, count: usize, damages: usize) -> bool {
     let Some(Proved { check, .. }) = proved() else {
         return false;
@@ -143,7 +143,7 @@ pub fn compare(seed: u64, count: usize, damages: usize) -> bool {
     tally.differences == 0
 }
 
-/// The wall, the longest sheet, the limits and the small plans.
+/// The wall, the longest sheet, the limits, the hard sheets and the small plans.
 fn known(tally: &mut Tally) {
     for door in DOORS {
         for plan in wall::plans() {
@@ -152,7 +152,8 @@ fn known(tally: &mut Tally) {
         for lines in [MOST_LINES, MOST_LINES + 1] {
             tally.put_usual(door, &write(&long_sheet(lines)), MOST_STEPS);
         }
-        for Found { made, limit, .. } in [limits::plans(), limits::picked()].concat() {
+        let found = [limits::plans(), limits::picked(), hard::plans()];
+        for Found { made, limit, .. } in found.concat() {
             tally.put_limited(door, &write(&made.lines), made.ceiling, limit);
         }
     }

@@ -2,7 +2,7 @@
 
 use reference::checks::expected;
 use reference::generate::limits::{self, Found};
-use reference::generate::{self, catalogue, compared, scoped, small, Made};
+use reference::generate::{self, catalogue, compared, hard, scoped, small, Made};
 use reference::oracle::{
     answer_call, answer_lines, answer_sheet, sizes, under_limit, Answer, Door, LIMIT, MOST_STEPS,
 };
@@ -20,7 +20,7 @@ const USAGE: &str = "usage: reference COMMAND
                                        --words also the report's words after it, each of which was 7
   answer [--strict] [--ceiling N] --limits E,N,W,F,S
                                        the answer to the sheet under other limits
-  generate --seed S --count N [--kind random|small|limits|picked|compared|catalogue|scoped] [--answers] [--strict] [--limits E,N,W,F,S]
+  generate --seed S --count N [--kind random|small|limits|picked|hard|compared|catalogue|scoped] [--answers] [--strict] [--limits E,N,W,F,S]
                                        plans, one a line, in the format of src/record.rs, for the
                                        first or the strict call; other limits: entries, nodes,
                                        written out, fresh, solutions
@@ -30,9 +30,9 @@ const USAGE: &str = "usage: reference COMMAND
   readers --seed S --count N           this reader beside the proved one
   checks --seed S --count N --damaged M
                                        the Rust beside the proved checker: random plans, damaged
-                                       sheets, the wall, the limits, small plans, short buffers,
-                                       limits that a caller picks, comparisons, catalogues, and
-                                       quantified plans under both calls
+                                       sheets, the wall, the limits, hard sheets, small plans, short
+                                       buffers, limits that a caller picks, comparisons, catalogues,
+                                       and quantified plans under both calls
   stats --seed S --count N [--kind random|scoped] [--strict]
                                        the share of each number among random plans";
 
@@ -168,6 +168,7 @@ fn generate_plans(options: &Options) -> Result<bool, String> {
         "small" => show_spread(options, &small::plans())?,
         "limits" => show_found(options, &limits::plans())?,
         "picked" => show_found(options, &limits::picked())?,
+        "hard" => show_found(options, &hard::plans())?,
         "compared" => show_made(options, compared::plans(), compared::random)?,
         "catalogue" => show_made(options, catalogue::plans(), catalogue::random)?,
         "scoped" => show_made(options, scoped::plans(), scoped::random)?,

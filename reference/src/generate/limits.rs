@@ -57,7 +57,7 @@ pub(super) fn run(lines: &[Line]) -> Run {
     run_limited(Door::First, &plan, MOST_STEPS)
 }
 
-fn found(title: impl Into<String>, lines: Lines) -> Found {
+pub(super) fn found(title: impl Into<String>, lines: Lines) -> Found {
     Found {
         title: title.into(),
         made: Made {

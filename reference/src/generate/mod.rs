@@ -4,6 +4,7 @@ pub mod catalogue;
 pub mod compared;
 mod directed;
 pub mod grown;
+pub mod hard;
 pub mod limits;
 mod open;
 mod related;
