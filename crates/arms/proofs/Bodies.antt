@@ -1,5 +1,6 @@
 -- An arm, and all arms. Assumes nothing.
 use mathlib.Core.Path.{_≡_, refl, sym, ap, ap₂, _∙_, subst}
+use mathlib.Core.Bool.{false}
 use mathlib.Core.List.{List, [], _∷_}
 use Prim.Native.Nat.{ℕ, zero, suc, _-_, _≤_, _<_}
 use native.Mathlib.Nat.{not-suc-le-zero}
@@ -21,12 +22,12 @@ use Rattle.judgment.specs.Result.{Way}
 use Rattle.board.specs.Board.{fromLine, termAt}
 use Rattle.board.proofs.Terms.{after-from}
 use Rattle.operations.specs.declared.Run.{Run}
-use Rattle.operations.specs.State.{WellFormed, Does, Pushes}
+use Rattle.operations.specs.State.{going, WellFormed, Does, Pushes}
 use Rattle.tables.specs.Rows.{bindingsAt}
 use Rattle.patterns.specs.declared.Checked.{Checked}
 use Rattle.patterns.specs.Turns.{Ready, Turn}
 use Rattle.patterns.specs.Readings.{envAt, Checking}
-use Rattle.patterns.proofs.Steps.{turn-none, turn-then, turn-as, turn-does, chk-turn}
+use Rattle.patterns.proofs.Steps.{turn-none, turn-then, turn-as, turn-stays, turn-does, chk-turn}
 use Rattle.arms.specs.declared.Arm.{Arm}
 use Rattle.arms.specs.Arms.{Armed, NarrowArms}
 
@@ -117,6 +118,13 @@ module _ (ls : List Triple) (u : ℕ) (t : Ty) where
   unfolding armsThen
   arms-does {b} {b'} {c} {r} n xs left at h e w k rep z =
       let x : Turn {A = ℕ} ls b c (λ f. armsThen n xs (f 0)) b' r (λ f. f 0) = turn-as (λ f. refl) (λ f. sym (rw e)) h in
+      subst (λ (p : Rule). Does w ls b k rep c p b' k rep r) (arms-done n xs) (turn-does z x)
+
+  -- a refused run stays as it is, whatever arms are left
+  pub arms-halt : {b b' : List ℕ} {c r : Run} (n : ℕ) (xs : Term) (left at : ℕ) → Arms b c n xs b' r left at → going (r .halt) ≡ false → (w : Way) (k rep : List ℕ) → WellFormed b k c
+      → Does w ls b k rep c (checkArms (envAt ls) n xs (unknown u) t) b' k rep r
+  arms-halt {b} {b'} {c} {r} n xs left at h e w k rep z =
+      let x : Turn {A = ℕ} ls b c (λ f. armsThen n xs (f 0)) b' r (λ f. f 0) = turn-stays e h in
       subst (λ (p : Rule). Does w ls b k rep c p b' k rep r) (arms-done n xs) (turn-does z x)
 
 -- ---- the patterns of the arms to come

@@ -1,23 +1,24 @@
 -- The Vars of a pattern. Assumes nothing.
 use mathlib.Core.Path.{_≡_, refl, sym, ap, ap₂, _∙_, subst⁻¹}
+use mathlib.Core.Bool.{false}
 use mathlib.Core.List.{List, []}
-use Prim.Native.Nat.{ℕ, _+_, _-_, _≤_, _<_}
+use Prim.Native.Nat.{ℕ, _+_, _*_, _-_, _≤_, _<_}
 use native.Mathlib.Omega.{arith}
-use Rattle.sizes.specs.Sizes.{mostNodes}
+use lib.ListN.{length}
 use Rattle.nodes.specs.Nodes.{Ty}
 use Rattle.spelling.specs.declared.Triple.{Triple}
 use Rattle.sheet.specs.Plan.{Bindings}
 use Rattle.judgment.specs.Board.{var, Rule, push}
 use Rattle.judgment.specs.Rules.{pushVars}
 use Rattle.operations.specs.declared.Run.{Run}
-use Rattle.operations.specs.State.{Pushes}
+use Rattle.operations.specs.State.{going, Pushes}
 use Rattle.references.specs.declared.TypeRef.{TypeRef}
 use Rattle.references.specs.References.{typeOf, Good}
 use Rattle.tables.specs.Rows.{nameAt, refAt, bindingsAt}
 use Rattle.tables.proofs.Tables.{bindings-cons}
 use Rattle.patterns.specs.Turns.{Ready, Turn}
-use Rattle.patterns.proofs.Opened.{good-fits}
-use Rattle.patterns.proofs.Steps.{turn-none, turn-then, turn-as, var-turn}
+use Rattle.patterns.proofs.Opened.{good-within}
+use Rattle.patterns.proofs.Steps.{turn-none, turn-then, turn-as, turn-stays, var-turn}
 use Rattle.arms.specs.Arms.{VarsAsk}
 
 module _ (ls : List Triple) (v : List ℕ) (n : ℕ) where
@@ -46,10 +47,13 @@ module _ (ls : List Triple) (v : List ℕ) (n : ℕ) where
   unfolding pushVars bindingsAt
   vars-end i h l = let z : n - i ≡ 0 = omega arith in turn-then h (turn-none _ _ (h .ready) (λ f. sym (rw z)))
 
+  pub vars-halt : {b₀ b : List ℕ} {c₀ c : Run} {p : (ℕ → Rule) → Rule} (i : ℕ) → Turn {A = ℕ} ls b₀ c₀ p b c (Left i) → going (c .halt) ≡ false → Turn {A = ℕ} ls b₀ c₀ p b c (λ f. f 0)
+  vars-halt i h e = turn-stays e h
+
 -- a row of the loop
 module _ {b : List ℕ} {c : Run} {ls : List Triple} {v : List ℕ} {n : ℕ} {l : List ℕ} (p : VarsAsk b c ls v n l) {i : ℕ} {q : TypeRef} (h : i < n) (e : q ≡ refAt v i) where
   pub row-good : Good ls q
   row-good = subst⁻¹ (Good ls) e (p .sound i h .0)
 
-  pub row-fits : q .at + q .count ≤ mostNodes
-  row-fits = good-fits row-good
+  pub row-fits : 2 * q .count ≤ length l
+  row-fits = let g = row-good in let w = good-within g .0 in let s = g .stands in let f = p .left in omega arith

@@ -3,7 +3,7 @@ use mathlib.Core.Path.{_≡_}
 use mathlib.Core.List.{List, [], _∷_}
 use Prim.Native.Nat.{ℕ, zero, suc, _+_, _*_, _≤_}
 use lib.ListN.{length}
-use Rattle.sizes.specs.Sizes.{mostNodes, mostNumbers, typeWords}
+use Rattle.sizes.specs.Sizes.{mostNodes, mostNumbers}
 use Rattle.nodes.specs.Nodes.{Ty}
 use Rattle.nodes.specs.Lists.{All}
 use Rattle.spelling.specs.declared.Triple.{Triple}
@@ -25,7 +25,7 @@ pub record VarsAsk (b : List ℕ) (c : Run) (ls : List Triple) (v : List ℕ) (n
   pub sound : Sound ls v n
   pub few : n ≤ mostNodes
   pub rows : 6 * n ≤ length v
-  pub left : typeWords ≤ length l
+  pub left : 2 * length ls + 2 ≤ length l
 
 -- what all arms share: the scrutinee's unknown, the tables and scratch, the type of the bodies
 pub record Lent (ls : List Triple) (u : ℕ) (w v l r t : List ℕ) (ta tn : ℕ) : Type 0 where
@@ -33,7 +33,7 @@ pub record Lent (ls : List Triple) (u : ℕ) (w v l r t : List ℕ) (ta tn : ℕ
   pub low : u ≤ mostNumbers
   pub frames : 6 * length ls + 12 ≤ length w
   pub rows : 6 * length ls + 6 ≤ length v
-  pub left : typeWords ≤ length l
+  pub left : 2 * length ls + 2 ≤ length l
   pub right : 2 * length ls + 2 ≤ length r
   pub type : ta + 2 * tn ≤ length t
 
@@ -69,7 +69,7 @@ pub record CaseAsk (b : List ℕ) (c : Run) (ls : List Triple) (line n : ℕ) (w
   pub sheet : Sheet ls
   pub frames : 6 * length ls + 12 ≤ length w
   pub rows : 6 * length ls + 6 ≤ length v
-  pub left : typeWords ≤ length l
+  pub left : 2 * length ls + 2 ≤ length l
   pub right : 2 * length ls + 2 ≤ length r
   pub type : 2 * tn ≤ length t
   pub within : line ≤ length ls

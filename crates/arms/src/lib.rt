@@ -17,6 +17,7 @@ ghost use Rattle.arms.specs.Arms.{VarsAsk, ArmAsk, Armed, ArmsAsk, CaseA
 ghost use Rattle.arms.specs.Rooms.{room, varsRun, varsOut, armRoom, afterArm, armsRoom, caseRoom};
 use operations::Run;
 use operations::fresh_evar;
+use operations::is_going;
 use operations::push_chk;
 use operations::push_tvar;
 use operations::push_var;
@@ -27,18 +28,20 @@ use tables::get;
 
 // Pushes the Var of each of the n bindings in v. l is scratch.
 fn push_vars(board: &mut [u32], c: Run, s: &[u64], v: &[usize], n: usize, l: &mut [u32]) -> Run
-    requires { ⌜ VarsAsk (now board) c (rows (now s)) (now v) n (now l) ⌝ }
-    ensures { λ r. ⌜ Turn {A = ℕ} (rows (now (s .entry))) (now (board .entry)) c (λ f. pushVars (bindingsAt (rows (now (s .entry))) (now (v .entry)) 0 n) (f 0)) (now (board .exit)) r (λ f. f 0) × (r ≡ varsRun (rows (now (s .entry))) (now (v .entry)) 0 n c) × (now (l .exit) ≡ varsOut (rows (now (s .entry))) (now (v .entry)) 0 n (now (l .entry))) ⌝ }
+    requires { ⌜ VarsAsk (now board) c (rows (now s)) (now v) n (now l) × Ended (now s) ⌝ }
+    ensures { λ r. ⌜ Turn {A = ℕ} (rows (now (s .entry))) (now (board .entry)) c (λ f. pushVars (bindingsAt (rows (now (s .entry))) (now (v .entry)) 0 n) (f 0)) (now (board .exit)) r (λ f. f 0) × (r ≡ varsRun (rows (now (s .entry))) (now (v .entry)) 0 n c) × (now (l .exit) ≡ varsOut (rows (now (s .entry))) (now (v .entry)) 0 n c (now (l .entry))) ⌝ }
 {
     let mut run = c;
     let mut i: usize = 0;
     while i < n {
+        if !is_going(run.halt) {
+            return run;
+        }
         let q = get(v, i);
         let name = v[6 * i] as u32;
-        let at = 2 * q.at;
         let count = q.count;
         instance(l, s, q);
-        run = push_var(board, run, name, l, at, count);
+        run = push_var(board, run, name, l, 0, count);
         i += 1;
     }
     run
@@ -101,6 +104,9 @@ pub fn check_arms(
     let mut at = line;
     let mut left = n;
     while 0 < left {
+        if !is_going(run.halt) {
+            return run;
+        }
         let o = check_arm(board, run, s, at, u, w, v, l, r, t, ta, tn);
         run = o.run;
         at = o.next;

@@ -3,26 +3,26 @@ use mathlib.Core.Path.{_≡_, refl, sym, ap, _∙_}
 use mathlib.Core.Logic.{_⊎_, inl, inr}
 use mathlib.Core.Bool.{Bool, true, false, _||_}
 use mathlib.Core.List.{List, _++_}
-use Prim.Native.Nat.{ℕ, _+_, _*_, _≤_, _<_}
+use Prim.Native.Nat.{ℕ, _*_, _≤_, _<_}
 use native.Mathlib.Nat.{zero-add}
 use native.Mathlib.Omega.{arith}
 use lib.Dec.{ltb}
-use lib.ListN.{length, drop}
+use lib.ListN.{length, take, drop, take-append-drop}
 use lib.Seq.{sets, sets-eq}
 use borrow.Author.Tests.{lt-ltb, le-ltb, ltb-false}
 use Rattle.sizes.specs.Sizes.{highestCeiling, highestLimit, boardSize, bookSize, reportStride}
 use Rattle.grammar.specs.declared.Check.{Check}
-use Rattle.grammar.specs.declared.Check.the-variants.{Plan, Misspelt, Unfit}
-use Rattle.grammar.specs.Check.{check, checkNumber, checkLine}
+use Rattle.grammar.specs.declared.Check.the-variants.{Plan, Length, Misspelt, Unfit}
+use Rattle.grammar.specs.Check.{lengthOk, check, checkLine}
 use Rattle.grammar.proofs.Lines.{line-small}
 use Rattle.sheet.specs.Plan.{triples}
 use Rattle.judgment.specs.declared.Answer.{Answer}
 use Rattle.judgment.specs.Levels.{Mode}
-use Rattle.judgment.specs.Result.{Result, Buffers, Called, limitsFor, judge, refusedAt, limitBad, tooShort, refusedSheet, byCheck, call, boardWords, bookWords, reportWords}
+use Rattle.judgment.specs.Result.{Result, Buffers, Called, limitsFor, judge, refusedAt, limitBad, tooShort, byCheck, call, boardWords, bookWords, reportWords}
 use Rattle.judgment.proofs.Narrow.{limit-good}
 use Rattle.judgment.proofs.Promised.{promise}
 use Rattle.judgment.proofs.Words.{length-board, length-book, length-report}
-use Rattle.checker.specs.Calling.{Ran, FrontAsk, Fronted}
+use Rattle.checker.specs.Calling.{Ran, Kept, ByCheck, FrontAsk, Fronted}
 use Rattle.checker.specs.Answered.{Answered}
 
 -- ---- fronts
@@ -30,7 +30,7 @@ front : (l e ws : List ℕ) (n : ℕ) → length ws ≡ n → n ≤ length l →
 front l e ws n h m q =
     rw q (sym (sets-eq ws l 0 (omega arith) ∙ ap (λ (k : ℕ). ws ++ drop k l) (zero-add (length ws) ∙ h)))
 
-pub fronted : {limit : ℕ} {s b k rep : List ℕ} (a : FrontAsk limit s b k rep) (o : Result) {b' k' rep' : List ℕ} {r : Answer} → Ran limit o b' k' rep' r
+fronted : {limit : ℕ} {s b k rep : List ℕ} (a : FrontAsk limit s b k rep) (o : Result) {b' k' rep' : List ℕ} {r : Answer} → Ran limit o b' k' rep' r
     → Fronted limit o b k rep (b' ++ drop boardSize b) (k' ++ drop bookSize k) (rep' ++ drop (reportStride * limit) rep) r
 fronted {limit} {s} {b} {k} {rep} a o {b'} {k'} {rep'} q = record {
   answer = q .answer;
@@ -38,6 +38,33 @@ fronted {limit} {s} {b} {k} {rep} a o {b'} {k'} {rep'} q = record {
   book = front k k' (bookWords (o .solutions) (o .levels) (o .answer .fresh)) bookSize (length-book (o .solutions) (o .levels) (o .answer .fresh)) (a .book) (q .book);
   report = front rep rep' (reportWords limit (o .report)) (reportStride * limit) (length-report limit (o .report)) (a .report) (q .report);
 }
+
+-- what is kept of a front is kept of the whole
+rejoined : (l e : List ℕ) (n : ℕ) → e ≡ take n l → e ++ drop n l ≡ l
+rejoined l e n q = rw q (take-append-drop n l)
+
+kept-fronts : (limit : ℕ) {v : Check} {b k rep b' k' rep' : List ℕ} {r : Answer} → Kept v (take boardSize b) (take bookSize k) (take (reportStride * limit) rep) b' k' rep' r
+    → Kept v b k rep (b' ++ drop boardSize b) (k' ++ drop bookSize k) (rep' ++ drop (reportStride * limit) rep) r
+kept-fronts limit {v} {b} {k} {rep} {b'} {k'} {rep'} q = record {
+  answer = q .answer;
+  board = rejoined b b' boardSize (q .board);
+  book = rejoined k k' bookSize (q .book);
+  report = rejoined rep rep' (reportStride * limit) (q .report);
+}
+
+each-check : (v : Check) (A B C D : Type 0) → (A → C) → (B → D) → ByCheck v A B → ByCheck v C D
+each-check Plan A B C D f g x = f x
+each-check Length A B C D f g x = g x
+each-check (Misspelt l) A B C D f g x = g x
+each-check (Unfit l) A B C D f g x = g x
+
+pub fronts : {limit : ℕ} {s b k rep : List ℕ} (a : FrontAsk limit s b k rep) (o : Result) (b' k' rep' : List ℕ) (r : Answer)
+    → ByCheck (check s) (Ran limit o b' k' rep' r) (Kept (check s) (take boardSize b) (take bookSize k) (take (reportStride * limit) rep) b' k' rep' r)
+    → ByCheck (check s) (Fronted limit o b k rep (b' ++ drop boardSize b) (k' ++ drop bookSize k) (rep' ++ drop (reportStride * limit) rep) r) (Kept (check s) b k rep (b' ++ drop boardSize b) (k' ++ drop bookSize k) (rep' ++ drop (reportStride * limit) rep) r)
+fronts {limit} {s} {b} {k} {rep} a o b' k' rep' r =
+    each-check (check s) (Ran limit o b' k' rep' r) (Kept (check s) (take boardSize b) (take bookSize k) (take (reportStride * limit) rep) b' k' rep' r)
+    (Fronted limit o b k rep (b' ++ drop boardSize b) (k' ++ drop bookSize k) (rep' ++ drop (reportStride * limit) rep) r) (Kept (check s) b k rep (b' ++ drop boardSize b) (k' ++ drop bookSize k) (rep' ++ drop (reportStride * limit) rep) r)
+    (λ q. fronted a o q) (λ q. kept-fronts limit q)
 
 -- ---- the tests
 module _ (m : Mode) (s : List ℕ) (c w : ℕ) (b : Buffers) where
@@ -69,9 +96,9 @@ module _ (m : Mode) (s : List ℕ) (c w : ℕ) (b : Buffers) where
       unfolding call
       by-check v z = rw (le-ltb highestCeiling c h, sym l ∙ p, sym t ∙ q, z) refl
 
-      -- 3, 4 or 5
-      pub refused-by : (k : Check) {a : Answer} → check s ≡ k → byCheck m s c w b k ≡ refusedSheet k b → a ≡ refusedAt (checkNumber k) (checkLine k) → Answered m s c w b a b
-      refused-by k z p e = called (by-check k z ∙ p ∙ rw e refl)
+      pub bad-length : {a : Answer} {n : Bool} → n ≡ lengthOk (length s) → n ≡ false → a ≡ refusedAt 3 0 → Answered m s c w b a b
+      unfolding check
+      bad-length z p e = called (by-check Length (rw (sym z ∙ p)) ∙ rw e refl)
 
       long-enough : tooShort w b ≡ false → (boardSize ≤ length (b .board)) × (bookSize ≤ length (b .book)) × (reportStride * w ≤ length (b .report))
       long-enough = go (ltb (length (b .board)) boardSize) (ltb (length (b .book)) bookSize) (ltb (length (b .report)) (reportStride * w)) refl refl refl
@@ -83,11 +110,20 @@ module _ (m : Mode) (s : List ℕ) (c w : ℕ) (b : Buffers) where
           go false false true p q r e = absurd (let u : _≡_ {A = ℕ} 0 1 = cc in omega arith)
           go false false false p q r e = (ltb-false (length (b .board)) boardSize p, ltb-false (length (b .book)) bookSize q, ltb-false (length (b .report)) (reportStride * w) r)
 
-      pub front-asks : check s ≡ Plan → FrontAsk w s (b .board) (b .book) (b .report)
-      front-asks z = let e = long-enough (sym t ∙ q) in record { plan = z; limited = low-limit; board = e .0; book = e .1; report = e .2 }
+      pub front-asks : lengthOk (length s) ≡ true → FrontAsk w s (b .board) (b .book) (b .report)
+      front-asks z = let e = long-enough (sym t ∙ q) in record { sized = z; limited = low-limit; board = e .0; book = e .1; report = e .2 }
 
-      pub answered : {a : Answer} {d : Buffers} → check s ≡ Plan → Fronted w (judge (limitsFor m w) c (triples s)) (b .board) (b .book) (b .report) (d .board) (d .book) (d .report) a → Answered m s c w b a d
-      answered {a} {d} z f = called (by-check Plan z ∙ sym (rw (f .answer, f .board, f .book, f .report) refl))
+      pub answered : {a : Answer} {d : Buffers}
+          → ByCheck (check s) (Fronted w (judge (limitsFor m w) c (triples s)) (b .board) (b .book) (b .report) (d .board) (d .book) (d .report) a) (Kept (check s) (b .board) (b .book) (b .report) (d .board) (d .book) (d .report) a)
+          → Answered m s c w b a d
+      answered {a} {d} = go (check s) refl
+        where
+          go : (v : Check) → check s ≡ v → ByCheck v (Fronted w (judge (limitsFor m w) c (triples s)) (b .board) (b .book) (b .report) (d .board) (d .book) (d .report) a) (Kept v (b .board) (b .book) (b .report) (d .board) (d .book) (d .report) a)
+              → Answered m s c w b a d
+          go Plan z f = called (by-check Plan z ∙ sym (rw (f .answer, f .board, f .book, f .report) refl))
+          go Length z f = called (by-check Length z ∙ sym (rw (f .answer, f .board, f .book, f .report) refl))
+          go (Misspelt l) z f = called (by-check (Misspelt l) z ∙ sym (rw (f .answer, f .board, f .book, f .report) refl))
+          go (Unfit l) z f = called (by-check (Unfit l) z ∙ sym (rw (f .answer, f .board, f .book, f .report) refl))
 
 -- a refused line is a word
 pub line-word : (s : List ℕ) {v : Check} → v ≡ check s → {l : ℕ} → (v ≡ Misspelt l) ⊎ (v ≡ Unfit l) → l < 4294967296

@@ -1,5 +1,6 @@
 -- A sheet that is taken, and its rows: what is known of the one is known of the other. Assumes nothing.
-use mathlib.Core.Path.{_≡_, ap, subst}
+use mathlib.Core.Path.{_≡_, refl, sym, ap, _∙_, subst}
+use mathlib.Core.Bool.{Bool, true, false, false≢true}
 use mathlib.Core.List.{List}
 use Prim.Native.Nat.{ℕ, _+_, _*_, _/_, _≤_}
 use native.Mathlib.Omega.{arith}
@@ -7,17 +8,35 @@ use lib.ListN.{length, take}
 use lib.Seq.{length-take-le}
 use Rattle.sizes.specs.Sizes.{lineLength}
 use Rattle.spelling.specs.declared.Triple.{Triple}
-use Rattle.grammar.specs.declared.Check.the-variants.{Plan}
-use Rattle.grammar.specs.Check.{check}
+use Rattle.grammar.specs.declared.Check.{Check}
+use Rattle.grammar.specs.declared.Check.the-variants.{Plan, Length, Misspelt, Unfit}
+use Rattle.grammar.specs.Check.{check, checkNumber, checkLine}
 use Rattle.sheet.specs.Plan.{triples}
 use Rattle.sheet.specs.Rows.{rows, Ended}
+use Rattle.sheet.specs.Fit.{isPlan}
 use Rattle.sheet.proofs.Lines.{length-triples}
 use Rattle.judgment.specs.declared.Answer.{Answer}
-use Rattle.judgment.specs.Result.{limitsFor, judge}
+use Rattle.judgment.specs.Result.{Result, refusedAt, limitsFor, judge}
 use Rattle.judgment.specs.Levels.{Mode}
 use Rattle.inferring.specs.Inferring.{CaseRoom}
 use Rattle.stepping.specs.Stepping.{Read}
-use Rattle.checker.specs.Calling.{RunAsk, RowsAsk, Ran}
+use Rattle.checker.specs.Calling.{RunAsk, RowsAsk, Ran, Kept, ByCheck}
+
+-- ---- by what the sheet is
+by-check : (v : Check) (A B : Type 0) → (v ≡ Plan → A) → (isPlan v ≡ false → B) → ByCheck v A B
+by-check Plan A B f g = f refl
+by-check Length A B f g = g refl
+by-check (Misspelt l) A B f g = g refl
+by-check (Unfit l) A B f g = g refl
+
+-- the sheet was found to be no plan, or a plan
+module _ (limit : ℕ) (o : Result) (s b k rep : List ℕ) {a : Answer} {r : Bool} (e : r ≡ isPlan (check s)) where
+  pub not-run : r ≡ false → a ≡ refusedAt (checkNumber (check s)) (checkLine (check s)) → ByCheck (check s) (Ran limit o b k rep a) (Kept (check s) b k rep b k rep a)
+  not-run f q =
+      by-check (check s) (Ran limit o b k rep a) (Kept (check s) b k rep b k rep a) (λ z. absurd (false≢true (sym f ∙ e ∙ ap isPlan z))) (λ _. record { answer = q; board = refl; book = refl; report = refl })
+
+  pub was-run : {b' k' rep' : List ℕ} → r ≡ true → Ran limit o b' k' rep' a → ByCheck (check s) (Ran limit o b' k' rep' a) (Kept (check s) b k rep b' k' rep' a)
+  was-run {b'} {k'} {rep'} f q = by-check (check s) (Ran limit o b' k' rep' a) (Kept (check s) b k rep b' k' rep' a) (λ _. q) (λ z. absurd (false≢true (sym z ∙ sym e ∙ f)))
 
 -- ---- from the sheet to its rows
 pub was-read : (s : List ℕ) {d : List ℕ} → check s ≡ Plan → (rows d ≡ triples s) × Ended d → Read d

@@ -1,14 +1,16 @@
 -- What the functions under the entry call ask and leave. Assumes nothing: these are definitions.
 use mathlib.Core.Path.{_≡_}
+use mathlib.Core.Bool.{true}
 use mathlib.Core.List.{List}
 use Prim.Native.Nat.{ℕ, _+_, _*_, _/_, _≤_}
 use lib.ListN.{length}
 use lib.Seq.{sets}
 use Rattle.sizes.specs.Sizes.{lineLength, typeWords, highestLimit, boardSize, bookSize, reportStride}
-use Rattle.grammar.specs.declared.Check.the-variants.{Plan}
-use Rattle.grammar.specs.Check.{check}
+use Rattle.grammar.specs.declared.Check.{Check}
+use Rattle.grammar.specs.declared.Check.the-variants.{Plan, Length, Misspelt, Unfit}
+use Rattle.grammar.specs.Check.{lengthOk, checkNumber, checkLine}
 use Rattle.judgment.specs.declared.Answer.{Answer}
-use Rattle.judgment.specs.Result.{Result, boardWords, bookWords, reportWords}
+use Rattle.judgment.specs.Result.{Result, refusedAt, boardWords, bookWords, reportWords}
 use Rattle.stepping.specs.Stepping.{Read, Lent}
 
 -- up to so many lines a sheet is lent less room than the longest one
@@ -34,9 +36,9 @@ pub record PlanAsk (limit : ℕ) (d b k rep t l r w v : List ℕ) : Type 0 where
   pub report : length rep ≡ reportStride * limit
   pub lent : Lent d t l r w v
 
--- the same of a sheet that is still to be read
+-- the same of a sheet that is still to be read, of a length that a sheet may have
 pub record RunAsk (limit : ℕ) (s b k rep : List ℕ) : Type 0 where
-  pub plan : check s ≡ Plan
+  pub sized : lengthOk (length s) ≡ true
   pub limited : limit ≤ highestLimit
   pub board : length b ≡ boardSize
   pub book : length k ≡ bookSize
@@ -57,9 +59,23 @@ pub record Ran (limit : ℕ) (o : Result) (b k rep : List ℕ) (a : Answer) : Ty
   pub book : k ≡ bookWords (o .solutions) (o .levels) (o .answer .fresh)
   pub report : rep ≡ reportWords limit (o .report)
 
--- the same of buffers that may be longer
+-- a sheet that is refused: document 01's number and line, and nothing written
+pub record Kept (v : Check) (b k rep b' k' rep' : List ℕ) (a : Answer) : Type 0 where
+  pub answer : a ≡ refusedAt (checkNumber v) (checkLine v)
+  pub board : b' ≡ b
+  pub book : k' ≡ k
+  pub report : rep' ≡ rep
+
+-- by what the sheet is: a plan is run, another is refused
+abbrev pub ByCheck : Check → Type 0 → Type 0 → Type 0
+ByCheck Plan ran kept = ran
+ByCheck Length ran kept = kept
+ByCheck (Misspelt l) ran kept = kept
+ByCheck (Unfit l) ran kept = kept
+
+-- what is asked of buffers that may be longer, and what is left of them
 pub record FrontAsk (limit : ℕ) (s b k rep : List ℕ) : Type 0 where
-  pub plan : check s ≡ Plan
+  pub sized : lengthOk (length s) ≡ true
   pub limited : limit ≤ highestLimit
   pub board : boardSize ≤ length b
   pub book : bookSize ≤ length k

@@ -5,6 +5,7 @@ ghost use mathlib.Core.List.{List};
 ghost use Prim.Native.Nat.{ℕ, _+_, _-_, _*_, _/_, _<_, _≤_};
 ghost use lib.ListN.{length};
 ghost use Rattle.sizes.specs.Sizes.{lineLength, mostNodes, highestLimit};
+ghost use Rattle.grammar.specs.Check.{lengthOk, check, checkNumber, checkLine};
 ghost use Rattle.sheet.specs.Plan.{triples};
 ghost use Rattle.sheet.specs.Rows.{rows};
 ghost use Rattle.judgment.specs.Run.{runFrom};
@@ -17,7 +18,7 @@ ghost use Rattle.judgment.specs.Levels.{ownLevels, firstCall, strictCall};
 ghost use Rattle.book.specs.Book.{levelsOf};
 ghost use Rattle.stepping.specs.Stepping.{Standing, Lent};
 ghost use Rattle.ending.specs.Ending.{endOf};
-ghost use Rattle.checker.specs.Calling.{shortLines, middleLines, StartAsk, PlanAsk, RunAsk, RowsAsk, Ran, FrontAsk, Fronted};
+ghost use Rattle.checker.specs.Calling.{shortLines, middleLines, StartAsk, PlanAsk, RunAsk, RowsAsk, Ran, Kept, ByCheck, FrontAsk, Fronted};
 ghost use Rattle.checker.specs.Answered.{Answered};
 use board::Board;
 use board::clear_board;
@@ -38,7 +39,7 @@ use sheet::copy_type;
 use sheet::find_places;
 use sheet::is_plain;
 use sheet::part_line;
-use sheet::read_rows;
+use sheet::read_plan;
 use sizes::BOARD_SIZE;
 use sizes::BOOK_SIZE;
 use sizes::HIGHEST_CEILING;
@@ -46,6 +47,7 @@ use sizes::HIGHEST_LIMIT;
 use sizes::LINE_LENGTH;
 use sizes::MOST_LINES;
 use sizes::REPORT_STRIDE;
+use sizes::SHEET_BYTES;
 use sizes::TYPE_WORDS;
 use stepping::solve_step;
 
@@ -149,7 +151,34 @@ fn check_plan(
     answer(o, is_plain(s))
 }
 
-// Reads the sheet, and lends the rules its rows and their room.
+// A refusal before a run.
+fn refused(number: u32, line: u32) -> Answer
+    ensures { λ r. ⌜ r ≡ refusedAt number line ⌝ }
+{
+    Answer {
+        number,
+        line,
+        taken: 0,
+        fresh: 0,
+        detail1: 0,
+        detail2: 0,
+        plain: 0,
+    }
+}
+
+// What a sheet that is no plan is refused for.
+fn no_plan(s: &[u8]) -> Answer
+    ensures { λ r. ⌜ r ≡ refusedAt (checkNumber (check (now (s .entry)))) (checkLine (check (now (s .entry)))) ⌝ }
+{
+    match check_sheet(s) {
+        Check::Plan => refused(0, 0),
+        Check::Length => refused(3, 0),
+        Check::Misspelt(line) => refused(4, line as u32),
+        Check::Unfit(line) => refused(5, line as u32),
+    }
+}
+
+// Reads the sheet, and lends the rules its rows and their room. Only a sheet that is no plan is read again, for its refusal.
 fn run_rows(
     s: &[u8],
     ceiling: u32,
@@ -164,9 +193,11 @@ fn run_rows(
     v: &mut [usize],
 ) -> Answer
     requires { ⌜ RowsAsk limit (now s) (now board) (now book) (now report) (now d) (now r) (now w) (now v) ⌝ }
-    ensures { λ o. ⌜ Ran limit (judge (limitsFor (modeOf strict) limit) ceiling (triples (now (s .entry)))) (now (board .exit)) (now (book .exit)) (now (report .exit)) o ⌝ }
+    ensures { λ o. ⌜ ByCheck (check (now (s .entry))) (Ran limit (judge (limitsFor (modeOf strict) limit) ceiling (triples (now (s .entry)))) (now (board .exit)) (now (book .exit)) (now (report .exit)) o) (Kept (check (now (s .entry))) (now (board .entry)) (now (book .entry)) (now (report .entry)) (now (board .exit)) (now (book .exit)) (now (report .exit)) o) ⌝ }
 {
-    read_rows(d, s);
+    if !read_plan(d, s) {
+        return no_plan(s);
+    }
     let mut t = [0u32; TYPE_WORDS];
     let mut l = [0u32; TYPE_WORDS];
     check_plan(
@@ -196,7 +227,7 @@ fn run_short(
     report: &mut [u32],
 ) -> Answer
     requires { ⌜ RunAsk limit (now s) (now board) (now book) (now report) × (length (now s) / lineLength ≤ shortLines) ⌝ }
-    ensures { λ o. ⌜ Ran limit (judge (limitsFor (modeOf strict) limit) ceiling (triples (now (s .entry)))) (now (board .exit)) (now (book .exit)) (now (report .exit)) o ⌝ }
+    ensures { λ o. ⌜ ByCheck (check (now (s .entry))) (Ran limit (judge (limitsFor (modeOf strict) limit) ceiling (triples (now (s .entry)))) (now (board .exit)) (now (book .exit)) (now (report .exit)) o) (Kept (check (now (s .entry))) (now (board .entry)) (now (book .entry)) (now (report .entry)) (now (board .exit)) (now (book .exit)) (now (report .exit)) o) ⌝ }
 {
     let mut d = [0u64; 4 * SHORT_LINES];
     let mut r = [0u32; 2 * SHORT_LINES + 2];
@@ -228,7 +259,7 @@ fn run_middle(
     report: &mut [u32],
 ) -> Answer
     requires { ⌜ RunAsk limit (now s) (now board) (now book) (now report) × (length (now s) / lineLength ≤ middleLines) ⌝ }
-    ensures { λ o. ⌜ Ran limit (judge (limitsFor (modeOf strict) limit) ceiling (triples (now (s .entry)))) (now (board .exit)) (now (book .exit)) (now (report .exit)) o ⌝ }
+    ensures { λ o. ⌜ ByCheck (check (now (s .entry))) (Ran limit (judge (limitsFor (modeOf strict) limit) ceiling (triples (now (s .entry)))) (now (board .exit)) (now (book .exit)) (now (report .exit)) o) (Kept (check (now (s .entry))) (now (board .entry)) (now (book .entry)) (now (report .entry)) (now (board .exit)) (now (book .exit)) (now (report .exit)) o) ⌝ }
 {
     let mut d = [0u64; 4 * MIDDLE_LINES];
     let mut r = [0u32; 2 * MIDDLE_LINES + 2];
@@ -260,7 +291,7 @@ fn run_long(
     report: &mut [u32],
 ) -> Answer
     requires { ⌜ RunAsk limit (now s) (now board) (now book) (now report) ⌝ }
-    ensures { λ o. ⌜ Ran limit (judge (limitsFor (modeOf strict) limit) ceiling (triples (now (s .entry)))) (now (board .exit)) (now (book .exit)) (now (report .exit)) o ⌝ }
+    ensures { λ o. ⌜ ByCheck (check (now (s .entry))) (Ran limit (judge (limitsFor (modeOf strict) limit) ceiling (triples (now (s .entry)))) (now (board .exit)) (now (book .exit)) (now (report .exit)) o) (Kept (check (now (s .entry))) (now (board .entry)) (now (book .entry)) (now (report .entry)) (now (board .exit)) (now (book .exit)) (now (report .exit)) o) ⌝ }
 {
     let mut d = [0u64; 4 * MOST_LINES];
     let mut r = [0u32; 2 * MOST_LINES + 2];
@@ -291,7 +322,7 @@ fn run_plan(
     report: &mut [u32],
 ) -> Answer
     requires { ⌜ RunAsk limit (now s) (now board) (now book) (now report) ⌝ }
-    ensures { λ o. ⌜ Ran limit (judge (limitsFor (modeOf strict) limit) ceiling (triples (now (s .entry)))) (now (board .exit)) (now (book .exit)) (now (report .exit)) o ⌝ }
+    ensures { λ o. ⌜ ByCheck (check (now (s .entry))) (Ran limit (judge (limitsFor (modeOf strict) limit) ceiling (triples (now (s .entry)))) (now (board .exit)) (now (book .exit)) (now (report .exit)) o) (Kept (check (now (s .entry))) (now (board .entry)) (now (book .entry)) (now (report .entry)) (now (board .exit)) (now (book .exit)) (now (report .exit)) o) ⌝ }
 {
     if s.len() / LINE_LENGTH <= SHORT_LINES {
         return run_short(s, ceiling, limit, strict, board, book, report);
@@ -313,7 +344,7 @@ fn run_front(
     report: &mut [u32],
 ) -> Answer
     requires { ⌜ FrontAsk limit (now s) (now board) (now book) (now report) ⌝ }
-    ensures { λ o. ⌜ Fronted limit (judge (limitsFor (modeOf strict) limit) ceiling (triples (now (s .entry)))) (now (board .entry)) (now (book .entry)) (now (report .entry)) (now (board .exit)) (now (book .exit)) (now (report .exit)) o ⌝ }
+    ensures { λ o. ⌜ ByCheck (check (now (s .entry))) (Fronted limit (judge (limitsFor (modeOf strict) limit) ceiling (triples (now (s .entry)))) (now (board .entry)) (now (book .entry)) (now (report .entry)) (now (board .exit)) (now (book .exit)) (now (report .exit)) o) (Kept (check (now (s .entry))) (now (board .entry)) (now (book .entry)) (now (report .entry)) (now (board .exit)) (now (book .exit)) (now (report .exit)) o) ⌝ }
 {
     run_plan(
         s,
@@ -324,21 +355,6 @@ fn run_front(
         &mut book[..BOOK_SIZE],
         &mut report[..REPORT_STRIDE * limit],
     )
-}
-
-// A refusal before a run.
-fn refused(number: u32, line: u32) -> Answer
-    ensures { λ r. ⌜ r ≡ refusedAt number line ⌝ }
-{
-    Answer {
-        number,
-        line,
-        taken: 0,
-        fresh: 0,
-        detail1: 0,
-        detail2: 0,
-        plain: 0,
-    }
 }
 
 // No limit that a caller may pick.
@@ -365,6 +381,19 @@ fn too_short(limit: usize, board: &[u32], book: &[u32], report: &[u32]) -> bool
     report.len() < REPORT_STRIDE * limit
 }
 
+// 3: length 0, over 58,000 or no multiple of 29.
+fn length_ok(n: usize) -> bool
+    ensures { λ r. ⌜ r ≡ lengthOk n ⌝ }
+{
+    if n == 0 {
+        return false;
+    }
+    if SHEET_BYTES < n {
+        return false;
+    }
+    n % LINE_LENGTH == 0
+}
+
 // A plan by the strict call or the first, with at most `ceiling` entries taken and `limit` nodes in a type written out: refusals 1, 32
 // and 2 to 5 in that order, which write nothing, and then the run. Longer buffers keep their tails.
 fn check_call(
@@ -388,12 +417,10 @@ fn check_call(
     if too_short(nodes, board, book, report) {
         return refused(2, 0);
     }
-    match check_sheet(sheet) {
-        Check::Plan => run_front(sheet, ceiling, nodes, strict, board, book, report),
-        Check::Length => refused(3, 0),
-        Check::Misspelt(line) => refused(4, line as u32),
-        Check::Unfit(line) => refused(5, line as u32),
+    if length_ok(sheet.len()) {
+        return run_front(sheet, ceiling, nodes, strict, board, book, report);
     }
+    refused(3, 0)
 }
 
 // Checks a plan as the Rust does.

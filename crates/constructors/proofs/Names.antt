@@ -1,8 +1,8 @@
 -- Unknowns made one after the other, each with its TVar. Assumes nothing.
-use mathlib.Core.Path.{_≡_, refl, sym, ap, _∙_, subst, subst⁻¹}
-use mathlib.Core.Bool.{Bool, true, false}
+use mathlib.Core.Path.{_≡_, refl, sym, ap, ap₂, _∙_, subst, subst⁻¹}
+use mathlib.Core.Bool.{Bool, true, false, true≢false}
 use mathlib.Core.List.{List, [], _∷_}
-use Prim.Native.Nat.{ℕ, suc, _+_, _-_, _≤_, _<_}
+use Prim.Native.Nat.{ℕ, zero, suc, _+_, _-_, _≤_, _<_}
 use native.Mathlib.Omega.{arith}
 use lib.Dec.{ltb}
 use borrow.Author.Tests.{ltb-true}
@@ -15,14 +15,13 @@ use Rattle.judgment.specs.Types.{Renaming}
 use Rattle.judgment.specs.Board.{tvar, Rule, done, fresh, push, own}
 use Rattle.judgment.specs.Rules.{openNames}
 use Rattle.judgment.specs.Result.{Way}
-use Rattle.core_types.specs.Names.{pairs}
 use Rattle.board.specs.Board.{entryOf, Stacked}
 use Rattle.board.specs.Board.{fitting as fitsBoard}
 use Rattle.board.proofs.Stacks.{laid-stacked, fits-facts}
 use Rattle.operations.specs.declared.Run.{Run}
 use Rattle.operations.specs.State.{cameTo, performC, WellFormed, Performs, going, freshRun, pushRun, pushWords, Pushes}
 use Rattle.operations.proofs.Then.{same-going, fresh-is, fresh-made, kept, kept-board}
-use Rattle.constructors.specs.Opening.{namedRun, namedWords, Named}
+use Rattle.constructors.specs.Opening.{pairs, namedRun, namedWords, Named}
 
 -- ---- a run after an operation
 abbrev Follows : Run → Run → Type 0
@@ -77,6 +76,40 @@ named-none b c s = record {
 
 pub named-end : {b : List ℕ} {c : Run} {n : ℕ} → Stacked b (c .counters .board) → n ≡ 0 → Named b c n b c
 named-end {b} {c} {n} s e = rw e (named-none b c s)
+
+-- a refused run stays as it is
+module _ (c : Run) (e : going (c .halt) ≡ false) where
+  fresh-stays : freshRun c ≡ c
+  fresh-stays = rw e
+
+  push-stays : pushRun (freshRun c) 0 ≡ c
+  push-stays = ap (λ (r : Run). pushRun r 0) fresh-stays ∙ rw e
+
+  words-stay : (b : List ℕ) (a : ℕ) → pushWords b (freshRun c) 17 a [] [] ≡ b
+  words-stay b a = ap (λ (r : Run). pushWords b r 17 a [] []) fresh-stays ∙ rw e
+
+stays-run : (n : ℕ) (c : Run) → going (c .halt) ≡ false → namedRun n c ≡ c
+unfolding namedRun
+stays-run zero c e = refl
+stays-run (suc n) c e = ap (namedRun n) (push-stays c e) ∙ stays-run n c e
+
+stays-words : (n : ℕ) (b : List ℕ) (c : Run) → going (c .halt) ≡ false → namedWords n b c ≡ b
+unfolding namedWords
+stays-words zero b c e = refl
+stays-words (suc n) b c e = ap₂ (namedWords n) (words-stay c e b (c .counters .fresh)) (push-stays c e) ∙ stays-words n b c e
+
+pub named-refused : {b : List ℕ} {c : Run} (n : ℕ) → Stacked b (c .counters .board) → going (c .halt) ≡ false → Named b c n b c
+named-refused {b} {c} n s e = record {
+  run = sym (stays-run n c e);
+  words = sym (stays-words n b c e);
+  stacked = s;
+  numbers = λ l. l;
+  taken = refl;
+  alive = λ z. z;
+  made = λ z. absurd (true≢false (sym z ∙ e));
+  kept = λ k h. h;
+  outcome = λ w k rep h f m xs l ls. same-going w ls b k rep c (f (pairs xs (c .counters .fresh) m)) (openNames xs m f) (λ z. absurd (true≢false (sym z ∙ e)));
+}
 
 pub made-stacked : {b : List ℕ} (c r : Run) → r ≡ freshRun c → Stacked b (c .counters .board) → Stacked b (r .counters .board)
 made-stacked c r e s = rw (e, fresh-follows c .1) s

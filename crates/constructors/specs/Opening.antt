@@ -1,24 +1,29 @@
 -- What opening the quantifiers at the front of a constructor's type leaves. Assumes nothing: these are definitions.
 use mathlib.Core.Path.{_≡_}
-use mathlib.Core.Bool.{true}
-use mathlib.Core.List.{List, []}
-use Prim.Native.Nat.{ℕ, zero, suc, _+_, _*_, _-_, _≤_}
-use lib.ListN.{length, take, drop}
-use lib.Seq.{sets}
+use mathlib.Core.Bool.{true, cond}
+use mathlib.Core.List.{List, [], _∷_}
+use Prim.Native.Nat.{ℕ, zero, suc, _+_, _-_, _≤_}
+use lib.Dec.{eqb}
+use lib.ListN.{length, getD, take, drop}
 use Rattle.sizes.specs.Sizes.{mostNodes, mostNumbers}
-use Rattle.nodes.specs.Nodes.{Ty, words, nodesAt}
+use Rattle.nodes.specs.Nodes.{Node, node, Ty}
 use Rattle.nodes.specs.Lists.{All}
 use Rattle.spelling.specs.declared.Triple.{Triple}
-use Rattle.sheet.specs.Plan.{Narrow}
+use Rattle.sheet.specs.Plan.{noTriple, lineNode, Narrow}
+use Rattle.sheet.specs.Rows.{rows, binderAt}
 use Rattle.judgment.specs.Types.{Renaming, rename, frontNames, afterFront}
 use Rattle.judgment.specs.Board.{Rule}
 use Rattle.judgment.specs.Rules.{openNames, instantiateConstructor}
 use Rattle.judgment.specs.Result.{Way}
-use Rattle.core_types.specs.Names.{pairs, renaming}
 use Rattle.board.specs.Board.{Stacked}
 use Rattle.operations.specs.declared.Run.{Run}
 use Rattle.operations.specs.State.{cameTo, performC, WellFormed, going, freshRun, pushRun, pushWords}
 use Rattle.constructors.specs.declared.Opened.{Opened}
+
+-- each name with its unknown: the numbers follow each other
+unfoldable pub pairs : List ℕ → ℕ → Renaming → Renaming
+pairs [] a m = m
+pairs (x ∷ xs) a m = pairs xs (a + 1) ((x, a) ∷ m)
 
 -- ---- n unknowns, each with its TVar
 unfoldable pub namedRun : ℕ → Run → Run
@@ -43,36 +48,30 @@ pub record Named (b : List ℕ) (c : Run) (n : ℕ) (b' : List ℕ) (r : Run) : 
       → performC w ls (f (pairs xs (c .counters .fresh) m)) (cameTo ls b' k rep r) ≡ performC w ls (openNames xs m f) (cameTo ls b k rep c)
 
 -- ---- a type, opened
-pub record OpenAsk (b : List ℕ) (c : Run) (ls : List Triple) (first n : ℕ) (o : List ℕ) : Type 0 where
+pub record OpenAsk (b : List ℕ) (c : Run) (ls : List Triple) (first n : ℕ) : Type 0 where
   pub board : Stacked b (c .counters .board)
   pub numbers : c .counters .fresh ≤ mostNumbers
-  pub room : 2 * n ≤ length o
   pub few : n ≤ mostNodes
   pub lines : first + n ≤ length ls
   pub narrow : All Narrow (take n (drop first ls))
 
--- a buffer with the type t at its front, renamed after its quantifiers: the unknowns are those from a on
-unfoldable pub openedOut : Ty → ℕ → List ℕ → List ℕ
-openedOut t a o =
-    let q = length (frontNames t) in
-    renaming (pairs (frontNames t) a []) (sets o 0 (words t)) (2 * q) (length t - q)
+-- t behind the quantifiers at its front, with the unknowns from a on for the names that they bind
+abbrev pub openedOf : Ty → ℕ → Ty
+openedOf t a = rename (pairs (frontNames t) a []) (afterFront t)
 
--- t, of n nodes, copied to a buffer and renamed: q quantifiers stand in front of the type that is left. o and o' are the words of the buffer before and after.
-pub record Copied (t : Ty) (n a : ℕ) (o o' : List ℕ) (q : ℕ) : Type 0 where
-  pub few : q ≤ n
-  pub names : q ≡ length (frontNames t)
-  pub size : length o' ≡ length o
-  pub out : o' ≡ openedOut t a o
-  pub type : nodesAt o' (2 * q) (n - q) ≡ rename (pairs (frontNames t) a []) (afterFront t)
-
--- The type that is left stands in the buffer, so a rule goes on with what it reads there. b and o are the words of board and buffer before, b' and o' those after: all
--- of them are fixed, those of the board by `named`. t has n nodes.
-pub record Opens (b : List ℕ) (c : Run) (t : Ty) (n : ℕ) (o b' o' : List ℕ) (r : Opened) : Type 0 where
-  pub at : r .at ≡ 2 * length (frontNames t)
-  pub nodes : r .nodes ≡ n - length (frontNames t)
-  pub within : r .at + 2 * r .nodes ≤ length o'
-  pub out : o' ≡ openedOut t (c .counters .fresh) o
-  pub type : nodesAt o' (r .at) (r .nodes) ≡ rename (pairs (frontNames t) (c .counters .fresh) []) (afterFront t)
+-- Every word of the board is fixed by `named`. A rule goes on with the opened type.
+pub record Opens (b : List ℕ) (c : Run) (t : Ty) (b' : List ℕ) (r : Opened) : Type 0 where
+  pub names : r .names ≡ length (frontNames t)
   pub named : Named b c (length (frontNames t)) b' (r .run)
   pub outcome : (w : Way) (k rep : List ℕ) → WellFormed b k c → (f : Ty → Rule) (ls : List Triple)
-      → performC w ls (f (nodesAt o' (r .at) (r .nodes))) (cameTo ls b' k rep (r .run)) ≡ performC w ls (instantiateConstructor t f) (cameTo ls b k rep c)
+      → performC w ls (f (openedOf t (c .counters .fresh))) (cameTo ls b' k rep (r .run)) ≡ performC w ls (instantiateConstructor t f) (cameTo ls b k rep c)
+
+-- ---- its nodes, off the rows d of a sheet
+-- the node of a line whose binder has the place i, with the unknowns from a on for the names bound
+abbrev pub openNode : ℕ → ℕ → Triple → Node
+openNode a i t = cond (eqb i 0) (lineNode t) (node 17 (a + (i - 1)))
+
+-- those of the n lines from line `at` on
+unfoldable pub openLines : List ℕ → ℕ → ℕ → ℕ → Ty
+openLines d a at zero = []
+openLines d a at (suc n) = openNode a (binderAt d at) (getD (rows d) at noTriple) ∷ openLines d a (at + 1) n

@@ -1,4 +1,2 @@
 pub mod Walks
-pub mod Fronts
-pub mod Renames
 pub mod Substituted

@@ -3,14 +3,12 @@ ghost use mathlib.Core.Path.{_≡_};
 ghost use Prim.Native.Nat.{ℕ, _+_, _*_, _-_, _≤_, _<_};
 ghost use lib.ListN.{length};
 ghost use lib.Seq.{sets};
-ghost use Rattle.sizes.specs.Sizes.{mostNodes, mostNumbers};
+ghost use Rattle.sizes.specs.Sizes.{mostNodes};
 ghost use Rattle.nodes.specs.Nodes.{node, nodeParts};
-ghost use Rattle.judgment.specs.Types.{isNode as nodeIs, first, occurs as occursIn, isMonotype, substitute as substituted, frontNames, renameNode};
+ghost use Rattle.judgment.specs.Types.{isNode as nodeIs, first, occurs as occursIn, isMonotype, substitute as substituted};
 ghost use Rattle.judgment.specs.Levels.{isAbove, noneAbove};
 ghost use Rattle.nodes.specs.Nodes.{words, nodesAt};
 ghost use Rattle.core_types.specs.Walk.{substituting};
-ghost use mathlib.Core.List.{[]};
-ghost use Rattle.core_types.specs.Names.{namesAt, pairs, numberOf, renaming};
 use nodes::wide;
 
 // A node is of this kind and number.
@@ -152,67 +150,6 @@ pub fn substitute_type(t: &mut [u32], at: usize, n: usize, name: u32, kind: u32,
     let mut left = n;
     while 0 < left {
         skip = substitute_node(t, p, name, kind, number, skip);
-        p += 2;
-        left -= 1;
-    }
-}
-
-// How many quantifiers stand at the front of the n nodes of t.
-pub fn front_count(t: &[u32], n: usize) -> usize
-    requires { ⌜ 2 * n ≤ length (now t) ⌝ }
-    ensures { λ r. ⌜ r ≡ length (frontNames (nodesAt (now (t .entry)) 0 n)) ⌝ }
-{
-    let mut i = 0;
-    while i < n {
-        if t[2 * i] != 14 {
-            return i;
-        }
-        i += 1;
-    }
-    i
-}
-
-// The last of the n names at the front that is `name`: 1 for the first; 0 where none is.
-fn name_index(t: &[u32], n: usize, name: u32) -> usize
-    requires { ⌜ 2 * n ≤ length (now t) ⌝ }
-    ensures { λ r. ⌜ (r ≤ n) × ((a : ℕ) → renameNode (pairs (namesAt (now (t .entry)) 0 n) a []) (node 11 name) ≡ numberOf r a name) ⌝ }
-{
-    let mut i = n;
-    while 0 < i {
-        if t[2 * i - 1] == name {
-            return i;
-        }
-        i -= 1;
-    }
-    0
-}
-
-// One node of a renaming.
-fn rename_node(t: &mut [u32], n: usize, p: usize, base: u32)
-    requires { ⌜ (2 * n ≤ p) × (p + 2 ≤ length (now t)) × (n ≤ mostNodes) × (base ≤ mostNumbers) ⌝ }
-    ensures { λ _. ⌜ (namesAt (now (t .exit)) 0 n ≡ namesAt (now (t .entry)) 0 n) × ((left : ℕ) → 0 < left → renaming (pairs (namesAt (now (t .entry)) 0 n) base []) (now (t .entry)) p left ≡ renaming (pairs (namesAt (now (t .entry)) 0 n) base []) (now (t .exit)) (p + 2) (left - 1)) ⌝ }
-{
-    if t[p] != 11 {
-        return;
-    }
-    let name = t[p + 1];
-    let i = name_index(t, n, name);
-    if i == 0 {
-        return;
-    }
-    t[p] = 17;
-    t[p + 1] = base + ((i - 1) as u32);
-}
-
-// Puts the unknowns from `base` on for the names of the n quantifiers at the front, in all nodes after those.
-pub fn apply_type_substitutions(t: &mut [u32], n: usize, total: usize, base: u32)
-    requires { ⌜ (n ≤ total) × (2 * total ≤ length (now t)) × (n ≤ mostNodes) × (base ≤ mostNumbers) ⌝ }
-    ensures { λ _. ⌜ now (t .exit) ≡ renaming (pairs (namesAt (now (t .entry)) 0 n) base []) (now (t .entry)) (2 * n) (total - n) ⌝ }
-{
-    let mut p = 2 * n;
-    let mut left = total - n;
-    while 0 < left {
-        rename_node(t, n, p, base);
         p += 2;
         left -= 1;
     }

@@ -20,7 +20,7 @@ use Rattle.grammar.specs.Grammar.{part as item}
 use Rattle.sheet.specs.declared.Found.{Found}
 use Rattle.sheet.specs.declared.Found.the-variants.{At}
 use Rattle.sheet.specs.Plan.{partLine, nodesOf, findEntry, typeAt}
-use Rattle.sheet.specs.Rows.{rows, Ended}
+use Rattle.sheet.specs.Rows.{rows, Bound, Ended}
 use Rattle.sheet.proofs.Lines.{line-none}
 use Rattle.sheet.proofs.Forming.{due-following}
 use Rattle.sheet.proofs.TypeLines.{begun-row, sort-is}
@@ -173,12 +173,12 @@ module _ {K : ℕ} {b : List ℕ} {c : Run} {s : List ℕ} {p : ℕ} {t : List �
   pub constructor-rule : K ≡ 26 → {x : ℕ} → x ≡ head .value → {v : Found} → v ≡ findEntry 1 x ls → constructor E x T (typeAt ls v) ≡ inferBy E T (termView (termAt ls p))
   constructor-rule e qx q = ap (constructor E _ T) (ap (typeAt ls) q ∙ sym (env-lookup ls _)) ∙ ap (inferBy E T) (constructor-view e qx)
 
-  pub open-asks : {l : List ℕ} → typeWords ≤ length l → (x : ℕ) {line count : ℕ} → At line count ≡ findEntry 1 x ls → OpenAsk b c ls line count l × (0 + 2 * tn ≤ length t) × Bookable b c
-  open-asks h x q =
+  pub open-asks : (l : List ℕ) → typeWords ≤ length l → (x : ℕ) {line count : ℕ} → At line count ≡ findEntry 1 x ls → OpenAsk b c ls line count × Bound ls s line count × (2 * count ≤ length l) × (0 + 2 * tn ≤ length t) × Bookable b c
+  open-asks l h x q =
       let f = a .few in
       let e = entry-at ls x _ _ (record { formed = a .sheet; few = omega arith }) q in
       let w = e .2 in
-      (record { board = a .ready .board; numbers = a .ready .numbers; room = omega arith; few = e .1; lines = e .2; narrow = e .3 }, let z = a .within in omega arith, a .formed)
+      (record { board = a .ready .board; numbers = a .ready .numbers; few = e .1; lines = e .2; narrow = e .3 }, a .ended .bound x _ _ (sym q), omega arith, let z = a .within in omega arith, a .formed)
 
 -- ---- the asks of the terms
 module _ {b : List ℕ} {c : Run} {s : List ℕ} {p : ℕ} {t : List ℕ} {tn : ℕ} {l : List ℕ} (a : InferAsk b c s p t tn l) where
@@ -209,7 +209,7 @@ module _ {b : List ℕ} {c : Run} {s : List ℕ} {p : ℕ} {t : List ℕ} {tn : 
           sheet = record { formed = a .sheet; few = omega arith };
           frames = omega arith;
           rows = omega arith;
-          left = a .left;
+          left = (let z = a .left in omega arith);
           right = room .right;
           type = a .within;
           within = rw q i;

@@ -15,7 +15,7 @@ use Rattle.judgment.specs.Types.{arrow, unknown}
 use Rattle.judgment.specs.Board.{orElse, findVar}
 use Rattle.board.specs.Board.{entriesOf}
 use Rattle.operations.specs.declared.Run.{Run}
-use Rattle.constructors.specs.Opening.{openedOut}
+use Rattle.constructors.specs.Opening.{openedOf}
 use Rattle.inference.specs.Inference.{typeOn}
 use Rattle.applying.specs.Applying.{entryIn, foundOut}
 use Rattle.arms.specs.Rooms.{room, caseRoom}
@@ -45,7 +45,7 @@ lambdaOut c s at l = sets l 0 (words (arrow (typeOn s (at + 1) (partLine (rows s
 
 -- a Constructor: its type opened, where the sheet has one
 abbrev pub constructorOut : Run → List Triple → List ℕ → Found → List ℕ
-constructorOut c ls l (At line n) = openedOut (nodesOf (take n (drop line ls))) (c .counters .fresh) l
+constructorOut c ls l (At line n) = sets l 0 (words (openedOf (nodesOf (take n (drop line ls))) (c .counters .fresh)))
 constructorOut c ls l Nothing = l
 
 -- a Case of n arms, the first at `line`; the taken type is t

@@ -69,7 +69,7 @@ pub substitute-whole : (x : ℕ) (r : Node) (t : Ty) → nodeParts r ≡ 0 → I
 unfolding substitute
 substitute-whole x r t p h = substitute-from x r p t 0 1 h
 
-renameNode-parts : (m : Renaming) (n : Node) → nodeParts (renameNode m n) ≡ nodeParts n
+pub renameNode-parts : (m : Renaming) (n : Node) → nodeParts (renameNode m n) ≡ nodeParts n
 renameNode-parts [] n = refl
 renameNode-parts (q ∷ m) n = go (isNode 11 (q .0) n) refl (renameNode-parts m n)
   where

@@ -6,12 +6,14 @@ use mathlib.Core.List.{List, [], _∷_}
 use Prim.Native.Nat.{ℕ, _+_, _*_, _≤_, _<_, max}
 use native.Mathlib.Omega.{arith}
 use lib.Dec.{eqb, leb}
+use lib.ListN.{List·getD-map}
 use borrow.Author.Tests.{eq-eqb, ne-eqb, leb-true, eqb-true}
 use Rattle.spelling.specs.declared.Triple.{Triple}
 use Rattle.kinds.specs.declared.Row.{Row}
 use Rattle.kinds.specs.declared.Head.{Head}
 use Rattle.kinds.specs.declared.Head.the-variants.{Parts, No}
-use Rattle.kinds.specs.Kinds.{Listed, find, table, rowOf, unlisted, nothing, anArm, anEntry, anExpected, aGoal, begins, headOf, partsOf}
+use Rattle.kinds.specs.Kinds.{Listed, find, table, rowOf, unlisted, nothing, anArm, anEntry, anExpected, aGoal, rowIn, begins, headOf, partsOf, Tabled}
+use Rattle.kinds.proofs.Table.{tabled, at}
 
 -- the largest kind listed
 abbrev pub most : List Listed → ℕ
@@ -59,6 +61,15 @@ listed p k (l ∷ ls) e = go (eqb k (l .kind)) refl (and-eq-true-iff (p (l .kind
 pub listed-passes : (p : ℕ → Row → Bool) (k : ℕ) → everyListed p table ≡ true → (rowOf k ≡ unlisted) ⊎ (p k (rowOf k) ≡ true)
 unfolding rowOf
 listed-passes p k e = listed p k table e
+
+-- ---- the table as words
+-- a row's fields as the digits of a word
+abbrev wordOf : ℕ → ℕ
+wordOf k = let r = rowOf k in r .sort * 1048576 + r .value * 65536 + r .count * 4096 + r .types * 256 + r .terms * 16 + r .each
+
+pub words-tabled : Tabled (tabled wordOf 0 44)
+unfolding tabled rowOf find table
+words-tabled k h = sym (List·getD-map rowIn (tabled wordOf 0 44) k 0) ∙ at rowOf (rowIn 0) 44 k h
 
 -- ---- the plan's own lines: so many types and terms follow, and no more
 abbrev pub Follow : ℕ → ℕ → Row → Type 0

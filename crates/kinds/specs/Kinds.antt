@@ -1,9 +1,11 @@
 -- The kinds of document 01: the plan's own lines 1 to 4, types 11 to 16, terms 21 to 30, patterns 41 to 43; what a line's fields hold, and
 -- which parts follow it.
 -- Assumes nothing: these are definitions.
+use mathlib.Core.Path.{_≡_}
 use mathlib.Core.Bool.{Bool, true, false, cond, _&&_}
 use mathlib.Core.List.{List, [], _∷_}
-use Prim.Native.Nat.{ℕ, _+_, _*_, _/_, _%_}
+use Prim.Native.Nat.{ℕ, _+_, _*_, _/_, _%_, _<_}
+use lib.ListN.{getD}
 use lib.Dec.{leb, eqb}
 use Rattle.sizes.specs.Sizes.{highestName}
 use Rattle.spelling.specs.declared.Triple.{Triple}
@@ -115,9 +117,13 @@ valueOk rule v = cond (eqb rule unused) (eqb v 0) (cond (eqb rule number) true (
 abbrev pub countOk : ℕ → ℕ → Bool
 countOk rule c = cond (eqb rule unused) (eqb c 0) (leb c 99)
 
+-- the fields of a line of that row are in range
+abbrev pub fieldsOk : Row → Triple → Bool
+fieldsOk r t = valueOk (r .value) (t .value) && countOk (r .count) (t .count)
+
 -- the line t begins a part of the sort x, and its fields are in range
 unfoldable pub begins : ℕ → Triple → Bool
-begins x t = let r = rowOf (t .kind) in eqb (r .sort) x && (valueOk (r .value) (t .value) && countOk (r .count) (t .count))
+begins x t = let r = rowOf (t .kind) in eqb (r .sort) x && fieldsOk r t
 
 -- what must follow it
 unfoldable pub headOf : ℕ → Triple → Head
@@ -125,9 +131,16 @@ headOf x t =
     let r = rowOf (t .kind) in
     cond (begins x t) (Parts (r .types) (r .terms) (r .each) (t .count)) No
 
--- how many parts follow a line
+-- how many parts follow a line, by its row and its count
 abbrev pub eachParts : ℕ → ℕ → ℕ
 eachParts e n = cond (eqb e nothing) 0 (cond (eqb e anArm) (2 * n) n)
 
+abbrev pub partsIn : Row → ℕ → ℕ
+partsIn r n = r .types + r .terms + eachParts (r .each) n
+
 unfoldable pub partsOf : Triple → ℕ
-partsOf t = let r = rowOf (t .kind) in r .types + r .terms + eachParts (r .each) (t .count)
+partsOf t = partsIn (rowOf (t .kind)) (t .count)
+
+-- words that hold the rows of the kinds 0 to 43, which are all that the table has
+abbrev pub Tabled : List ℕ → Type 0
+Tabled w = (k : ℕ) → k < 44 → rowIn (getD w k 0) ≡ rowOf k

@@ -2,8 +2,8 @@
 use sizes::HIGHEST_NAME;
 use spelling::Triple;
 ghost use mathlib.Core.Path.{_≡_};
-ghost use Prim.Native.Nat.{ℕ, _<_};
-ghost use Rattle.kinds.specs.Kinds.{rowIn, rowOf, valueOk, countOk, begins as beginsWith, headOf, partsOf};
+ghost use Prim.Native.Nat.{ℕ, _<_, _≤_};
+ghost use Rattle.kinds.specs.Kinds.{rowIn, rowOf, valueOk, countOk, fieldsOk, begins as beginsWith, headOf, partsIn, Tabled};
 
 // Sorts of parts. An arm is a pattern and then a term.
 pub const NOTHING: u64 = 0;
@@ -119,6 +119,24 @@ fn row_at(kind: u64) -> Row
     unpacked(0)
 }
 
+// The rows by kind as words, for a caller that looks up many: it makes them once and lends them.
+pub fn table_words() -> [u32; 44]
+    ensures { λ r. ⌜ Tabled r ⌝ }
+{
+    TABLE
+}
+
+// What the table says of a kind, from such words.
+pub fn row_in(words: &[u32; 44], kind: u64) -> Row
+    requires { ⌜ Tabled (now words) ⌝ }
+    ensures { λ r. ⌜ r ≡ rowOf kind ⌝ }
+{
+    if kind < 44 {
+        return unpacked(words[kind as usize]);
+    }
+    unpacked(0)
+}
+
 fn value_ok(rule: u64, value: u64) -> bool
     ensures { λ r. ⌜ r ≡ valueOk rule value ⌝ }
 {
@@ -147,6 +165,16 @@ fn count_ok(rule: u64, count: u64) -> bool
     } else {
         count <= 99
     }
+}
+
+// The fields of a line of that row are in range.
+pub fn fields_ok(row: Row, t: Triple) -> bool
+    ensures { λ r. ⌜ r ≡ fieldsOk row t ⌝ }
+{
+    if value_ok(row.value, t.value) {
+        return count_ok(row.count, t.count);
+    }
+    false
 }
 
 // What must follow a line: types, then terms, then count times each.
@@ -190,18 +218,17 @@ pub fn begins(t: Triple, sort: u64) -> bool
     }
 }
 
-// How many parts follow a line. A line's count has at most five digits.
-pub fn parts_of(t: Triple) -> u64
-    requires { ⌜ t .count < 100000 ⌝ }
-    ensures { λ r. ⌜ r ≡ partsOf t ⌝ }
+// How many parts follow a line of that row. A line's count has at most five digits.
+pub fn parts_of(row: Row, count: u64) -> u64
+    requires { ⌜ (row .types ≤ 2) × (row .terms ≤ 3) × (count < 100000) ⌝ }
+    ensures { λ r. ⌜ r ≡ partsIn row count ⌝ }
 {
-    let row = row_at(t.kind);
     let fixed = row.types + row.terms;
     if row.each == NOTHING {
         fixed
     } else if row.each == ARM {
-        fixed + 2 * t.count
+        fixed + 2 * count
     } else {
-        fixed + t.count
+        fixed + count
     }
 }

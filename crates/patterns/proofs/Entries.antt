@@ -6,6 +6,7 @@ use Prim.Native.Nat.{ℕ, zero, suc, _+_, _≤_, _<_}
 use native.Mathlib.Omega.{arith}
 use lib.ListN.{length, take, drop}
 use Rattle.sizes.specs.Sizes.{mostNodes}
+use Rattle.nodes.specs.Parts.{Whole}
 use Rattle.nodes.specs.Lists.{All}
 use Rattle.nodes.proofs.ListLaws.{cond-ind}
 use Rattle.nodes.proofs.PartLaws.{length-take}
@@ -17,6 +18,8 @@ use Rattle.sheet.specs.Plan.{Narrow, isEntry, named, Declaration, declarations,
 use Rattle.sheet.specs.Form.{IsPart, Typed}
 use Rattle.sheet.proofs.Declarations.{find-lookup}
 use Rattle.sheet.proofs.TypeLines.{type-narrow}
+use Rattle.references.specs.References.{Declared, TypeLine}
+use Rattle.references.proofs.Arrows.{type-lines}
 use Rattle.patterns.specs.Readings.{envAt, Sheet}
 
 -- what the plan's constructors say of a name
@@ -57,10 +60,11 @@ some-lines zero ls f = absurd f
 some-lines (suc n) ls f = omega arith
 
 pub entry-at : (ls : List Triple) (x line count : ℕ) → Sheet ls → At line count ≡ findEntry 1 x ls
-    → (0 < count) × (count ≤ mostNodes) × (line + count ≤ length ls) × All Narrow (take count (drop line ls))
+    → (0 < count) × (count ≤ mostNodes) × (line + count ≤ length ls) × All Narrow (take count (drop line ls)) × All TypeLine (take count (drop line ls)) × Whole partsOf (take count (drop line ls)) 1 × Declared ls line count
 unfolding findEntry
 entry-at ls x line count h q =
     let t = found-typed ls 1 x line count (declarations ls 0 0) (h .formed .entries) (sym q) in
     let w : line + count ≤ length ls = found-within ls 1 x line count (length ls) (declarations ls 0 0) (declared-within ls 0 0 (length ls) (omega arith)) (sym q) in
     let f : length ls ≤ mostNodes = h .few in
-    (some-lines count (drop line ls) t, omega arith, w, type-narrow (take count (drop line ls)) t)
+    let l = type-lines (take count (drop line ls)) t in
+    (some-lines count (drop line ls) t, omega arith, w, type-narrow (take count (drop line ls)) t, l .0, l .1, record { name = x; found = sym q })

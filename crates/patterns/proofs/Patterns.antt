@@ -12,10 +12,12 @@ use Rattle.nodes.specs.Lists.{All}
 use Rattle.spelling.specs.declared.Triple.{Triple}
 use Rattle.sheet.specs.Plan.{noTriple, Narrow, Bindings}
 use Rattle.sheet.proofs.Copies.{copy-narrow}
-use Rattle.judgment.specs.Types.{unknown, frontNames}
+use Rattle.judgment.specs.Types.{unknown}
 use Rattle.judgment.specs.Board.{Rule}
 use Rattle.judgment.specs.Rules.{Env, checkPatterns}
+use mathlib.Core.Bool.{false}
 use Rattle.operations.specs.declared.Run.{Run}
+use Rattle.operations.specs.State.{going}
 use Rattle.references.specs.declared.TypeRef.{TypeRef}
 use Rattle.references.specs.References.{typeOf, pendingOf, Frame}
 use Rattle.tables.specs.Rows.{refAt, row, typesOf, Frames, bindingsAt}
@@ -24,12 +26,22 @@ use Rattle.patterns.specs.declared.Lined.{Lined}
 use Rattle.patterns.specs.Turns.{Ready}
 use Rattle.patterns.specs.Readings.{envAt, Lining, Reading, Checking}
 use Rattle.patterns.specs.Rooms.{aloneOf}
-use Rattle.patterns.proofs.Steps.{turn-none, turn-then, turn-as}
+use Rattle.patterns.proofs.Steps.{turn-none, turn-then, turn-as, turn-stays}
 
 alone-frame : (ls : List Triple) (u : ℕ) → u ≤ mostNumbers → Frame ls (aloneOf u)
-unfolding frontNames pendingOf
+unfolding pendingOf
 alone-frame ls u l = record {
-  good = record { stands = omega arith; narrow = tt; few = omega arith; within = λ z. absurd (omega arith); past = omega arith; low = l; alone = λ z. (refl, refl) };
+  good = record {
+    stands = omega arith;
+    narrow = tt;
+    types = tt;
+    few = omega arith;
+    within = λ z. absurd (omega arith);
+    whole = λ z. absurd (omega arith);
+    declared = λ z. absurd (omega arith);
+    low = l;
+    alone = λ z. (refl, refl);
+  };
   some = omega arith;
 }
 
@@ -103,4 +115,12 @@ module _ (b : List ℕ) (c : Run) (ls : List Triple) (first lines u : ℕ) where
       sound = h .sound;
       few = let a = h .few in let w = h .within in omega arith;
       turn = turn-then (h .turn) (turn-none _ _ (h .turn .ready) (λ f. rw z (no-types (envAt ls) (take (lines - i) (drop (first + i) ls)) (bindingsAt ls v 0 j) f)));
+    }
+
+    -- a refused run stays as it is, whatever is left of the pattern
+    pub read-halt : going (r₁ .halt) ≡ false → Checking b c ls first lines u b₁ v (record { run = r₁; bound = j })
+    read-halt e = record {
+      sound = h .sound;
+      few = let a = h .few in let w = h .within in omega arith;
+      turn = turn-stays e (h .turn);
     }

@@ -1,6 +1,6 @@
 -- Turns, one after the other. Assumes nothing.
 use mathlib.Core.Path.{_≡_, refl, sym, ap, _∙_, subst⁻¹}
-use mathlib.Core.Bool.{Bool, true, false}
+use mathlib.Core.Bool.{Bool, true, false, true≢false}
 use mathlib.Core.List.{List, []}
 use mathlib.Core.Logic.{_≢_}
 use Prim.Native.Nat.{ℕ, _+_}
@@ -19,7 +19,7 @@ use Rattle.board.specs.Board.{fitting as fitsBoard}
 use Rattle.board.proofs.Stacks.{laid-stacked, fits-facts}
 use Rattle.operations.specs.declared.Run.{Run}
 use Rattle.operations.specs.State.{reported, cameTo, performC, WellFormed, Does, Performs, Pushes, going, refusedRun, pushRun, pushWords}
-use Rattle.operations.proofs.Then.{refusal-stays, anyWay}
+use Rattle.operations.proofs.Then.{same-going, refusal-stays, anyWay}
 use Rattle.patterns.specs.Turns.{Ready, Turn}
 use Rattle.patterns.specs.Readings.{Arity}
 
@@ -51,6 +51,15 @@ module _ {A : Type 0} {ls : List Triple} where
         ap (λ (y : Rule). performC w ls y (cameTo ls b' k rep r)) (g f)
         ∙ x .outcome w k rep z f
         ∙ ap (λ (y : Rule). performC w ls y (cameTo ls b k rep c)) (e f);
+  }
+
+  -- after a refusal whatever is left may be put for what is left
+  pub turn-stays : {b b' : List ℕ} {c r : Run} {p q q' : (A → Rule) → Rule} → going (r .halt) ≡ false → Turn ls b c p b' r q → Turn ls b c p b' r q'
+  turn-stays {b} {b'} {c} {r} {p} {q} {q'} e x = record {
+    ready = x .ready;
+    taken = x .taken;
+    kept = x .kept;
+    outcome = λ w k rep z f. same-going w ls b' k rep r (q' f) (q f) (λ g. absurd (true≢false (sym g ∙ e))) ∙ x .outcome w k rep z f;
   }
 
 -- ---- a refusal: whatever follows

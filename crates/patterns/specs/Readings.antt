@@ -5,10 +5,12 @@ use mathlib.Core.List.{List, [], _∷_, _++_}
 use Prim.Native.Nat.{ℕ, _+_, _*_, _-_, _≤_, _<_}
 use lib.Dec.{eqb}
 use lib.ListN.{length, getD, take, drop}
-use Rattle.sizes.specs.Sizes.{mostNodes, mostNumbers, typeWords}
+use Rattle.sizes.specs.Sizes.{mostNodes, mostNumbers}
 use Rattle.nodes.specs.Nodes.{Ty}
+use Rattle.nodes.specs.Parts.{Whole}
 use Rattle.nodes.specs.Lists.{All}
 use Rattle.spelling.specs.declared.Triple.{Triple}
+use Rattle.kinds.specs.Kinds.{partsOf}
 use Rattle.sheet.specs.Plan.{noTriple, nodesOf, Narrow, Bindings, lookup, planOf}
 use Rattle.sheet.specs.Form.{Formed}
 use Rattle.judgment.specs.declared.TypeError.the-variants.{ArityMismatch}
@@ -18,7 +20,7 @@ use Rattle.judgment.specs.Rules.{Env, extractSignature, patternParts, patternCo
 use Rattle.judgment.specs.Result.{envOf}
 use Rattle.operations.specs.declared.Run.{Run}
 use Rattle.references.specs.declared.TypeRef.{TypeRef}
-use Rattle.references.specs.References.{pendingOf, Good}
+use Rattle.references.specs.References.{Declared, TypeLine, pendingOf, Good}
 use Rattle.tables.specs.Rows.{typesOf, Frames, bindingsAt, Sound}
 use Rattle.patterns.specs.declared.Parts.{Parts}
 use Rattle.patterns.specs.declared.Named.{Named}
@@ -45,9 +47,12 @@ pub record PartsAsk (b : List ℕ) (c : Run) (ls : List Triple) (first n count :
   pub few : n ≤ mostNodes
   pub lines : first + n ≤ length ls
   pub narrow : All Narrow (take n (drop first ls))
+  pub types : All TypeLine (take n (drop first ls))
+  pub whole : Whole partsOf (take n (drop first ls)) 1
+  pub declared : Declared ls first n
   pub small : count < 131072
   pub good : Good ls want
-  pub left : typeWords ≤ length l
+  pub left : 2 * length ls + 2 ≤ length l
   pub right : 2 * length ls + 2 ≤ length r
 
 -- the reference to the opened type, of that many nodes
@@ -75,7 +80,7 @@ pub record NameAsk (b : List ℕ) (c : Run) (ls : List Triple) (x count : ℕ) (
   pub good : Good ls want
   pub frames : Frames ls w n
   pub deep : 6 * n + 6 ≤ length w
-  pub left : typeWords ≤ length l
+  pub left : 2 * length ls + 2 ≤ length l
   pub right : 2 * length ls + 2 ≤ length r
 
 pub record Naming (b : List ℕ) (c : Run) (ls : List Triple) (x count : ℕ) (t : Ty) (w : List ℕ) (n : ℕ) (b' w' : List ℕ) (o : Named) : Type 0 where
@@ -94,7 +99,7 @@ pub record LineAsk (b : List ℕ) (c : Run) (ls : List Triple) (p : ℕ) (w : Li
   pub deep : 6 * n + 6 ≤ length w
   pub sound : Sound ls v j
   pub rows : 6 * j + 6 ≤ length v
-  pub left : typeWords ≤ length l
+  pub left : 2 * length ls + 2 ≤ length l
   pub right : 2 * length ls + 2 ≤ length r
 
 -- what is left of the pattern is the lines after it
@@ -116,7 +121,7 @@ pub record CheckAsk (b : List ℕ) (c : Run) (ls : List Triple) (first lines u :
   pub low : u ≤ mostNumbers
   pub frames : 6 * lines + 12 ≤ length w
   pub rows : 6 * lines + 6 ≤ length v
-  pub left : typeWords ≤ length l
+  pub left : 2 * length ls + 2 ≤ length l
   pub right : 2 * length ls + 2 ≤ length r
 
 module _ (b : List ℕ) (c : Run) (ls : List Triple) (first lines u : ℕ) where

@@ -11,14 +11,15 @@ use Rattle.sheet.specs.declared.Found.{Found}
 use Rattle.sheet.specs.declared.Found.the-variants.{At, Nothing}
 use Rattle.sheet.specs.Plan.{nodesOf, findEntry}
 use Rattle.judgment.specs.declared.TypeError.the-variants.{ArityMismatch, UnboundDataConstructor}
-use Rattle.judgment.specs.Types.{rename, frontNames, afterFront}
+use Rattle.nodes.specs.Nodes.{words}
+use Rattle.judgment.specs.Types.{frontNames}
 use Rattle.operations.specs.declared.Run.{Run}
-use Rattle.operations.specs.State.{refusedRun, pushRun}
-use Rattle.constructors.specs.Opening.{namedRun, openedOut}
+use Rattle.operations.specs.State.{going, refusedRun, pushRun}
+use Rattle.constructors.specs.Opening.{namedRun, openedOf}
 use Rattle.references.specs.declared.TypeRef.{TypeRef}
 use Rattle.references.specs.Signatures.{params, result}
-use Rattle.references.specs.References.{openedAt, typeOf, instanceOut}
-use Rattle.tables.specs.Rows.{row, topOf, nextOf, nextWords, nextScratch, insertWords, insertCount}
+use Rattle.references.specs.References.{typeOf, instanceOut}
+use Rattle.tables.specs.Rows.{row, topOf, nextOf, nextWords, insertWords, insertCount}
 use Rattle.patterns.specs.declared.Parts.{Parts}
 use Rattle.patterns.specs.declared.Checked.{Checked}
 use Rattle.patterns.specs.Readings.{bodyOf}
@@ -47,13 +48,19 @@ partsAnswer ls first n count want c =
     let t = nodesOf (take n (drop first ls)) in
     let q = length (frontNames t) in
     let m = n - q in
-    let u = rename (openedAt t (c .counters .fresh)) (afterFront t) in
+    let u = openedOf t (c .counters .fresh) in
     let arity = length (params m u) in
     record {
       run = arityRun (pushRun (namedRun q c) (length (result m u) + length (typeOf ls want))) arity count;
       nodes = m;
       arity = arity;
     }
+
+-- the buffer to whose front the result of the opened type is written, the unknowns being those from a on
+unfoldable pub resultOut : List Triple → ℕ → ℕ → ℕ → List ℕ → List ℕ
+resultOut ls first n a l =
+    let t = nodesOf (take n (drop first ls)) in
+    sets l 0 (words (result (n - length (frontNames t)) (openedOf t a)))
 
 -- the frames' words and how many frames there are, after one for the parameters of r, if it has any
 unfoldable pub frameWords : List ℕ → ℕ → TypeRef → ℕ → List ℕ
@@ -68,7 +75,7 @@ constructorRooms ls x count want s (At line n) =
     let p = partsAnswer ls line n count want (s .run) in
     let w = frameWords (s .frames) (s .depth) (bodyOf line n (p .nodes) (s .run .counters .fresh)) (p .arity) in
     rooms (p .run) w (frameDepth (s .depth) (p .arity)) (s .bindings) (s .bound)
-    (openedOut (nodesOf (take n (drop line ls))) (s .run .counters .fresh) (s .left)) (instanceOut ls want (s .right))
+    (resultOut ls line n (s .run .counters .fresh) (s .left)) (instanceOut ls want (s .right))
 constructorRooms ls x count want s Nothing =
     rooms (refusedRun (s .run) (UnboundDataConstructor x)) (s .frames) (s .depth) (s .bindings) (s .bound) (s .left) (s .right)
 
@@ -77,7 +84,7 @@ constructorRooms ls x count want s Nothing =
 abbrev pub takenRooms : List Triple → Rooms → Rooms
 takenRooms ls s =
     let r = topOf (s .frames) (s .depth) in
-    rooms (s .run) (nextWords ls r (s .depth) (s .frames)) (nextOf ls r (s .depth) .depth) (s .bindings) (s .bound) (nextScratch ls r (s .left)) (s .right)
+    rooms (s .run) (nextWords ls r (s .depth) (s .frames)) (nextOf ls r (s .depth) .depth) (s .bindings) (s .bound) (s .left) (s .right)
 
 -- a name is bound to it
 abbrev pub boundRooms : ℕ → TypeRef → Rooms → Rooms
@@ -91,10 +98,10 @@ lineRooms ls x s =
     cond (eqb (x .kind) 42) (boundRooms (x .value) want s₁)
     (cond (eqb (x .kind) 43) (constructorRooms ls (x .value) (x .count) want s₁ (findEntry 1 (x .value) ls)) s₁)
 
--- ---- the lines of a pattern, until no frame is left
+-- ---- the lines of a pattern, until no frame is left or the run is refused
 unfoldable pub linesRooms : List Triple → List Triple → Rooms → Rooms
 linesRooms ls [] s = s
-linesRooms ls (x ∷ xs) s = cond (eqb (s .depth) 0) s (linesRooms ls xs (lineRooms ls x s))
+linesRooms ls (x ∷ xs) s = let r = linesRooms ls xs (lineRooms ls x s) in cond (eqb (s .depth) 0) s (cond (going (s .run .halt)) r s)
 
 -- the reference to an unknown
 abbrev pub aloneOf : ℕ → TypeRef

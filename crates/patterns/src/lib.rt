@@ -2,21 +2,22 @@
 ghost use mathlib.Core.Path.{_≡_};
 ghost use mathlib.Core.List.{List};
 ghost use Prim.Native.Nat.{ℕ, _+_, _*_, _≤_, _<_};
-ghost use lib.ListN.{length, getD, take, drop};
+ghost use lib.ListN.{length, getD};
 ghost use Rattle.sizes.specs.Sizes.{mostNodes};
 ghost use Rattle.spelling.specs.declared.Triple.{Triple};
-ghost use Rattle.sheet.specs.Plan.{noTriple, nodesOf, findEntry};
+ghost use Rattle.sheet.specs.Plan.{noTriple, findEntry};
 ghost use Rattle.sheet.specs.Rows.{rows, Ended};
-ghost use Rattle.constructors.specs.Opening.{openedOut};
 ghost use Rattle.references.specs.References.{typeOf, instanceOut};
 ghost use Rattle.operations.specs.State.{Bookable};
 ghost use Rattle.patterns.specs.Turns.{Ready};
 ghost use Rattle.patterns.specs.Readings.{Arity, PartsAsk, Parting, Adds, NameAsk, Naming, LineAsk, Lining, CheckAsk, Checking};
-ghost use Rattle.patterns.specs.Rooms.{rooms, arityRun, partsAnswer, frameWords, frameDepth, constructorRooms, lineRooms, patternRooms, Leaves};
+ghost use Rattle.patterns.specs.Rooms.{rooms, arityRun, partsAnswer, resultOut, frameWords, frameDepth, constructorRooms, lineRooms, patternRooms, Leaves};
+use constructors::apply_type_substitutions;
 use constructors::instantiate_constructor_type;
 use judgment::TypeError;
 use nodes::wide;
 use operations::Run;
+use operations::is_going;
 use operations::push_sub;
 use operations::refuse;
 use references::TypeRef;
@@ -59,21 +60,20 @@ fn pattern_parts(
     l: &mut [u32],
     r: &mut [u32],
 ) -> Parts
-    requires { ⌜ PartsAsk (now board) c (rows (now s)) first n count want (now l) (now r) ⌝ }
-    ensures { λ o. ⌜ Parting (now (board .entry)) c (rows (now (s .entry))) first n count (typeOf (rows (now (s .entry))) want) (now (board .exit)) o × (o ≡ partsAnswer (rows (now (s .entry))) first n count want c) × (now (l .exit) ≡ openedOut (nodesOf (take n (drop first (rows (now (s .entry)))))) (c .counters .fresh) (now (l .entry))) × (now (r .exit) ≡ instanceOut (rows (now (s .entry))) want (now (r .entry))) ⌝ }
+    requires { ⌜ PartsAsk (now board) c (rows (now s)) first n count want (now l) (now r) × Ended (now s) ⌝ }
+    ensures { λ o. ⌜ Parting (now (board .entry)) c (rows (now (s .entry))) first n count (typeOf (rows (now (s .entry))) want) (now (board .exit)) o × (o ≡ partsAnswer (rows (now (s .entry))) first n count want c) × (now (l .exit) ≡ resultOut (rows (now (s .entry))) first n (c .counters .fresh) (now (l .entry))) × (now (r .exit) ≡ instanceOut (rows (now (s .entry))) want (now (r .entry))) ⌝ }
 {
-    let ra = 2 * want.at;
-    let rn = want.count;
     instance(r, s, want);
-    let o = instantiate_constructor_type(board, c, s, first, n, l);
+    let o = instantiate_constructor_type(board, c, s, first, n);
     let opened = o.run;
-    let at = o.at;
-    let nodes = o.nodes;
-    let e = signature(l, at, nodes);
+    let names = o.names;
+    let nodes = n - names;
+    let e = signature(s, first + names, nodes);
     let arity = e.arity;
-    let la = at + 2 * e.start;
-    let ln = nodes - e.start;
-    let pushed = push_sub(board, opened, l, la, ln, r, ra, rn);
+    let start = e.start;
+    let ln = nodes - start;
+    apply_type_substitutions(l, s, first + (names + start), ln, c.counters.fresh);
+    let pushed = push_sub(board, opened, l, 0, ln, r, 0, want.count);
     let run = check_arity(pushed, arity, count);
     Parts { run, nodes, arity }
 }
@@ -161,7 +161,7 @@ fn pattern_line(
     let t = triple_at(s, p);
     let name = t.value;
     let count = t.count;
-    let u = next(s, w, n, l);
+    let u = next(s, w, n);
     let want = u.want;
     let d = u.depth;
     if t.kind == 42 {
@@ -229,6 +229,9 @@ pub fn check_pattern(
     let mut i: usize = 0;
     while i < lines {
         if n == 0 {
+            return Checked { run, bound: j };
+        }
+        if !is_going(run.halt) {
             return Checked { run, bound: j };
         }
         let o = pattern_line(board, run, s, first + i, w, n, v, j, l, r);

@@ -1,50 +1,18 @@
--- Parts of lists, renamed or not. Assumes nothing.
-use mathlib.Core.Path.{_≡_, refl, sym, ap, _∙_}
+-- Parts of renamed types. Assumes nothing.
+use mathlib.Core.Path.{_≡_, refl, ap, ap₂, _∙_}
+use mathlib.Core.Bool.{Bool, true, false, cond, _&&_}
 use mathlib.Core.List.{List, [], _∷_}
-use Prim.Native.Nat.{ℕ, zero, suc, _+_, _*_, _-_, _≤_}
-use native.Mathlib.Nat.{zero-add}
+use Prim.Native.Nat.{ℕ, zero, suc, _+_}
 use native.Mathlib.Omega.{arith}
-use lib.ListN.{length, take, drop}
-use Rattle.nodes.specs.Nodes.{Node, node, Ty, nodesAt}
-use Rattle.nodes.proofs.Laws.{take-nodesAt, drop-nodesAt}
-use Rattle.judgment.specs.Types.{Renaming, rename, renameNode, frontNames, afterFront}
 use lib.Dec.{eqb}
-use mathlib.Core.Bool.{Bool, true, false}
+use borrow.Author.Tests.{eqb-true}
+use lib.ListN.{length, take, drop}
+use Rattle.nodes.specs.Nodes.{Node, node, Ty, nodeParts}
+use Rattle.nodes.specs.Parts.{takeParts, dropParts}
+use Rattle.judgment.specs.Types.{first, rest, isNode, Renaming, rename, renameNode}
+use Rattle.judgment.proofs.WholeTypes.{renameNode-parts}
+use Rattle.references.specs.Signatures.{arrowHead, params, result}
 
--- ---- a part of a part
-drop-nil : (n : ℕ) → drop {A = Node} n [] ≡ []
-drop-nil zero = refl
-drop-nil (suc n) = refl
-
-pub drop-drop : (a i : ℕ) (t : Ty) → drop i (drop a t) ≡ drop (a + i) t
-drop-drop zero i t = rw zero-add
-drop-drop (suc a) zero [] = sym (drop-nil (suc a + 0))
-drop-drop (suc a) (suc i) [] = sym (drop-nil (suc a + suc i))
-drop-drop (suc a) i (x ∷ t) = let e : suc a + i ≡ suc (a + i) = omega arith in rw e (drop-drop a i t)
-
-within : (t : Ty) (c i m : ℕ) → i + m ≤ c → take m (drop i (take c t)) ≡ take m (drop i t)
-within t zero zero zero h = refl
-within t zero zero (suc m) h = absurd (omega arith)
-within t zero (suc i) m h = absurd (omega arith)
-within [] (suc c) i m h = refl
-within (x ∷ t) (suc c) zero zero h = refl
-within (x ∷ t) (suc c) zero (suc m) h = ap (λ (l : Ty). x ∷ l) (within t c zero m (omega arith))
-within (x ∷ t) (suc c) (suc i) m h = within t c i m (omega arith)
-
-pub cut-cut : (t : Ty) (a c i m : ℕ) → i + m ≤ c → take m (drop i (take c (drop a t))) ≡ take m (drop (a + i) t)
-cut-cut t a c i m h = within (drop a t) c i m h ∙ ap (take m) (drop-drop a i t)
-
-pub take-whole : (t : Ty) (n : ℕ) → length t ≤ n → take n t ≡ t
-take-whole [] zero h = refl
-take-whole [] (suc n) h = refl
-take-whole (x ∷ t) zero h = absurd (omega arith)
-take-whole (x ∷ t) (suc n) h = ap (λ (l : Ty). x ∷ l) (take-whole t n (omega arith))
-
--- ---- in a buffer
-pub cut : (b : List ℕ) (p n i c : ℕ) → i + c ≤ n → nodesAt b (p + 2 * i) c ≡ take c (drop i (nodesAt b p n))
-cut b p n i c h = sym (rw (drop-nodesAt b p n i (omega arith)) (take-nodesAt b (p + 2 * i) (n - i) c (omega arith)))
-
--- ---- renamed
 module _ (m : Renaming) where
   pub length-rename : (t : Ty) → length (rename m t) ≡ length t
   unfolding rename
@@ -61,22 +29,49 @@ module _ (m : Renaming) where
   cut-rename (x ∷ t) (suc i) zero = refl
   cut-rename (x ∷ t) (suc i) (suc c) = cut-rename t i (suc c)
 
--- ---- behind the quantifiers
-pub after-drop : (t : Ty) → afterFront t ≡ drop (length (frontNames t)) t
-unfolding afterFront frontNames
-after-drop [] = refl
-after-drop (node k v ∷ t) = by (after-drop t) (eqb k 14)
-  where
-    by : afterFront t ≡ drop (length (frontNames t)) t → (q : Bool)
-        → elim q [ true ↦ afterFront t | false ↦ node k v ∷ t ] ≡ drop (length {A = ℕ} (elim q [ true ↦ v ∷ frontNames t | false ↦ [] ])) (node k v ∷ t)
-    by e true = e
-    by e false = refl
+  -- a name stands for no parts, and so does an unknown
+  pub take-rename : (t : Ty) (n : ℕ) → takeParts nodeParts (rename m t) n ≡ rename m (takeParts nodeParts t n)
+  unfolding rename
+  take-rename [] n = refl
+  take-rename (x ∷ t) zero = refl
+  take-rename (x ∷ t) (suc n) = ap (λ (l : Ty). renameNode m x ∷ l) (ap (λ (k : ℕ). takeParts nodeParts (rename m t) (k + n)) (renameNode-parts m x) ∙ take-rename t (nodeParts x + n))
 
-pub few-names : (t : Ty) → length (frontNames t) ≤ length t
-unfolding frontNames
-few-names [] = omega arith
-few-names (node k v ∷ t) = by (few-names t) (eqb k 14)
+  pub drop-rename : (t : Ty) (n : ℕ) → dropParts nodeParts (rename m t) n ≡ rename m (dropParts nodeParts t n)
+  unfolding rename
+  drop-rename [] n = refl
+  drop-rename (x ∷ t) zero = refl
+  drop-rename (x ∷ t) (suc n) = ap (λ (k : ℕ). dropParts nodeParts (rename m t) (k + n)) (renameNode-parts m x) ∙ drop-rename t (nodeParts x + n)
+
+-- neither is an Arrow
+node-arrow : (q : ℕ × ℕ) (m : Renaming) (k v : ℕ) → arrowHead (renameNode m (node k v)) ≡ arrowHead (node k v) → arrowHead (renameNode (q ∷ m) (node k v)) ≡ arrowHead (node k v)
+node-arrow q m k v i = by (eqb 11 k) refl (eqb (q .0) v)
   where
-    by : length (frontNames t) ≤ length t → (q : Bool) → length {A = ℕ} (elim q [ true ↦ v ∷ frontNames t | false ↦ [] ]) ≤ suc (length t)
-    by i true = omega arith
-    by i false = omega arith
+    by : (b : Bool) → eqb 11 k ≡ b → (c : Bool) → arrowHead (cond (b && c) (node 17 (q .1)) (renameNode m (node k v))) ≡ arrowHead (node k v)
+    by true e true = let z = eqb-true 11 k e in rw (← z)
+    by true e false = i
+    by false e c = i
+
+pub arrow-rename : (m : Renaming) (x : Node) → arrowHead (renameNode m x) ≡ arrowHead x
+arrow-rename [] x = refl
+arrow-rename (q ∷ m) (node k v) = node-arrow q m k v (arrow-rename m (node k v))
+
+module _ (m : Renaming) where
+  pub params-rename : (n : ℕ) (t : Ty) → length (params n (rename m t)) ≡ length (params n t)
+  unfolding params rename
+  params-rename zero t = refl
+  params-rename (suc n) [] = refl
+  params-rename (suc n) (x ∷ t) = rw (arrow-rename m x, drop-rename m t 1) (go (arrowHead x) (params-rename n (rest t)))
+    where
+      go : (b : Bool) → length (params n (rename m (rest t))) ≡ length (params n (rest t)) → length {A = Ty} (cond b (first (rename m t) ∷ params n (rename m (rest t))) []) ≡ length {A = Ty} (cond b (first t ∷ params n (rest t)) [])
+      go true i = ap suc i
+      go false i = refl
+
+  pub result-rename : (n : ℕ) (t : Ty) → result n (rename m t) ≡ rename m (result n t)
+  unfolding result rename
+  result-rename zero t = refl
+  result-rename (suc n) [] = refl
+  result-rename (suc n) (x ∷ t) = rw (arrow-rename m x, drop-rename m t 1) (go (arrowHead x) (result-rename n (rest t)))
+    where
+      go : (b : Bool) → result n (rename m (rest t)) ≡ rename m (result n (rest t)) → cond {A = Ty} b (result n (rename m (rest t))) (renameNode m x ∷ rename m t) ≡ rename m (cond b (result n (rest t)) (x ∷ t))
+      go true i = i
+      go false i = refl

@@ -1,3 +1,4 @@
 pub mod Signs
 pub mod Cuts
+pub mod Arrows
 pub mod Parts

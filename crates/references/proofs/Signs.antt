@@ -1,20 +1,28 @@
 -- Laws of parameters and results. Assumes nothing.
-use mathlib.Core.Path.{_≡_, refl, sym, ap, ap₂, _∙_}
+use mathlib.Core.Path.{_≡_, refl, sym, ap, ap₂, _∙_, subst}
 use mathlib.Core.Bool.{Bool, true, false, cond, _&&_}
 use mathlib.Core.List.{List, [], _∷_, _++_, append-nil, append-assoc}
 use Prim.Native.Nat.{ℕ, zero, suc, _+_, _*_, _-_, _≤_, _<_}
 use native.Mathlib.Nat.{not-suc-le-zero}
 use native.Mathlib.Omega.{arith}
 use lib.Dec.{eqb}
-use lib.ListN.{length, getD}
-use Rattle.nodes.specs.Nodes.{node, Ty, nodeParts, nodesAt}
-use Rattle.nodes.specs.Parts.{dropParts}
-use Rattle.nodes.proofs.Laws.{nodesAt-cons, length-nodesAt}
+use lib.ListN.{length, getD, take, drop}
+use Rattle.nodes.specs.Nodes.{Node, node, Ty, nodeParts}
+use Rattle.nodes.specs.Parts.{dropParts, Whole}
+use Rattle.nodes.specs.Lists.{All}
+use Rattle.spelling.specs.declared.Triple.{Triple}
+use Rattle.kinds.specs.Kinds.{partsOf}
+use Rattle.sheet.specs.Plan.{noTriple, lineNode, nodesOf, partLine}
+use Rattle.sheet.proofs.Lines.{line-from}
+use Rattle.sheet.proofs.Copies.{lines-cons}
+use Rattle.constructors.proofs.Openings.{nodes-of-lines}
 use Rattle.nodes.proofs.ListLaws.{cond-ind}
 use Rattle.judgment.specs.Types.{first, rest, null, View, isArrow, isApp, isForall, isUnknown, isOther, view}
 use Rattle.judgment.specs.Board.{Rule}
 use Rattle.judgment.specs.Rules.{signatureBy, signatureFrom}
 use Rattle.references.specs.Signatures.{arrowHead, params, result, endingOf}
+use Rattle.references.specs.References.{TypeLine}
+use Rattle.references.proofs.Arrows.{whole-some, short, rest-whole, rest-types, arrow-cons, rest-is}
 
 -- ---- this is what the definition's rule goes on with
 module _ (ps : List Ty) (t : Ty) (f : List Ty → Ty → Rule) (again : List Ty → Ty → Rule) where
@@ -60,74 +68,121 @@ params-enough (suc n) (suc m) (x ∷ t) h g =
     let g′ : suc (length t) ≤ suc m = g in
     ap (λ (l : List Ty). cond (arrowHead x) (first t ∷ l) []) (params-enough n m (rest t) (omega arith) (omega arith))
 
--- ---- the walk over the nodes in a buffer
-pub params-stop : (k : List ℕ) (p n f : ℕ) → (0 < n → arrowHead (node (getD k p 0) (getD k (p + 1) 0)) ≡ false) → (params f (nodesAt k p n) ≡ []) × (result f (nodesAt k p n) ≡ nodesAt k p n)
-unfolding params result nodesAt
-params-stop k p n zero h = (refl, refl)
-params-stop k p zero (suc f) h = (refl, refl)
-params-stop k p (suc n) (suc f) h = let e = h (omega arith) in (rw e, rw e)
-
-module _ (k : List ℕ) (p n : ℕ) where
-  pub params-turn : (f m : ℕ) → 0 < f → 0 < n → arrowHead (node (getD k p 0) (getD k (p + 1) 0)) ≡ true
-      → nodesAt k (p + 2) m ≡ first (nodesAt k (p + 2) (n - 1)) → nodesAt k (p + 2 + 2 * m) (n - 1 - m) ≡ rest (nodesAt k (p + 2) (n - 1))
-      → (params f (nodesAt k p n) ≡ nodesAt k (p + 2) m ∷ params (f - 1) (nodesAt k (p + 2 + 2 * m) (n - 1 - m))) × (result f (nodesAt k p n) ≡ result (f - 1) (nodesAt k (p + 2 + 2 * m) (n - 1 - m)))
-  unfolding params result
-  params-turn zero m i h e a b = absurd (not-suc-le-zero i)
-  params-turn (suc f) m i h e a b =
-      let z : suc f - 1 ≡ f = omega arith in
-      (rw (nodesAt-cons k p n h, e, z, a, b), rw (nodesAt-cons k p n h, e, z, b))
-
-abbrev pub Signing : List ℕ → ℕ → ℕ → ℕ → ℕ → Type 0
-Signing k at n i arity =
-    (length (params n (nodesAt k at n)) ≡ arity + length (params (n - arity) (nodesAt k (at + 2 * i) (n - i))))
-    × (result n (nodesAt k at n) ≡ result (n - arity) (nodesAt k (at + 2 * i) (n - i)))
-
-pub sign-start : (k : List ℕ) (at n : ℕ) → Signing k at n 0 0
-sign-start k at n =
-    let e : n ≡ n - 0 = omega arith in
-    let a : at ≡ at + 2 * 0 = omega arith in
-    let z : length (params (n - 0) (nodesAt k (at + 2 * 0) (n - 0))) ≡ 0 + length (params (n - 0) (nodesAt k (at + 2 * 0) (n - 0))) = omega arith in
-    (ap₂ (λ (x y : ℕ). length (params x (nodesAt k y x))) e a ∙ z, ap₂ (λ (x y : ℕ). result x (nodesAt k y x)) e a)
-
 left-over : (n i a : ℕ) → i < n → a ≤ i → 0 < n - a
 left-over n i a h g = omega arith
 
 sum-up : (x y z a : ℕ) → x ≡ a + y → y ≡ suc z → x ≡ a + 1 + z
 sum-up x y z a e f = omega arith
 
-less : (n i m : ℕ) → n - i - 1 - m ≡ n - (i + 1 + m)
-less n i m = omega arith
-
-next : (at i m : ℕ) → at + 2 * i + 2 + 2 * m ≡ at + 2 * (i + 1 + m)
-next at i m = omega arith
-
 one-less : (n a : ℕ) → n - a - 1 ≡ n - (a + 1)
 one-less n a = omega arith
 
-pub sign-turn : (k : List ℕ) (at n i arity m : ℕ) → i < n → arity ≤ i → arrowHead (node (getD k (at + 2 * i) 0) (getD k (at + 2 * i + 1) 0)) ≡ true
-    → nodesAt k (at + 2 * i + 2) m ≡ first (nodesAt k (at + 2 * i + 2) (n - i - 1)) → nodesAt k (at + 2 * i + 2 + 2 * m) (n - i - 1 - m) ≡ rest (nodesAt k (at + 2 * i + 2) (n - i - 1))
-    → Signing k at n i arity → Signing k at n (i + 1 + m) (arity + 1)
-sign-turn k at n i arity m l s e a b h =
-    let t = params-turn k (at + 2 * i) (n - i) (n - arity) m (left-over n i arity l s) (left-over n i i l (omega arith)) e a b in
-    let x : at + 2 * i + 2 + 2 * m ≡ at + 2 * (i + 1 + m) = next at i m in
-    let y : n - i - 1 - m ≡ n - (i + 1 + m) = less n i m in
-    let z : n - arity - 1 ≡ n - (arity + 1) = one-less n arity in
-    (sum-up _ _ _ arity (h .0) (ap length (t .0) ∙ rw (x, y, z)), h .1 ∙ t .1 ∙ rw (x, y, z))
+-- ---- the walk over the lines of a type
+params-stop : (f : ℕ) (t : Ty) (x : Node) (u : Ty) → t ≡ x ∷ u → arrowHead x ≡ false → (params f t ≡ []) × (result f t ≡ t)
+unfolding params result
+params-stop zero t x u c e = (refl, refl)
+params-stop (suc f) t x u c e = (rw (c, e), rw (c, e))
 
-pub sign-stop : (k : List ℕ) (at n i arity : ℕ) → (0 < n - i → arrowHead (node (getD k (at + 2 * i) 0) (getD k (at + 2 * i + 1) 0)) ≡ false) → Signing k at n i arity
-    → (arity ≡ length (params n (nodesAt k at n))) × (nodesAt k (at + 2 * i) (n - i) ≡ result n (nodesAt k at n))
-sign-stop k at n i arity e h =
-    let t = params-stop k (at + 2 * i) (n - i) (n - arity) e in
-    let v = h .0 in
-    let u : length (params (n - arity) (nodesAt k (at + 2 * i) (n - i))) ≡ 0 = ap length (t .0) in
-    (omega arith, sym (h .1 ∙ t .1))
+module _ (ls : List Triple) (first n : ℕ) (stands : first + n ≤ length ls) where
+  abbrev nodesFrom : ℕ → Ty
+  nodesFrom i = nodesOf (take (n - i) (drop (first + i) ls))
 
-pub sign-ending : (k : List ℕ) (at n i arity : ℕ) → i ≤ n → arity ≡ length (params n (nodesAt k at n)) → nodesAt k (at + 2 * i) (n - i) ≡ result n (nodesAt k at n)
-    → record { arity = arity; start = i } ≡ endingOf n (nodesAt k at n)
-sign-ending k at n i arity h a e =
-    let l : length (result n (nodesAt k at n)) ≡ n - i = ap length (sym e) ∙ length-nodesAt k (at + 2 * i) (n - i) in
-    let s : i ≡ n - length (result n (nodesAt k at n)) = omega arith in
-    ap₂ (λ (x y : ℕ). record { arity = x; start = y }) a s
+  abbrev T : Ty
+  T = nodesOf (take n (drop first ls))
+
+  -- the i lines before are those of so many Arrows and their parameters, and what is left is a whole type
+  pub record Signing (i arity : ℕ) : Type 0 where
+    pub within : i ≤ n
+    pub few : arity ≤ i
+    pub types : All TypeLine (take (n - i) (drop (first + i) ls))
+    pub whole : Whole partsOf (take (n - i) (drop (first + i) ls)) 1
+    pub counted : length (params n T) ≡ arity + length (params (n - arity) (nodesFrom i))
+    pub left : result n T ≡ result (n - arity) (nodesFrom i)
+
+  pub sign-start : All TypeLine (take n (drop first ls)) → Whole partsOf (take n (drop first ls)) 1 → Signing 0 0
+  sign-start ty w =
+      let e : n ≡ n - 0 = omega arith in
+      let a : first ≡ first + 0 = omega arith in
+      let z : length (params (n - 0) (nodesFrom 0)) ≡ 0 + length (params (n - 0) (nodesFrom 0)) = omega arith in
+      let l : take n (drop first ls) ≡ take (n - 0) (drop (first + 0) ls) = ap₂ (λ (x y : ℕ). take x (drop y ls)) e a in
+      record {
+        within = omega arith;
+        few = omega arith;
+        types = subst (All TypeLine) l ty;
+        whole = subst (λ (ts : List Triple). Whole partsOf ts 1) l w;
+        counted = ap₂ (λ (x : ℕ) (t : Ty). length (params x t)) e (ap nodesOf l) ∙ z;
+        left = ap₂ result e (ap nodesOf l);
+      }
+
+  module _ {i arity : ℕ} (S : Signing i arity) where
+    pub sign-more : i < n
+    sign-more = let s = whole-some ls (first + i) (n - i) (S .whole) in omega arith
+
+    fits : first + i + (n - i) ≤ length ls
+    fits = let w = S .within in omega arith
+
+    module _ (arrow : arrowHead (lineNode (getD ls (first + i) noTriple)) ≡ true) (end : ℕ) (e : end ≡ partLine ls (first + i + 1) 1) where
+      abbrev m : ℕ
+      m = end - (first + i + 1)
+
+      whole-line : first + i + 1 + m ≡ partLine ls (first + i + 1) 1
+      whole-line = let f = line-from ls (first + i + 1) 1 in omega arith
+
+      next : end - first ≡ i + 1 + m
+      next = let f = line-from ls (first + i + 1) 1 in omega arith
+
+      pub sign-ends : (first ≤ end) × (i < end - first) × (end - first < n)
+      sign-ends =
+          let s = short ls (first + i) (n - i) fits (S .types) (S .whole) arrow m whole-line in
+          let f = line-from ls (first + i + 1) 1 in
+          let k = next in
+          (omega arith, omega arith, omega arith)
+
+      params-turn : (f : ℕ) → 0 < f → (length (params f (nodesFrom i)) ≡ suc (length (params (f - 1) (nodesOf (take (n - i - 1 - m) (drop (first + i + 1 + m) ls)))))) × (result f (nodesFrom i) ≡ result (f - 1) (nodesOf (take (n - i - 1 - m) (drop (first + i + 1 + m) ls))))
+      unfolding params result
+      params-turn zero h = absurd (omega arith)
+      params-turn (suc f) h =
+          let z : suc f - 1 ≡ f = omega arith in
+          let c = arrow-cons ls (first + i) (n - i) fits (S .types) (S .whole) arrow m whole-line in
+          let r = rest-is ls (first + i) (n - i) fits (S .types) (S .whole) arrow m whole-line in
+          (rw (c, arrow, z, r), rw (c, arrow, z, r))
+
+      pub sign-turn : Signing (end - first) (arity + 1)
+      sign-turn =
+          let s = sign-more in
+          let b = sign-ends in
+          let a = S .few in
+          let t = params-turn (n - arity) (left-over n i arity s a) in
+          let x : first + i + 1 + m ≡ first + (end - first) = (let k = next in omega arith) in
+          let y : n - i - 1 - m ≡ n - (end - first) = (let k = next in omega arith) in
+          let z : n - arity - 1 ≡ n - (arity + 1) = one-less n arity in
+          let t0 : length (params (n - arity) (nodesFrom i)) ≡ suc (length (params (n - (arity + 1)) (nodesFrom (end - first)))) = rw (x, y, z) at (t .0) in
+          let t1 : result (n - arity) (nodesFrom i) ≡ result (n - (arity + 1)) (nodesFrom (end - first)) = rw (x, y, z) at (t .1) in
+          record {
+            within = omega arith;
+            few = (let k = next in omega arith);
+            types = rw (x, y) at (rest-types ls (first + i) (n - i) fits (S .types) (S .whole) arrow m whole-line);
+            whole = rw (x, y) at (rest-whole ls (first + i) (n - i) fits (S .types) (S .whole) arrow m whole-line);
+            counted = sum-up _ _ _ arity (S .counted) t0;
+            left = S .left ∙ t1;
+          }
+
+    pub sign-stop : arrowHead (lineNode (getD ls (first + i) noTriple)) ≡ false
+        → (nodesFrom i ≡ result n T) × (record { arity = arity; start = i } ≡ endingOf n T)
+    sign-stop e =
+        let s = sign-more in
+        let a = S .few in
+        let p = stop (n - arity) in
+        let l : length (nodesFrom i) ≡ n - i = nodes-of-lines ls (first + i) (n - i) fits in
+        let c = S .counted in
+        let r : nodesFrom i ≡ result n T = sym (S .left ∙ p .1) in
+        let q : length (result n T) ≡ n - i = ap length (sym r) ∙ l in
+        let k : arity ≡ length (params n T) = (let u : length (params (n - arity) (nodesFrom i)) ≡ 0 = ap length (p .0) in omega arith) in
+        let j : i ≡ n - length (result n T) = omega arith in
+        (r, ap₂ (λ (x y : ℕ). record { arity = x; start = y }) k j)
+      where
+        stop : (f : ℕ) → (params f (nodesFrom i) ≡ []) × (result f (nodesFrom i) ≡ nodesFrom i)
+        stop f = params-stop f (nodesFrom i) (lineNode (getD ls (first + i) noTriple)) _ (let s = sign-more in ap nodesOf (lines-cons ls (first + i) (n - i) (omega arith) (omega arith))) e
 
 pub few-params : (n : ℕ) (t : Ty) → length (params n t) ≤ n
 unfolding params

@@ -7,13 +7,15 @@ use lib.Dec.{eqb, ltb}
 use lib.ListN.{length, take, drop}
 use lib.Seq.{sets}
 use Rattle.sizes.specs.Sizes.{mostNodes, mostNumbers}
-use Rattle.nodes.specs.Nodes.{Ty}
+use Rattle.nodes.specs.Nodes.{Ty, nodeParts, words}
+use Rattle.nodes.specs.Parts.{Whole}
 use Rattle.nodes.specs.Lists.{All}
 use Rattle.spelling.specs.declared.Triple.{Triple}
-use Rattle.sheet.specs.Plan.{nodesOf, Narrow}
+use Rattle.kinds.specs.Kinds.{partsOf}
+use Rattle.sheet.specs.declared.Found.the-variants.{At}
+use Rattle.sheet.specs.Plan.{lineNode, nodesOf, Narrow, findEntry}
 use Rattle.judgment.specs.Types.{first, unknown, Renaming, rename, frontNames}
-use Rattle.core_types.specs.Names.{pairs}
-use Rattle.constructors.specs.Opening.{openedOut}
+use Rattle.constructors.specs.Opening.{pairs}
 use Rattle.references.specs.Signatures.{params}
 use Rattle.references.specs.declared.TypeRef.{TypeRef}
 use Rattle.references.specs.declared.Split.{Split}
@@ -29,17 +31,29 @@ unfoldable pub typeOf : List Triple → TypeRef → Ty
 typeOf ls r =
     cond (eqb (r .lines) 0) (unknown (r .base)) (rename (openedAt (wholeOf ls r) (r .base)) (take (r .count) (drop (r .at) (wholeOf ls r))))
 
--- every word of a buffer after the opened whole is written to its front; o are those before
+-- every word of a buffer after the type of a reference is written to its front; o are those before
 unfoldable pub instanceOut : List Triple → TypeRef → List ℕ → List ℕ
-instanceOut ls r o = cond (eqb (r .lines) 0) (sets o 0 (17 ∷ r .base ∷ [])) (openedOut (wholeOf ls r) (r .base) o)
+instanceOut ls r o = sets o 0 (words (typeOf ls r))
 
--- a reference within a type on the sheet, behind its quantifiers; or to an unknown
+-- ---- where references lead
+-- a constructor's type stands at these lines
+pub record Declared (ls : List Triple) (first n : ℕ) : Type 0 where
+  pub name : ℕ
+  pub found : findEntry 1 name ls ≡ At first n
+
+-- as many parts follow a line of a type as follow its node
+abbrev pub TypeLine : Triple → Type 0
+TypeLine t = nodeParts (lineNode t) ≡ partsOf t
+
+-- one whole type within a constructor's type on the sheet; or an unknown
 pub record Good (ls : List Triple) (r : TypeRef) : Type 0 where
   pub stands : r .first + r .lines ≤ length ls
   pub narrow : All Narrow (take (r .lines) (drop (r .first) ls))
+  pub types : All TypeLine (take (r .lines) (drop (r .first) ls))
   pub few : r .lines ≤ mostNodes
   pub within : 0 < r .lines → r .at + r .count ≤ r .lines
-  pub past : length (frontNames (wholeOf ls r)) ≤ r .at
+  pub whole : 0 < r .lines → Whole partsOf (take (r .count) (drop (r .first + r .at) ls)) 1
+  pub declared : 0 < r .lines → Declared ls (r .first) (r .lines)
   pub low : r .base ≤ mostNumbers
   pub alone : r .lines ≡ 0 → (r .at ≡ 0) × (r .count ≡ 1)
 

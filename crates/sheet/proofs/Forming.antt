@@ -63,17 +63,17 @@ length-repeated (suc (suc (suc zero))) n h = length-replicate n (part aPattern)
 length-repeated (suc (suc (suc (suc zero)))) n h = length-arms n
 length-repeated (suc (suc (suc (suc (suc e))))) n h = absurd (omega arith)
 
-few-each : (k : ℕ) → rowOf k .each ≤ 4
+pub few-each : (k : ℕ) → rowOf k .each ≤ 4
 unfolding table
 few-each k = leb-true _ 4 (row-passes (λ r. leb (r .each) 4) k refl)
 
-length-following : (ty te e n : ℕ) → e ≤ 4 → length (following ty te e n) ≡ ty + te + eachParts e n
+pub length-following : (ty te e n : ℕ) → e ≤ 4 → length (following ty te e n) ≡ ty + te + eachParts e n
 unfolding following
 length-following ty te e n h =
     length-append (replicate ty (part aType)) _
     ∙ rw (length-replicate ty (part aType), length-append (replicate te (part aTerm)) (repeated e n), length-replicate te (part aTerm), length-repeated e n h) (omega arith)
 
-parts-following : (ty te e n : ℕ) → AllParts (following ty te e n)
+pub parts-following : (ty te e n : ℕ) → AllParts (following ty te e n)
 unfolding following
 parts-following ty te e n =
     parts-append (replicate ty (part aType)) _ (parts-replicate ty aType)

@@ -9,4 +9,9 @@ pub mod LineKinds
 pub mod TypeLines
 pub mod Copies
 pub mod Ranges
-mod TermLines
+pub mod TermLines
+pub mod Fitting
+mod Walks
+pub mod Binders
+pub mod Bound
+pub mod Binding

@@ -24,7 +24,7 @@ use Rattle.sheet.specs.Form.{Forms}
 use Rattle.sheet.proofs.Formed.{Kinded, Says, an-entry, expects, neither, says, sheet-forms}
 
 -- ---- what is ever due: parts of a real sort, entries after kind 1 or 2
-abbrev Sorted : Item → Type 0
+abbrev pub Sorted : Item → Type 0
 Sorted (part x) = x ≢ 0
 Sorted (entries k n) = Kinded k
 
@@ -37,7 +37,7 @@ unfolding arms
 sorted-arms zero = tt
 sorted-arms (suc n) = (omega arith, (omega arith, sorted-arms n))
 
-sorted-following : (ty te e n : ℕ) → All Sorted (following ty te e n)
+pub sorted-following : (ty te e n : ℕ) → All Sorted (following ty te e n)
 unfolding following
 sorted-following ty te e n =
     all-append Sorted (replicate ty (part aType)) _ (sorted-replicate ty aType (omega arith))
@@ -56,7 +56,7 @@ sorted-entry t (an-entry k n b e kd) = all-append Sorted (partsDue (headOf anEnt
 sorted-entry t (expects b e) = all-append Sorted (partsDue (headOf anExpected t)) _ (sorted-head (headOf anExpected t)) (omega arith, tt)
 sorted-entry t neither = tt
 
-sorted-due : (x : Item) (t : Triple) → Sorted x → All Sorted (due x (Spelt t))
+pub sorted-due : (x : Item) (t : Triple) → Sorted x → All Sorted (due x (Spelt t))
 sorted-due (part x) t h = sorted-head (headOf x t)
 sorted-due (entries k n) t h = sorted-entry t (says k n t h)
 

@@ -83,6 +83,12 @@ module _ (ls : List Triple) (at n : ℕ) where
   unfolding partLine
   line-from = omega arith
 
+  pub line-beyond : at < length ls → (n ≡ 0 → ⊥) → at < partLine ls at n
+  unfolding partLine
+  line-beyond h k =
+      let e : takeParts partsOf (drop at ls) n ≡ getD ls at noTriple ∷ takeParts partsOf (drop (suc at) ls) (n - 1 + partsOf (getD ls at noTriple)) = rw (drop-cons ls at noTriple h) (take-turn partsOf (getD ls at noTriple) (drop (suc at) ls) n k) in
+      rw e (omega arith)
+
   pub line-within : at ≤ length ls + 1 → partLine ls at n ≤ length ls + 1
   unfolding partLine
   line-within h =

@@ -12,8 +12,8 @@ use lib.Seq.{getD-set-same, getD-set-other, ext-getD}
 use Rattle.spelling.specs.declared.Triple.{Triple}
 use Rattle.sheet.specs.declared.Found.{Found}
 use Rattle.sheet.specs.declared.Found.the-variants.{At, Nothing}
-use Rattle.sheet.specs.Plan.{noTriple, partLine, isEntry, named, Declaration, declarations, findIn, findEntry}
-use Rattle.sheet.specs.Rows.{rows, rowTriple, lineCount, endAt, EndsFrom, firstAt, nextAt, linkedFrom, linked, placed, Ended, inFront, linkEntry, Unlinked, unlinkedWords, linkAll, sheetWords}
+use Rattle.sheet.specs.Plan.{noTriple, partLine, isEntry, named, Declaration, findIn, findEntry}
+use Rattle.sheet.specs.Rows.{rows, rowTriple, lineCount, endAt, EndsFrom, firstAt, nextAt, linkedFrom, linked, placed, Linked, inFront, linkEntry, Unlinked, linkAll}
 use Rattle.sheet.proofs.RowLaws.{length-rows, row-is}
 use Rattle.sheet.proofs.Lines.{line-from, line-inside}
 use Rattle.sheet.proofs.Declarations.{from, from-past, from-none, from-one, find-hit, find-turn, find-past}
@@ -195,11 +195,11 @@ module _ {ls : List Triple} {d : List ℕ} {at : ℕ} (L : Linking ls d at) wher
       let f = placed ls (linkedFrom (length ls) d k x (firstAt d (x % length ls))) in
       ap (placed ls) (linked-is k x) ∙ sym (done-rest f) ∙ ap (firstOf f) (none ls at e k x) ∙ L .rest k x (length ls) (omega arith) (L .within)
 
-  pub linking-done : from ls at ≡ [] → (rows d ≡ ls) × Ended d × (d ≡ linkAll d (from ls at))
+  pub linking-done : from ls at ≡ [] → (rows d ≡ ls) × Linked d × (d ≡ linkAll d (from ls at))
   linking-done e = (L .same, record { ends = subst⁻¹ (λ (xs : List Triple). EndsFrom xs d 0) (L .same) (L .ends); found = λ k x. rw (L .same) (found-all e k x (length ls) refl) }, all-none d (from ls at) e)
 
 -- ---- one entry more
-named-is : (k x : ℕ) (t : Triple) → named k x t ≡ true → (t .kind ≡ k) × (t .value ≡ x)
+pub named-is : (k x : ℕ) (t : Triple) → named k x t ≡ true → (t .kind ≡ k) × (t .value ≡ x)
 named-is k x t h = go (eqb (t .kind) k) (eqb (t .value) x) refl refl h
   where
     go : (a b : Bool) → eqb (t .kind) k ≡ a → eqb (t .value) x ≡ b → (a && b) ≡ true → (t .kind ≡ k) × (t .value ≡ x)
@@ -378,7 +378,7 @@ module _ {ls : List Triple} {d : List ℕ} {at : ℕ} (L : Linking ls d at) (h :
       let u = line-from ls (at + 1) 1 in
       record {
         same = rows-front d slot at slot-within i ∙ L .same;
-        ends = λ l z y. ap (λ (v : ℕ). v / 268435456) (word-front d slot at slot-within i (2 * l + 1) (λ q. omega arith) (λ q. omega arith)) ∙ L .ends l z y;
+        ends = λ l z y. ap (λ (v : ℕ). v / 268435456 % 4096) (word-front d slot at slot-within i (2 * l + 1) (λ q. omega arith) (λ q. omega arith)) ∙ L .ends l z y;
         within = line-inside ls (at + 1) 1 (omega arith);
         low = λ b y. low-front b (omega arith) (eqb b slot) refl;
         falls = λ l y. falls-front l (omega arith) (eqb l at) refl;
@@ -441,16 +441,11 @@ module _ {ls : List Triple} {d : List ℕ} {at : ℕ} (L : Linking ls d at) wher
       let u = line-from ls (at + 1) 1 in
       rw g (N, omega arith, ap (λ (x : List ℕ). linkAll x (from ls (partLine ls (at + 1) 1))) e ∙ all-turn ls d at h entry)
 
-  pub linking-none : at < length ls → isEntry (getD ls at noTriple) ≡ false → (rows d ≡ ls) × Ended d × (d ≡ linkAll d (from ls at))
+  pub linking-none : at < length ls → isEntry (getD ls at noTriple) ≡ false → (rows d ≡ ls) × Linked d × (d ≡ linkAll d (from ls at))
   linking-none h e = linking-done L (from-none ls at h e)
 
-  pub linking-past : length ls ≤ at → (rows d ≡ ls) × Ended d × (d ≡ linkAll d (from ls at))
+  pub linking-past : length ls ≤ at → (rows d ≡ ls) × Linked d × (d ≡ linkAll d (from ls at))
   linking-past h = linking-done L (from-past ls at h)
-
--- the lines read, and then every entry linked
-pub words-linked : (ls : List Triple) {d d' : List ℕ} → d ≡ unlinkedWords ls → rows d ≡ ls → d' ≡ linkAll d (declarations (rows d) 0 0) → d' ≡ sheetWords ls
-unfolding sheetWords
-words-linked ls e f g = g ∙ ap₂ (λ (x : List ℕ) (ts : List Triple). linkAll x (declarations ts 0 0)) e f
 
 -- where the type of an entry stands
 pub placed-at : (ls : List Triple) (at : ℕ) {end : ℕ} → (at ≡ 0 → ⊥) → end ≡ partLine ls at 1 → At at (end - at) ≡ placed ls at

@@ -128,7 +128,7 @@ table-tells ts z l e s x = go (leb tableLength x) refl
         let h = leb-false tableLength x q in
         marked-is ts z x (omega arith) ∙ ap (λ (n : ℕ). names x ts || eqb n 1) (e x) ∙ or-false (names x ts)
 
-zeros-read : (n x : ℕ) → _≡_ {A = ℕ} (getD (replicate n 0) x 0) 0
+pub zeros-read : (n x : ℕ) → _≡_ {A = ℕ} (getD (replicate n 0) x 0) 0
 zeros-read zero x = refl
 zeros-read (suc n) zero = refl
 zeros-read (suc n) (suc x) = zeros-read n x

@@ -16,7 +16,7 @@ use Rattle.spelling.specs.declared.Line.{Line}
 use Rattle.spelling.specs.Spelling.{lineAt}
 use Rattle.kinds.specs.Kinds.{partsOf}
 use Rattle.sheet.specs.Plan.{noTriple, tripleOf, triples, partLine}
-use Rattle.sheet.specs.Rows.{packed, rowTriple, rowsFrom, rows, lineCount, EndsFrom, setRow, putRows, RowIs, Bare, Unlinked, rowWords, unlinkedWords}
+use Rattle.sheet.specs.Rows.{packed, rowTriple, rowsFrom, rows, lineCount, EndsFrom, KindsFrom, setRow, putRows, RowIs, Bare, Unlinked, rowWords, unlinkedWords}
 use Rattle.sheet.proofs.Lines.{triple-is, kind-small, count-small, line-turn, line-within}
 
 -- ---- what a row holds
@@ -230,8 +230,17 @@ module _ (ls : List Triple) where
       ap₂ rowTriple (w .0) (w .1) ∙ unpack (t .kind) (t .negative) (t .value) (t .count) 0 (m i .0) (m i .1) .0
 
   module _ (d : List ℕ) (m : Small) where
-    pub row-ends : (at : ℕ) → RowsFrom d at → EndsFrom ls d at
-    row-ends at f i k l = let t = getD ls i noTriple in rw (f i k l .1) (unpack (t .kind) (t .negative) (t .value) (t .count) (partLine ls i 1) (m i .0) (m i .1) .1)
+    pub row-ends : length ls ≤ mostLines → (at : ℕ) → RowsFrom d at → EndsFrom ls d at
+    row-ends few at f i k l =
+        let t = getD ls i noTriple in
+        let w = line-within ls i 1 (omega arith) in
+        let u = unpack (t .kind) (t .negative) (t .value) (t .count) (partLine ls i 1) (m i .0) (m i .1) .1 in
+        rw (f i k l .1, u) (omega arith)
+
+    pub row-kinds : (at : ℕ) → RowsFrom d at → KindsFrom ls d at
+    row-kinds at f i k l =
+        let t = getD ls i noTriple in
+        ap (λ (w : ℕ). w % 1024) (f i k l .1) ∙ ap (λ (u : Triple). u .kind) (unpack (t .kind) (t .negative) (t .value) (t .count) (partLine ls i 1) (m i .0) (m i .1) .0)
 
     module _ (e : length d ≡ 4 * length ls) (f : RowsFrom d 0) where
       pub rows-are : rows d ≡ ls
@@ -243,8 +252,8 @@ module _ (ls : List Triple) where
           ∙ ap₂ rowTriple (f i (omega arith) (omega arith) .0) (f i (omega arith) (omega arith) .1)
           ∙ unpack (t .kind) (t .negative) (t .value) (t .count) (partLine ls i 1) (m i .0) (m i .1) .0)
 
-      pub rows-ended : EndsFrom (rows d) d 0
-      rows-ended = subst⁻¹ (λ (xs : List Triple). EndsFrom xs d 0) rows-are (row-ends 0 f)
+      pub rows-ended : length ls ≤ mostLines → EndsFrom (rows d) d 0
+      rows-ended few = subst⁻¹ (λ (xs : List Triple). EndsFrom xs d 0) rows-are (row-ends few 0 f)
 
       pub rows-unlinked : Unlinked d
       rows-unlinked =

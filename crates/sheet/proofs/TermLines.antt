@@ -1,4 +1,4 @@
--- Where a plan's term stands: from the line after that of kind 4 on, to the end of the sheet. Its lines are the slice that `term_lines` returns.
+-- Where a plan's term stands: from the line after that of kind 4 on, to the end of the sheet. Its lines are the slice that `term_lines` returns: `term-part`.
 -- Assumes nothing.
 use mathlib.Core.Path.{_≡_, refl, sym, ap, _∙_}
 use mathlib.Core.Logic.{_⊎_, inl, inr}
@@ -7,8 +7,8 @@ use mathlib.Core.List.{List, [], _∷_, _++_, map}
 use Prim.Native.Nat.{ℕ, zero, suc, _+_, _*_, _-_, _/_, _%_, _≤_, _<_}
 use native.Mathlib.Nat.{add-zero, sub-zero, zero-add}
 use native.Mathlib.Omega.{arith}
-use lib.ListN.{length, getD, take, drop, length-take, length-drop, drop-of-length-le}
-use lib.Seq.{getD-drop, drop-cons, ext-getD}
+use lib.ListN.{length, getD, take, drop, length-drop, drop-of-length-le}
+use lib.Seq.{getD-drop, drop-cons, ext-getD, take-all}
 use lib.Dec.{eqb, ltb, leb}
 use borrow.Author.Tests.{eqb-true, eq-eqb, ne-eqb}
 use Rattle.sizes.specs.Sizes.{lineLength, mostLines, sheetBytes}
@@ -16,7 +16,6 @@ use Rattle.spelling.specs.declared.Triple.{Triple}
 use Rattle.spelling.specs.declared.Line.{Line}
 use Rattle.spelling.specs.declared.Line.the-variants.{Spelt, Misspelt}
 use Rattle.spelling.specs.Spelling.{lineAt, linesFrom, linesOf}
-use Rattle.spelling.proofs.Laws.{length-lines}
 use Rattle.kinds.specs.declared.Row.{Row}
 use Rattle.kinds.specs.Kinds.{aType, aTerm, anEntry, anExpected, aGoal, table, find, rowOf, begins}
 use Rattle.kinds.proofs.Rows.{entry-row, expected-row, goal-row}
@@ -26,12 +25,12 @@ use Rattle.grammar.specs.declared.Check.the-variants.{Plan, Length}
 use Rattle.grammar.specs.Grammar.{Item, part, entries, ok, due, stands, entryDue, read, readAt, subTerm}
 use Rattle.grammar.specs.Check.{lengthOk, check}
 use Rattle.grammar.proofs.Laws.{one, no-line}
+use Rattle.grammar.proofs.Lines.{few-lines}
 use Rattle.grammar.proofs.Alone.{line}
 use Rattle.sheet.specs.Plan.{noTriple, tripleOf, triples, isEntry}
 use Rattle.sheet.specs.Rows.{afterGoal, putRows, Bare}
 use Rattle.sheet.proofs.Lines.{length-triples, triple-is}
 use Rattle.sheet.proofs.RowLaws.{rows-bare, length-put}
-use Rattle.sheet.proofs.Ranges.{plan-few}
 use Rattle.sheet.proofs.Forming.{due-following, misspelt-none}
 use Rattle.sheet.proofs.TypeLines.{Only, sort-is, begun-row, type-line}
 use Rattle.sheet.proofs.Formed.{Kinded, Says, an-entry, expects, neither, says, one-type, one-term, cond-plan, whole-read}
@@ -52,7 +51,7 @@ four-goal : (x : ℕ) (t : Triple) → begins x t ≡ true → t .kind ≡ 4 →
 unfolding rowOf find table
 four-goal x t b k = let s : rowOf 4 .sort ≡ x = rw k at (sort-is x t b) in sym s
 
-goal-four : (t : Triple) → begins aGoal t ≡ true → t .kind ≡ 4
+pub goal-four : (t : Triple) → begins aGoal t ≡ true → t .kind ≡ 4
 unfolding table
 goal-four t b = eqb-true (t .kind) 4 (rw (eq-eqb (rowOf (t .kind) .sort) aGoal (sort-is aGoal t b)) at (begun-row aGoal t b (omega arith) four refl))
   where
@@ -192,47 +191,56 @@ module _ (s : List ℕ) (at : ℕ) (h : at ≤ length s / lineLength) (e : readA
   unfolding subTerm
   term-cut = let d : lineLength * (length s / lineLength) - lineLength * at ≡ lineLength * m = omega arith in rw (e, d)
 
-  pub length-term : length (subTerm s at) ≡ lineLength * m
-  length-term = rw term-cut (simp (length-take, length-drop) (omega arith))
+-- where the length is a multiple of a line's, the lines from a line on are all that is left
+module _ (s : List ℕ) (at : ℕ) (h : at ≤ length s / lineLength) (z : length s % lineLength ≡ 0) where
+  left : drop (lineLength * at) s ≡ take (lineLength * (length s / lineLength - at)) (drop (lineLength * at) s)
+  left =
+      let d = length-drop (lineLength * at) s in
+      sym (take-all (lineLength * (length s / lineLength - at)) (drop (lineLength * at) s) (omega arith))
 
-  -- its lines are those of the sheet
-  pub term-triples : triples (subTerm s at) ≡ drop at (triples s)
-  term-triples =
-      let l = length-triples (subTerm s at) in
+  pub length-left : length (drop (lineLength * at) s) / lineLength ≡ length s / lineLength - at
+  length-left = let d = length-drop (lineLength * at) s in rw d (omega arith)
+
+  -- they are those of the sheet
+  pub left-triples : triples (drop (lineLength * at) s) ≡ drop at (triples s)
+  left-triples =
+      let l = length-triples (drop (lineLength * at) s) in
       let k = length-triples s in
-      let c = length-term in
+      let c = length-left in
       let d = length-drop at (triples s) in
-      ext-getD noTriple (triples (subTerm s at)) (drop at (triples s)) (omega arith) (λ i j.
-      triple-is (subTerm s at) i
-      ∙ ap tripleOf (ap (λ (x : List ℕ). lineAt x i) term-cut ∙ line s at m i (omega arith))
+      ext-getD noTriple (triples (drop (lineLength * at) s)) (drop at (triples s)) (omega arith) (λ i j.
+      triple-is (drop (lineLength * at) s) i
+      ∙ ap tripleOf (ap (λ (x : List ℕ). lineAt x i) left ∙ line s at (length s / lineLength - at) i (omega arith))
       ∙ sym (getD-drop at (triples s) i noTriple ∙ triple-is s (at + i)))
 
-  -- where the length is a multiple of a line's, the term's lines are all that is left
-  pub term-rest : length s % lineLength ≡ 0 → length s - lineLength * at ≡ lineLength * m
-  term-rest z = omega arith
+-- of a plan, the lines after that of kind 4 are those of its term
+pub term-part : (s : List ℕ) → check s ≡ Plan → drop (lineLength * afterGoal (triples s)) s ≡ subTerm s (afterGoal (triples s))
+term-part s e = left s (afterGoal (triples s)) (term-at s e) (whole-lines s e) ∙ sym (term-cut s (afterGoal (triples s)) (term-at s e) (term-read s e))
 
--- ---- the rows of a plan: its head's, and then its term's
-module _ (s : List ℕ) (e : check s ≡ Plan) (at : ℕ) (g : at ≡ afterGoal (triples s)) where
-  pub term-asked : (at ≤ length s / lineLength) × (length s % lineLength ≡ 0) × (readAt s (part aTerm ∷ []) at ≡ Next (length s / lineLength))
-  term-asked = rw g (term-at s e, whole-lines s e, term-read s e)
+-- a length that a sheet may have is a multiple of a line's
+pub whole-length : (n : ℕ) → lengthOk n ≡ true → n % lineLength ≡ 0
+whole-length n h = eqb-true (n % lineLength) 0 (and-eq-true-iff (leb n sheetBytes) _ .0 (and-eq-true-iff (ltb 0 n) _ .0 h .1) .1)
 
-  module _ (x : List ℕ) (q : x ≡ subTerm s at) where
+-- ---- the rows of a sheet: its head's, and then those from there on
+module _ (s : List ℕ) (e : lengthOk (length s) ≡ true) (at : ℕ) (g : at ≡ afterGoal (triples s)) where
+  pub head-ends : at ≤ length s / lineLength
+  head-ends = let h = goal-within (triples s) in let l = length-triples s in omega arith
+
+  module _ (x : List ℕ) (q : x ≡ drop (lineLength * at) s) where
     pub term-room : at + length x / lineLength ≡ length s / lineLength
     term-room =
-        let a = term-asked in
-        let h = a .0 in
-        let k : length x ≡ lineLength * (length s / lineLength - at) = rw q (length-term s at (a .0) (a .2)) in
-        omega arith
+        let h = head-ends in
+        let k = length-left s at head-ends (whole-length (length s) e) in
+        rw (q, k) (omega arith)
 
     pub all-put : (d₀ d₁ d₂ : List ℕ) → length d₀ ≡ 4 * (length s / lineLength) → putRows d₁ at (drop at (triples s)) ≡ putRows d₀ 0 (triples s) → d₂ ≡ putRows d₁ at (triples x)
         → (length d₂ ≡ 4 * length (triples s)) × (length (triples s) ≤ mostLines) × Bare (triples s) d₂ (length (triples s))
     all-put d₀ d₁ d₂ r p f =
-        let a = term-asked in
         let n = length-triples s in
-        let w : d₂ ≡ putRows d₀ 0 (triples s) = f ∙ ap (λ (y : List ℕ). putRows d₁ at (triples y)) q ∙ ap (putRows d₁ at) (term-triples s at (a .0) (a .2)) ∙ p in
+        let w : d₂ ≡ putRows d₀ 0 (triples s) = f ∙ ap (λ (y : List ℕ). putRows d₁ at (triples y)) q ∙ ap (putRows d₁ at) (left-triples s at head-ends (whole-length (length s) e)) ∙ p in
         let l = length-put (triples s) d₀ 0 in
         rw w (
           omega arith,
-          plan-few s e,
+          omega (arith, few-lines (length s) e),
           rows-bare (triples s) (triples s) 0 d₀ (omega arith) (zero-add _) (λ i h. ap (λ (m : ℕ). getD (triples s) m noTriple) (sym (zero-add i))) (λ j h. absurd (omega arith)),
         )

@@ -9,7 +9,7 @@ use Rattle.sizes.specs.Sizes.{highestName}
 use Rattle.spelling.specs.declared.Triple.{Triple}
 use Rattle.sheet.specs.Plan.{isUse, names}
 
--- a byte for each name
+-- an element for each name
 abbrev pub tableLength : ℕ
 tableLength = highestName + 1
 

@@ -1,29 +1,37 @@
 // The plan on a sheet: its lines, where a part starts, its entries, where its expected type and its term start, the plain mark.
-// A sheet is read once into rows, and the rules read those. A function that looks for a part's end asks for rows that have their ends, as `read_rows` gives them; the others take any words. What
-// they mean as a plan is for a sheet that `grammar::check_sheet` takes.
+// A sheet is read once into rows, and the rules read those. A function that looks for a part's end asks for rows that have their ends, as `read_plan` gives them; the others take any words. What
+// they mean as a plan is for a sheet that is one.
+use kinds::ARM;
+use kinds::PATTERN;
+use kinds::Row;
+use kinds::TERM;
+use kinds::TYPE;
+use kinds::fields_ok;
 use kinds::parts_of;
+use kinds::row_in;
+use kinds::table_words;
 use reading::next_of_sheet;
 use sizes::HIGHEST_NAME;
 use sizes::LINE_LENGTH;
 use spelling::Line;
 use spelling::Triple;
 ghost use mathlib.Core.Path.{_≡_};
-ghost use mathlib.Core.Bool.{not, cond, _||_};
+ghost use mathlib.Core.Bool.{true, not, cond, _&&_, _||_};
 ghost use mathlib.Core.List.{List, [], _∷_};
-ghost use Prim.Native.Nat.{_+_, _*_, _-_, _/_, _%_, _≤_, _<_};
+ghost use Prim.Native.Nat.{ℕ, _+_, _*_, _-_, _/_, _%_, _≤_, _<_};
 ghost use lib.ListN.{length, getD, set, take, drop};
 ghost use lib.Seq.{sets};
 ghost use Rattle.sizes.specs.Sizes.{lineLength, mostLines};
-ghost use Rattle.kinds.specs.Kinds.{aTerm};
-ghost use Rattle.grammar.specs.declared.Got.the-variants.{Next};
-ghost use Rattle.grammar.specs.declared.Check.the-variants.{Plan};
-ghost use Rattle.grammar.specs.Grammar.{part, readAt, subTerm};
-ghost use Rattle.grammar.specs.Check.{check};
+ghost use Rattle.kinds.specs.Kinds.{aGoal, rowOf, Tabled};
+ghost use Rattle.grammar.specs.Grammar.{part, entries, inOrder};
+ghost use Rattle.grammar.specs.Check.{lengthOk, check};
 ghost use Rattle.nodes.specs.Nodes.{number, words};
 ghost use Rattle.nodes.specs.Lists.{All};
 ghost use Rattle.sheet.specs.Plan.{noTriple, tripleOf, triples, partLine, lineNode, nodesOf, Narrow, isEntry, named, declarations, findEntry, entriesEnd, placesOf, isPlain, isUse, plainEntries, plainPlan};
 ghost use Rattle.sheet.specs.Used.{tableLength, markName, marked, isMarked, Tells, SmallNames};
-ghost use Rattle.sheet.specs.Rows.{packed, rowTriple, lineCount, rows, endAt, EndsFrom, Ended, setRow, putRows, Bare, afterGoal, RowAsk, linked, linkEntry, Unlinked, unlinkedWords, linkAll, sheetWords};
+ghost use Rattle.sheet.specs.Rows.{packed, rowTriple, lineCount, rows, endAt, binderAt, EndsFrom, Ended, setRow, putRows, Bare, afterGoal, RowAsk, KindsFrom, linked, linkEntry, Unlinked, Linked, unlinkedWords, linkAll, frontOf, setBinder, putBinders, quantified, bindType, bindAll, sheetWords};
+ghost use Rattle.sheet.specs.Binders.{putNames, binderBy, TellsPlaces, UpTo, markType, markAll, anyQuantified, Bindable, TypeAsk};
+ghost use Rattle.sheet.specs.Fit.{isPlan, forms, sortDue, walked, lineFits, allFit};
 
 // How many lines there are: each has a row of two words, and behind the rows two words that link the entries.
 pub fn line_count(s: &[u64]) -> usize
@@ -64,7 +72,22 @@ fn end_at(s: &[u64], i: usize) -> usize
     requires { ⌜ 2 * i + 1 < length (now s) ⌝ }
     ensures { λ r. ⌜ r ≡ endAt (now (s .entry)) i ⌝ }
 {
-    (s[2 * i + 1] / 268435456) as usize
+    (s[2 * i + 1] / 268435456 % 4096) as usize
+}
+
+// What stands above the end in a row's second word. A word's range is known of a parameter.
+fn binder_in(word: u64) -> u32
+    ensures { λ r. ⌜ (r ≡ word / 1099511627776) × (r < 16777216) ⌝ }
+{
+    (word / 1099511627776) as u32
+}
+
+// The place of the quantifier at the front of a constructor's type that binds the Var at line i, counted from 1; 0 where none does.
+pub fn binder_at(s: &[u64], i: usize) -> u32
+    requires { ⌜ 2 * i + 1 < length (now s) ⌝ }
+    ensures { λ r. ⌜ (r ≡ binderAt (now (s .entry)) i) × (r < 16777216) ⌝ }
+{
+    binder_in(s[2 * i + 1])
 }
 
 // The line after n whole parts that start at line `first` of so many lines, or the line count if they don't end; from `first` on the ends stand in the rows.
@@ -153,10 +176,10 @@ fn read_head(d: &mut [u64], s: &[u8]) -> usize
     at
 }
 
-// The lines of the plan's term, with which the sheet ends.
+// The lines from a line on. From the line after that of kind 4 on they are, of a plan, the lines of its term (`term-part`).
 fn term_lines(s: &[u8], at: usize) -> &[u8]
-    requires { ⌜ (at ≤ length (now s) / lineLength) × (length (now s) % lineLength ≡ 0) × (readAt (now s) (part aTerm ∷ []) at ≡ Next (length (now s) / lineLength)) ⌝ }
-    ensures { λ r. ⌜ now r ≡ subTerm (now (s .entry)) at ⌝ }
+    requires { ⌜ at ≤ length (now s) / lineLength ⌝ }
+    ensures { λ r. ⌜ now r ≡ drop (lineLength * at) (now (s .entry)) ⌝ }
 {
     &s[LINE_LENGTH * at..]
 }
@@ -176,39 +199,171 @@ fn read_part(d: &mut [u64], first: usize, s: &[u8])
     }
 }
 
-// The end of the part that starts at line i, where its own parts end; the ends of those after it stand in the rows.
-fn set_end(d: &mut [u64], s: &[u8], i: usize)
-    requires { ⌜ RowAsk (now d) (now s) i ⌝ }
-    ensures { λ _. ⌜ now (d .exit) ≡ set (now (d .entry)) (2 * i + 1) (packed (getD (triples (now (s .entry))) i noTriple) (partLine (triples (now (s .entry))) i 1)) ⌝ }
+fn both(a: bool, b: bool) -> bool
+    ensures { λ r. ⌜ r ≡ (a && b) ⌝ }
+{
+    if a { b } else { false }
+}
+
+// The sort of part p of those that follow a line of that row.
+fn sort_due(row: Row, p: u64) -> u64
+    requires { ⌜ (row .types ≤ 2) × (row .terms ≤ 3) ⌝ }
+    ensures { λ r. ⌜ r ≡ sortDue row p ⌝ }
+{
+    if p < row.types {
+        return TYPE;
+    }
+    let fixed = row.types + row.terms;
+    if p < fixed {
+        return TERM;
+    }
+    if row.each == ARM {
+        if (p - fixed) % 2 == 0 {
+            return PATTERN;
+        }
+        return TERM;
+    }
+    row.each
+}
+
+// The sort of part that starts at line i.
+fn sort_at(d: &[u64], words: &[u32; 44], i: usize) -> u64
+    requires { ⌜ (2 * i + 1 < length (now d)) × Tabled (now words) ⌝ }
+    ensures { λ r. ⌜ r ≡ rowOf (getD (now (d .entry)) (2 * i + 1) 0 % 1024) .sort ⌝ }
+{
+    let row = row_in(words, d[2 * i + 1] % 1024);
+    row.sort
+}
+
+// Where the parts that follow a line end, and whether the line fits in front of them.
+pub struct Walked {
+    pub line: usize,
+    pub fits: bool,
+}
+
+// Walks over the parts of line i, which says t, by their first lines; the rows after it have their ends. The line fits if its fields are in range and each part
+// starts with a line of the sort that is due there.
+fn walk_line(d: &[u64], words: &[u32; 44], lines: usize, i: usize, t: Triple) -> Walked
+    requires { ⌜ (2 * lines ≤ length (now d)) × (i < lines) × (t .count < 100000) × Tabled (now words) ⌝ }
+    ensures { λ r. ⌜ ((ls : List Triple) → length ls ≡ lines → EndsFrom ls (now (d .entry)) (i + 1) → KindsFrom ls (now (d .entry)) (i + 1) → r ≡ walked ls i t) ⌝ }
+{
+    let row = row_in(words, t.kind);
+    let parts = parts_of(row, t.count);
+    let mut at = i + 1;
+    let mut fits = fields_ok(row, t);
+    let mut p = 0;
+    while p < parts {
+        if lines <= at {
+            return Walked {
+                line: at,
+                fits: false,
+            };
+        }
+        let sort = sort_at(d, words, at);
+        let due = sort_due(row, p);
+        fits = both(fits, sort == due);
+        at = end_at(d, at);
+        p += 1;
+    }
+    Walked { line: at, fits }
+}
+
+// The end of the part that starts at line i, where its own parts end; the ends of those after it stand in the rows. Gives whether the line fits in front of them.
+fn set_end(d: &mut [u64], words: &[u32; 44], s: &[u8], i: usize) -> bool
+    requires { ⌜ RowAsk (now d) (now s) i × Tabled (now words) ⌝ }
+    ensures { λ r. ⌜ (now (d .exit) ≡ set (now (d .entry)) (2 * i + 1) (packed (getD (triples (now (s .entry))) i noTriple) (partLine (triples (now (s .entry))) i 1))) × (r ≡ lineFits (getD (triples (now (s .entry))) i noTriple) (drop (i + 1) (triples (now (s .entry))))) ⌝ }
 {
     let lines = s.len() / LINE_LENGTH;
     let t = row_triple(d[2 * i], d[2 * i + 1]);
-    let parts = parts_of(t) as usize;
-    let end = after_parts(d, lines, i + 1, parts);
-    d[2 * i + 1] = pack(t, end);
+    let w = walk_line(d, words, lines, i, t);
+    d[2 * i + 1] = pack(t, w.line);
+    w.fits
 }
 
-// The ends of all lines, the last one's first.
-fn set_ends(d: &mut [u64], s: &[u8])
-    requires { ⌜ (length (now d) ≡ 4 * length (triples (now s))) × (length (triples (now s)) ≤ mostLines) × Bare (triples (now s)) (now d) (length (triples (now s))) ⌝ }
-    ensures { λ _. ⌜ (rows (now (d .exit)) ≡ triples (now (s .entry))) × EndsFrom (rows (now (d .exit))) (now (d .exit)) 0 × Unlinked (now (d .exit)) × (now (d .exit) ≡ unlinkedWords (triples (now (s .entry)))) ⌝ }
+// The ends of all lines, the last one's first. Gives whether every line fits in front of those after it.
+fn set_ends(d: &mut [u64], words: &[u32; 44], s: &[u8]) -> bool
+    requires { ⌜ (length (now d) ≡ 4 * length (triples (now s))) × (length (triples (now s)) ≤ mostLines) × Bare (triples (now s)) (now d) (length (triples (now s))) × Tabled (now words) ⌝ }
+    ensures { λ r. ⌜ (rows (now (d .exit)) ≡ triples (now (s .entry))) × EndsFrom (rows (now (d .exit))) (now (d .exit)) 0 × Unlinked (now (d .exit)) × (now (d .exit) ≡ unlinkedWords (triples (now (s .entry)))) × (r ≡ allFit (triples (now (s .entry)))) ⌝ }
 {
     let mut i = s.len() / LINE_LENGTH;
+    let mut fits = true;
     while 0 < i {
         i -= 1;
-        set_end(d, s, i);
+        let here = set_end(d, words, s, i);
+        fits = both(here, fits);
+    }
+    fits
+}
+
+// The line of kind 4 and the term, with which the sheet ends.
+fn goal_ok(d: &[u64], at: usize) -> bool
+    requires { ⌜ EndsFrom (rows (now d)) (now d) 0 × (allFit (rows (now d)) ≡ true) ⌝ }
+    ensures { λ r. ⌜ r ≡ forms (drop at (rows (now (d .entry)))) (part aGoal ∷ []) ⌝ }
+{
+    let lines = line_count(d);
+    if at < lines {
+        let t = triple_at(d, at);
+        if t.kind == 4 {
+            return end_at(d, at) == lines;
+        }
+    }
+    false
+}
+
+// An entry of kind 2 comes after those of kind 1, and its name is above the last one of its kind.
+fn in_order(t: Triple, kind: u64, last: u64) -> bool
+    ensures { λ r. ⌜ r ≡ inOrder kind last t ⌝ }
+{
+    if t.kind == kind {
+        last < t.value
+    } else {
+        t.kind == 2
     }
 }
 
-// Reads the sheet of a plan: every word is fixed, those of the links too. The term is read from its own part of the sheet.
-pub fn read_rows(d: &mut [u64], s: &[u8])
-    requires { ⌜ (length (now d) ≡ 4 * (length (now s) / lineLength)) × (check (now s) ≡ Plan) ⌝ }
-    ensures { λ _. ⌜ (rows (now (d .exit)) ≡ triples (now (s .entry))) × Ended (now (d .exit)) × (now (d .exit) ≡ sheetWords (triples (now (s .entry)))) ⌝ }
+// The plan's own lines come in their order: entries, the expected type's, the goal's. All lines fit in front of those after them.
+fn top_ok(d: &[u64]) -> bool
+    requires { ⌜ EndsFrom (rows (now d)) (now d) 0 × (allFit (rows (now d)) ≡ true) ⌝ }
+    ensures { λ r. ⌜ r ≡ forms (rows (now (d .entry))) (entries 1 0 ∷ []) ⌝ }
+{
+    let lines = line_count(d);
+    let mut at = 0;
+    let mut kind: u64 = 1;
+    let mut last: u64 = 0;
+    while at < lines {
+        let t = triple_at(d, at);
+        if !is_entry(t) {
+            if t.kind == 3 {
+                return goal_ok(d, end_at(d, at));
+            }
+            return false;
+        }
+        if !in_order(t, kind, last) {
+            return false;
+        }
+        kind = t.kind;
+        last = t.value;
+        at = end_at(d, at);
+    }
+    false
+}
+
+// Reads a sheet once, to rows, and tells whether it is a plan: every word is fixed, those of the links too. The term is read from its own part of the sheet.
+pub fn read_plan(d: &mut [u64], s: &[u8]) -> bool
+    requires { ⌜ (length (now d) ≡ 4 * (length (now s) / lineLength)) × (lengthOk (length (now s)) ≡ true) ⌝ }
+    ensures { λ r. ⌜ (r ≡ isPlan (check (now (s .entry)))) × (now (d .exit) ≡ cond r (sheetWords (triples (now (s .entry)))) (unlinkedWords (triples (now (s .entry))))) × (r ≡ true → (rows (now (d .exit)) ≡ triples (now (s .entry))) × Ended (now (d .exit))) ⌝ }
 {
     let term = read_head(d, s);
     read_part(d, term, term_lines(s, term));
-    set_ends(d, s);
-    link_entries(d);
+    let words = table_words();
+    if set_ends(d, &words, s) {
+        if top_ok(d) {
+            link_entries(d);
+            bind_entries(d);
+            return true;
+        }
+    }
+    false
 }
 
 // Where the type of an entry stands: its first line, and how many lines it has.
@@ -287,7 +442,7 @@ fn link_entry(d: &mut [u64], at: usize)
 // Links every entry, so that one is found by a look or two and not by going through them.
 fn link_entries(d: &mut [u64])
     requires { ⌜ EndsFrom (rows (now d)) (now d) 0 × Unlinked (now d) ⌝ }
-    ensures { λ _. ⌜ (rows (now (d .exit)) ≡ rows (now (d .entry))) × Ended (now (d .exit)) × (now (d .exit) ≡ linkAll (now (d .entry)) (declarations (rows (now (d .entry))) 0 0)) ⌝ }
+    ensures { λ _. ⌜ (rows (now (d .exit)) ≡ rows (now (d .entry))) × Linked (now (d .exit)) × (now (d .exit) ≡ linkAll (now (d .entry)) (declarations (rows (now (d .entry))) 0 0)) ⌝ }
 {
     let lines = line_count(d);
     let mut at = 0;
@@ -298,6 +453,141 @@ fn link_entries(d: &mut [u64])
         } else {
             return;
         }
+    }
+}
+
+// A line number for each name: the line after the last quantifier that bound it, 0 for none.
+fn set_name(last: &mut [u16], name: u64, line: u16)
+    requires { ⌜ length (now last) ≡ tableLength ⌝ }
+    ensures { λ _. ⌜ now (last .exit) ≡ set (now (last .entry)) name line ⌝ }
+{
+    if name <= HIGHEST_NAME {
+        last[name as usize] = line;
+    }
+}
+
+// The names that the quantifiers at the front of a type bind; the type is the lines from `first` up to `end`.
+fn mark_front(last: &mut [u16], s: &[u64], first: usize, end: usize)
+    requires { ⌜ (length (now last) ≡ tableLength) × (end < 65536) ⌝ }
+    ensures { λ _. ⌜ now (last .exit) ≡ putNames (now (last .entry)) first (frontOf (take (end - first) (drop first (rows (now (s .entry)))))) ⌝ }
+{
+    let mut i = first;
+    while i < end {
+        let t = triple_at(s, i);
+        if t.kind == 14 {
+            set_name(last, t.value, (i + 1) as u16);
+            i += 1;
+        } else {
+            return;
+        }
+    }
+}
+
+// Which quantifier at the front of a type that starts at line `first` binds a line of it, counted from 1; 0 for none.
+fn binder_of(last: &[u16], first: usize, t: Triple) -> usize
+    requires { ⌜ length (now last) ≡ tableLength ⌝ }
+    ensures { λ r. ⌜ (r ≡ binderBy (now (last .entry)) first t) × (r < 65536) ⌝ }
+{
+    if t.kind == 11 {
+        if t.value <= HIGHEST_NAME {
+            let line = last[t.value as usize] as usize;
+            if first < line {
+                return line - first;
+            }
+        }
+    }
+    0
+}
+
+// Writes the binder of line i of such a type above the line's end.
+fn set_binder(d: &mut [u64], last: &[u16], first: usize, i: usize)
+    requires { ⌜ (length (now last) ≡ tableLength) × (i < length (rows (now d))) ⌝ }
+    ensures { λ _. ⌜ now (d .exit) ≡ setBinder (now (d .entry)) i (binderBy (now (last .entry)) first (getD (rows (now (d .entry))) i noTriple)) ⌝ }
+{
+    let binder = binder_of(last, first, triple_at(d, i));
+    d[2 * i + 1] = d[2 * i + 1] % 1099511627776 + 1099511627776 * (binder as u64);
+}
+
+// Those of all its lines, up to `end`.
+fn set_binders(d: &mut [u64], last: &[u16], first: usize, end: usize)
+    requires { ⌜ (length (now last) ≡ tableLength) × (end ≤ length (rows (now d))) ⌝ }
+    ensures { λ _. ⌜ ((xs : List ℕ) → TellsPlaces (now (last .entry)) first xs → now (d .exit) ≡ putBinders (now (d .entry)) first xs (take (end - first) (drop first (rows (now (d .entry)))))) ⌝ }
+{
+    let mut i = first;
+    while i < end {
+        set_binder(d, last, first, i);
+        i += 1;
+    }
+}
+
+// An entry with the line t is a constructor, and its type, which starts at line `first`, begins with a quantifier.
+fn is_quantified(s: &[u64], t: Triple, first: usize) -> bool
+    ensures { λ r. ⌜ r ≡ quantified (rows (now (s .entry))) t first ⌝ }
+{
+    if t.kind == 1 {
+        let u = triple_at(s, first);
+        return u.kind == 14;
+    }
+    false
+}
+
+// The binders of one entry's type. What older types bound stands in the table by lines before this one's, and needs no clearing.
+fn bind_type(d: &mut [u64], last: &mut [u16], t: Triple, first: usize, end: usize)
+    requires { ⌜ TypeAsk (now d) (now last) first end ⌝ }
+    ensures { λ _. ⌜ (now (d .exit) ≡ bindType (rows (now (d .entry))) (now (d .entry)) t first (end - first)) × (now (last .exit) ≡ markType (rows (now (d .entry))) (now (last .entry)) t first (end - first)) ⌝ }
+{
+    if is_quantified(d, t, first) {
+        mark_front(last, d, first, end);
+        set_binders(d, last, first, end);
+    }
+}
+
+// Those of every entry's.
+fn bind_types(d: &mut [u64], last: &mut [u16])
+    requires { ⌜ Bindable (now d) × (length (now last) ≡ tableLength) × UpTo (now last) 0 ⌝ }
+    ensures { λ _. ⌜ (now (d .exit) ≡ bindAll (rows (now (d .entry))) (now (d .entry)) (declarations (rows (now (d .entry))) 0 0)) × (now (last .exit) ≡ markAll (rows (now (d .entry))) (now (last .entry)) (declarations (rows (now (d .entry))) 0 0)) ⌝ }
+{
+    let lines = line_count(d);
+    let mut at = 0;
+    while at < lines {
+        let t = triple_at(d, at);
+        if is_entry(t) {
+            let end = after_parts(d, lines, at + 1, 1);
+            bind_type(d, last, t, at + 1, end);
+            at = end;
+        } else {
+            return;
+        }
+    }
+}
+
+fn any_quantified(s: &[u64]) -> bool
+    requires { ⌜ EndsFrom (rows (now s)) (now s) 0 ⌝ }
+    ensures { λ r. ⌜ r ≡ anyQuantified (rows (now (s .entry))) (declarations (rows (now (s .entry))) 0 0) ⌝ }
+{
+    let lines = line_count(s);
+    let mut at = 0;
+    while at < lines {
+        let t = triple_at(s, at);
+        if !is_entry(t) {
+            return false;
+        }
+        if is_quantified(s, t, at + 1) {
+            return true;
+        }
+        at = after_parts(s, lines, at + 1, 1);
+    }
+    false
+}
+
+// Writes the binders of the constructors' types. Most plans have none, and then no table is made.
+fn bind_entries(d: &mut [u64])
+    requires { ⌜ Bindable (now d) ⌝ }
+    ensures { λ _. ⌜ (rows (now (d .exit)) ≡ rows (now (d .entry))) × Ended (now (d .exit)) × (now (d .exit) ≡ bindAll (rows (now (d .entry))) (now (d .entry)) (declarations (rows (now (d .entry))) 0 0)) ⌝ }
+{
+    if any_quantified(d) {
+        let mut last = [0u16; TABLE_LENGTH];
+        bind_types(d, &mut last);
     }
 }
 
@@ -380,7 +670,7 @@ fn is_use(kind: u64) -> bool
     kind == 43
 }
 
-// A byte for each name.
+// An element for each name.
 const TABLE_LENGTH: usize = HIGHEST_NAME as usize + 1;
 
 // Marks the name that a line uses, if it uses one.
@@ -481,7 +771,7 @@ pub fn is_plain(s: &[u64]) -> bool
 }
 
 // A line's number as a node: a Product's is its count.
-fn node_number(t: Triple) -> u64
+pub fn node_number(t: Triple) -> u64
     ensures { λ r. ⌜ r ≡ number (lineNode t) ⌝ }
 {
     if t.kind == 16 {

@@ -1,10 +1,11 @@
 // How a sheet's lines are spelt: fields of decimal numbers, lines of 29 bytes.
 ghost use mathlib.Core.Path.{_≡_};
-ghost use mathlib.Core.Bool.{_&&_};
+ghost use mathlib.Core.Bool.{false, _&&_};
 ghost use Prim.Native.Nat.{_+_, _*_, _-_, _/_, _≤_, _<_};
 ghost use lib.Dec.{eqb};
 ghost use lib.ListN.{length};
 ghost use Rattle.spelling.specs.Spelling.{digitStep, otherStep, step, fieldFrom, blank, spacesFrom, unsigned, magnitude, minus, signOk, lineOf, lineAt, linesOf, firstMisspelt};
+ghost use Rattle.spelling.specs.Few.{plain, roomy, fewAt};
 use sizes::LINE_LENGTH;
 
 // What the bytes of a field read so far spell.
@@ -31,6 +32,9 @@ pub enum Line {
     Spelt(Triple),
     Misspelt,
 }
+
+// Stands in place of a number of at most four digits where there is none.
+const NO_NUMBER: u64 = 100000;
 
 // One digit more. A number that starts with 0 takes none, and no number passes 2^63.
 fn digit_step(f: Field, d: u64) -> Field
@@ -234,12 +238,120 @@ fn line_of(k: Field, v: Field, c: Field, e: u8) -> Line
     })
 }
 
+// Two bytes after spaces.
+fn last_two(a: u8, b: u8) -> u64
+    ensures { λ r. ⌜ r ≡ plain (step (step Field.Blank a) b) ⌝ }
+{
+    if b < 48 {
+        return NO_NUMBER;
+    }
+    if 57 < b {
+        return NO_NUMBER;
+    }
+    let low = (b - 48) as u64;
+    if a == 32 {
+        return low;
+    }
+    if a < 49 {
+        return NO_NUMBER;
+    }
+    if 57 < a {
+        return NO_NUMBER;
+    }
+    10 * ((a - 48) as u64) + low
+}
+
+// Two bytes after the digits of a number above 0.
+fn two_more(n: u64, a: u8, b: u8) -> u64
+    requires { ⌜ (0 < n) × (n < 100) ⌝ }
+    ensures { λ r. ⌜ r ≡ plain (step (step (Field.Number false n) a) b) ⌝ }
+{
+    if a < 48 {
+        return NO_NUMBER;
+    }
+    if 57 < a {
+        return NO_NUMBER;
+    }
+    if b < 48 {
+        return NO_NUMBER;
+    }
+    if 57 < b {
+        return NO_NUMBER;
+    }
+    10 * (10 * n + ((a - 48) as u64)) + ((b - 48) as u64)
+}
+
+// Four bytes after spaces.
+fn last_four(s: &[u8], at: usize) -> u64
+    requires { ⌜ at + 4 ≤ length (now s) ⌝ }
+    ensures { λ r. ⌜ r ≡ plain (fieldFrom (now (s .entry)) at 4 Field.Blank) ⌝ }
+{
+    if s[at + 1] == 32 {
+        if s[at] == 32 {
+            return last_two(s[at + 2], s[at + 3]);
+        }
+        return NO_NUMBER;
+    }
+    let n = last_two(s[at], s[at + 1]);
+    if n == 0 {
+        return NO_NUMBER;
+    }
+    if n < 100 {
+        return two_more(n, s[at + 2], s[at + 3]);
+    }
+    NO_NUMBER
+}
+
+// Columns 1, 4 to 19 and 24 to 26 are spaces, and LF stands at the end.
+fn is_roomy(s: &[u8], at: usize) -> bool
+    requires { ⌜ at + 29 ≤ length (now s) ⌝ }
+    ensures { λ r. ⌜ r ≡ roomy (now (s .entry)) at ⌝ }
+{
+    if s[at + 28] != 10 {
+        return false;
+    }
+    let all = still(sixteen_spaces(s, at + 3), s[at]);
+    still(still(still(all, s[at + 23]), s[at + 24]), s[at + 25])
+}
+
+// The line from the byte at, if its kind and count have at most two digits and its value at most four and no sign, as
+// in most lines. Misspelt says here that it is no such line, not that it is misspelt.
+fn few_at(s: &[u8], at: usize) -> Line
+    requires { ⌜ at + 29 ≤ length (now s) ⌝ }
+    ensures { λ r. ⌜ r ≡ fewAt (now (s .entry)) at ⌝ }
+{
+    if !is_roomy(s, at) {
+        return Line::Misspelt;
+    }
+    let kind = last_two(s[at + 1], s[at + 2]);
+    if NO_NUMBER <= kind {
+        return Line::Misspelt;
+    }
+    let value = last_four(s, at + 19);
+    if NO_NUMBER <= value {
+        return Line::Misspelt;
+    }
+    let count = last_two(s[at + 26], s[at + 27]);
+    if NO_NUMBER <= count {
+        return Line::Misspelt;
+    }
+    Line::Spelt(Triple {
+        kind: kind,
+        negative: false,
+        value: value,
+        count: count,
+    })
+}
+
 // The line at i, counted from 0. What lies past the last whole line is misspelt.
 pub fn line_at(s: &[u8], i: usize) -> Line
     ensures { λ r. ⌜ r ≡ lineAt (now (s .entry)) i ⌝ }
 {
     if i < s.len() / LINE_LENGTH {
         let at = LINE_LENGTH * i;
+        if let Line::Spelt(t) = few_at(s, at) {
+            return Line::Spelt(t);
+        }
         let k = field_at(s, at, 3);
         let v = field_at(s, at + 3, 20);
         let c = field_at(s, at + 23, 5);

@@ -14,8 +14,8 @@ use Rattle.nodes.specs.Nodes.{Ty}
 use Rattle.spelling.specs.declared.Triple.{Triple}
 use Rattle.references.specs.declared.TypeRef.{TypeRef}
 use Rattle.references.specs.declared.Split.{Split}
-use Rattle.references.specs.References.{typeOf, instanceOut, pendingOf, parameterOf, othersOf, splitOf, Frame, Halved}
-use Rattle.tables.specs.Rows.{refAt, row, typesOf, Frames, topOf, nextOf, nextWords, nextScratch, Taken}
+use Rattle.references.specs.References.{typeOf, pendingOf, parameterOf, othersOf, splitOf, Frame, Halved}
+use Rattle.tables.specs.Rows.{refAt, row, typesOf, Frames, topOf, nextOf, nextWords, Taken}
 use Rattle.tables.proofs.Tables.{Same, ref-stored, other-row}
 
 none-left : (l : List Ty) → ltb 0 (length l) ≡ false → l ≡ []
@@ -88,14 +88,6 @@ module _ (ls : List Triple) where
           words = v ∙ ap (λ (q : TypeRef). nextWords ls q n w) e;
           answer = u ∙ ap (λ (q : TypeRef). nextOf ls q n) e;
         }
-
-    pub scratch-alone : (o : List ℕ) → r .lines ≡ 0 → o ≡ nextScratch ls (topOf w n) o
-    unfolding nextScratch
-    scratch-alone o z = let v : o ≡ nextScratch ls r o = rw (eq-eqb (r .lines) 0 z) in v ∙ ap (λ (q : TypeRef). nextScratch ls q o) e
-
-    pub scratch-written : (o o' : List ℕ) → 0 < r .lines → o' ≡ instanceOut ls r o → o' ≡ nextScratch ls (topOf w n) o
-    unfolding nextScratch
-    scratch-written o o' z q = let v : o' ≡ nextScratch ls r o = rw (ne-eqb (r .lines) 0 (omega arith)) q in v ∙ ap (λ (y : TypeRef). nextScratch ls y o) e
 
     module _ (z : 0 < r .lines) (h : Split) (d : Halved ls r h) where
       types-d : typesOf ls w n ≡ typeOf ls (parameterOf r (h .count)) ∷ (pendingOf ls (othersOf r (h .count)) ++ typesOf ls w (n - 1))

@@ -11,7 +11,7 @@ use Rattle.spelling.specs.declared.Triple.{Triple}
 use Rattle.sheet.specs.Plan.{_∶_, Bindings}
 use Rattle.judgment.specs.Rules.{insert}
 use Rattle.references.specs.declared.TypeRef.{TypeRef}
-use Rattle.references.specs.References.{typeOf, instanceOut, pendingOf, Good, Frame, parameterOf, othersOf, splitOf}
+use Rattle.references.specs.References.{typeOf, pendingOf, Good, Frame, parameterOf, othersOf, splitOf}
 use Rattle.tables.specs.declared.Upcoming.{Upcoming}
 
 abbrev pub nameAt : List ℕ → ℕ → ℕ
@@ -35,7 +35,7 @@ Frames ls w (suc i) = Frame ls (refAt w i) × Frames ls w i
 abbrev pub topOf : List ℕ → ℕ → TypeRef
 topOf w n = refAt w (n - 1)
 
--- The first pending type is taken off r, the top of n frames: the type that is wanted and how many frames are left, then every word of the stack, then of the scratch.
+-- The first pending type is taken off r, the top of n frames: the type that is wanted and how many frames are left, then every word of the stack.
 -- An unknown is wanted itself, and none follow it.
 unfoldable pub nextOf : List Triple → TypeRef → ℕ → Upcoming
 nextOf ls r n =
@@ -46,9 +46,6 @@ unfoldable pub nextWords : List Triple → TypeRef → ℕ → List ℕ → List
 nextWords ls r n w =
     let h = splitOf ls r in
     cond (h .more) (sets w (6 * (n - 1)) (row 0 (othersOf r (h .count)))) w
-
-unfoldable pub nextScratch : List Triple → TypeRef → List ℕ → List ℕ
-nextScratch ls r o = cond (eqb (r .lines) 0) o (instanceOut ls r o)
 
 -- w and w' are the words of the stack before and after
 pub record Taken (ls : List Triple) (w : List ℕ) (n : ℕ) (w' : List ℕ) (u : Upcoming) : Type 0 where

@@ -4,12 +4,11 @@ ghost use mathlib.Core.List.{List, _++_};
 ghost use Prim.Native.Nat.{_+_, _*_, _-_, _≤_, _<_};
 ghost use lib.ListN.{length};
 ghost use lib.Seq.{sets};
-ghost use Rattle.sizes.specs.Sizes.{typeWords};
 ghost use Rattle.nodes.specs.Nodes.{Ty};
 ghost use Rattle.spelling.specs.declared.Triple.{Triple};
-ghost use Rattle.sheet.specs.Rows.{rows};
+ghost use Rattle.sheet.specs.Rows.{rows, Ended};
 ghost use Rattle.judgment.specs.Rules.{insert as inserted};
-ghost use Rattle.tables.specs.Rows.{nameAt, refAt, row, Frames, topOf, nextScratch, Taken, bindingsAt, placeFrom, named, lifted, Inserts};
+ghost use Rattle.tables.specs.Rows.{nameAt, refAt, row, Frames, Taken, bindingsAt, placeFrom, named, lifted, Inserts};
 use references::TypeRef;
 use references::split_frame;
 
@@ -104,10 +103,10 @@ pub struct Upcoming {
     pub depth: usize,
 }
 
-// Takes the first pending type off the stack of frames. `scratch` is for the nodes of a type.
-pub fn next(s: &[u64], w: &mut [usize], depth: usize, scratch: &mut [u32]) -> Upcoming
-    requires { ⌜ Frames (rows (now s)) (now w) depth × (0 < depth) × (6 * depth ≤ length (now w)) × (typeWords ≤ length (now scratch)) ⌝ }
-    ensures { λ n. ⌜ Taken (rows (now (s .entry))) (now (w .entry)) depth (now (w .exit)) n × (now (scratch .exit) ≡ nextScratch (rows (now (s .entry))) (topOf (now (w .entry)) depth) (now (scratch .entry))) ⌝ }
+// Takes the first pending type off the stack of frames.
+pub fn next(s: &[u64], w: &mut [usize], depth: usize) -> Upcoming
+    requires { ⌜ Frames (rows (now s)) (now w) depth × (0 < depth) × (6 * depth ≤ length (now w)) × Ended (now s) ⌝ }
+    ensures { λ n. ⌜ Taken (rows (now (s .entry))) (now (w .entry)) depth (now (w .exit)) n ⌝ }
 {
     let i = depth - 1;
     let top = get(w, i);
@@ -121,7 +120,7 @@ pub fn next(s: &[u64], w: &mut [usize], depth: usize, scratch: &mut [u32]) -> Up
             depth: i,
         };
     }
-    let h = split_frame(scratch, s, top);
+    let h = split_frame(s, top);
     let m = h.count;
     let rest = top.count - 1 - m;
     let want = TypeRef {

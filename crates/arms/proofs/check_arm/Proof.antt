@@ -63,7 +63,7 @@ push-vars-requires c κs =
     let h = p .lent .left in
     let v = c .before .before .before .before .before .before .before .before .before .before .before .before .before .before .check-pattern .kept .1 .1 .1 .1 .1 .1 .1 .0 in
     let l = c .before .before .before .before .before .before .before .before .before .before .before .before .before .before .check-pattern .kept .1 .1 .1 .1 .1 .1 .1 .1 .0 in
-    record { ready = C .turn .ready; sound = C .sound; few = omega arith; rows = omega arith; left = omega arith }
+    (record { ready = C .turn .ready; sound = C .sound; few = omega arith; rows = omega arith; left = omega arith }, c .before .before .before .before .before .before .before .before .before .before .before .before .before .before .before .before .before .before .before .before .before .before .before .before .before .before .before .before .pre .1)
 
 cast-push-chk : tie.Need-cast-push-chk
 cast-push-chk c =

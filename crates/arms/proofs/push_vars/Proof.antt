@@ -1,5 +1,6 @@
 use borrow.Author.Needs.{needs}
-use mathlib.Core.Path.{_≡_, refl, _∙_}
+use borrow.Author.Tests.{not-true, not-false}
+use mathlib.Core.Path.{_≡_, refl, sym, _∙_}
 use Prim.Native.Nat.{ℕ, _-_}
 use native.Mathlib.Omega.{arith}
 use denote.Ref.{now}
@@ -8,8 +9,8 @@ use Rattle.sheet.specs.Rows.{rows}
 use Rattle.judgment.specs.Rules.{pushVars}
 use Rattle.tables.specs.Rows.{bindingsAt}
 use Rattle.patterns.specs.Turns.{Turn}
-use Rattle.arms.proofs.Vars.{Left, vars-start, vars-turn, vars-end, row-good, row-fits}
-use Rattle.arms.proofs.Rooms.{Vars, room-start, room-var, room-vars}
+use Rattle.arms.proofs.Vars.{Left, vars-start, vars-turn, vars-halt, vars-end, row-good, row-fits}
+use Rattle.arms.proofs.Rooms.{Vars, room-start, room-var, room-halt, room-vars}
 use Rattle.arms.proofs.push_vars.Statement.{statement}
 use Rattle.arms.proofs.push_vars.Tie as tie
 
@@ -20,61 +21,74 @@ abbrev μ-loop : tie.MeasureT-loop
 μ-loop board₀ s v n l₀ run₀ i₀ board l run i = n - i
 
 loop-holds : tie.Need-loop-holds Inv-loop μ-loop
-loop-holds c = (vars-start (rows (now (c .before .before .before .before .args .s))) (now (c .before .before .before .before .args .v)) (c .before .before .before .before .args .n) (c .before .before .before .before .pre .ready), refl, refl, room-start (rows (now (c .before .before .before .before .args .s))) (now (c .before .before .before .before .args .v)) (c .before .before .before .before .args .n) _ _)
-
-get-requires : tie.Need-get-requires Inv-loop μ-loop
-get-requires c κs = omega (arith, c .before .before .before .before .before .before .pre .rows)
-
-mul-name : tie.Need-mul-name Inv-loop μ-loop
-mul-name c = omega (arith, c .before .loop-test .taken, c .before .before .before .before .before .before .before .pre .rows)
-
-mul-name-2 : tie.Need-mul-name-2 Inv-loop μ-loop
-mul-name-2 c = omega (arith, c .before .loop-test .taken, c .before .before .before .before .before .before .before .pre .rows)
-
-shared-slice-read-name : tie.Need-shared-slice-read-name Inv-loop μ-loop
-shared-slice-read-name c = omega (arith, c .before .before .loop-test .taken, c .before .before .before .before .before .before .before .before .pre .rows)
-
-cast-name : tie.Need-cast-name Inv-loop μ-loop
-cast-name c = omega (arith, c .before .before .before .before .before .before .before .before .pre .sound (c .before .before .before .loop .i) (c .before .before .loop-test .taken) .1)
-
-mul-at : tie.Need-mul-at Inv-loop μ-loop
-mul-at c = omega (arith, row-fits (c .before .before .before .before .before .before .before .before .before .pre) (c .before .before .before .loop-test .taken) (c .before .before .get .ensures))
-
-instance-requires : tie.Need-instance-requires Inv-loop μ-loop
-instance-requires c κs =
-    let p = c .before .before .before .before .before .before .before .before .before .before .pre in
-    let g = row-good p (c .before .before .before .before .loop-test .taken) (c .before .before .before .get .ensures) in
-    let y = c .before .before .before .before .before .loop .inv .2 in
-    (g, omega arith, omega arith)
-
-push-var-requires : tie.Need-push-var-requires Inv-loop μ-loop
-push-var-requires c κs =
-    let L = c .before .before .before .before .before .before .before .before .before .before .loop in
-    let f = row-fits (c .before .before .before .before .before .before .before .before .before .before .before .before .before .before .before .pre) (c .before .before .before .before .before .before .before .before .before .loop-test .taken) (c .before .before .before .before .before .before .before .before .get .ensures) in
-    (L .inv .0 .ready .board, omega (arith, c .before .before .before .before .before .before .before .before .before .before .before .before .before .before .before .pre .left, L .inv .2, c .before .before .before .before .instance .kept .0))
-
-add-i : tie.Need-add-i Inv-loop μ-loop
-add-i c = omega (arith, c .before .before .before .before .before .before .before .before .before .before .before .before .loop-test .taken, c .before .before .before .before .before .before .before .before .before .before .before .before .before .before .before .before .before .before .pre .few)
-
-loop-less : tie.Need-loop-less Inv-loop μ-loop
-loop-less c = omega (arith, c .before .before .before .before .before .before .before .before .before .before .before .before .loop-test .taken)
-
-loop-again : tie.Need-loop-again Inv-loop μ-loop
-loop-again c =
-    let a = c .before .before .before .before .before .before .before .before .before .before .before .before .before .before .before .before .before .before .args in
-    let L = c .before .before .before .before .before .before .before .before .before .before .before .before .before .loop in
-    let G = c .before .before .before .before .before .before .before .before .before .before .before .get in
-    let I = c .before .before .before .before .before .before .before .instance in
-    (vars-turn (rows (now (a .s))) (now (a .v)) (a .n) (L .i) (c .before .before .before .before .before .before .before .before .before .before .before .get .result) _ (L .inv .0) (c .before .before .before .before .before .before .before .before .before .before .before .before .loop-test .taken) (c .before .before .before .before .before .before .before .before .before .before .before .get .ensures) (c .before .before .before .before .before .before .before .instance .ensures .0) (c .before .before .push-var .ensures), c .before .before .push-var .kept .0 ∙ L .inv .1, c .before .before .before .before .before .before .before .instance .kept .0 ∙ L .inv .2, room-var (rows (now (a .s))) (now (a .v)) (a .n) (G .result) _ (L .inv .3) (c .before .before .before .before .before .before .before .before .before .before .before .before .loop-test .taken) (G .ensures) (I .ensures .0) (I .ensures .1) (c .before .before .push-var .ensures .0))
+loop-holds c = let a = c .before .before .before .before .args in (vars-start (rows (now (a .s))) (now (a .v)) (a .n) (c .before .before .before .before .pre .0 .ready), refl, refl, room-start (rows (now (a .s))) (now (a .v)) (a .n) _ _)
 
 same-length : tie.Need-same-length Inv-loop μ-loop
-same-length c = c .before .loop .inv .1
+same-length c = c .before .before .before .loop .inv .1
 
 same-length-2 : tie.Need-same-length-2 Inv-loop μ-loop
-same-length-2 c = c .before .loop .inv .2
+same-length-2 c = c .before .before .before .loop .inv .2
 
 returns : tie.Need-returns Inv-loop μ-loop
 returns c =
+    let a = c .before .before .before .before .before .before .before .before .args in
+    let L = c .before .before .before .loop in
+    let e = sym (c .before .is-going .ensures) ∙ not-true (c .before .is-going .result) (c .if1 .taken) in
+    let W = room-halt (rows (now (a .s))) (now (a .v)) (a .n) (L .run) e (L .inv .3) in
+    (vars-halt (rows (now (a .s))) (now (a .v)) (a .n) (L .i) (L .inv .0) e, W .0, W .1)
+
+get-requires : tie.Need-get-requires Inv-loop μ-loop
+get-requires c κs = omega (arith, c .before .before .loop-test .taken, c .before .before .before .before .before .before .before .before .pre .0 .rows)
+
+mul-name : tie.Need-mul-name Inv-loop μ-loop
+mul-name c = omega (arith, c .before .before .before .loop-test .taken, c .before .before .before .before .before .before .before .before .before .pre .0 .rows)
+
+mul-name-2 : tie.Need-mul-name-2 Inv-loop μ-loop
+mul-name-2 c = omega (arith, c .before .before .before .loop-test .taken, c .before .before .before .before .before .before .before .before .before .pre .0 .rows)
+
+shared-slice-read-name : tie.Need-shared-slice-read-name Inv-loop μ-loop
+shared-slice-read-name c = omega (arith, c .before .before .before .before .loop-test .taken, c .before .before .before .before .before .before .before .before .before .before .pre .0 .rows)
+
+cast-name : tie.Need-cast-name Inv-loop μ-loop
+cast-name c = omega (arith, c .before .before .before .before .before .before .before .before .before .before .pre .0 .sound (c .before .before .before .before .before .loop .i) (c .before .before .before .before .loop-test .taken) .1)
+
+instance-requires : tie.Need-instance-requires Inv-loop μ-loop
+instance-requires c κs =
+    let p = c .before .before .before .before .before .before .before .before .before .before .before .pre .0 in
+    let f = row-fits p (c .before .before .before .before .before .loop-test .taken) (c .before .before .get .ensures) in
+    let y = c .before .before .before .before .before .before .loop .inv .2 in
+    (row-good p (c .before .before .before .before .before .loop-test .taken) (c .before .before .get .ensures), c .before .before .before .before .before .before .before .before .before .before .before .pre .1, omega (arith, f, y))
+
+push-var-requires : tie.Need-push-var-requires Inv-loop μ-loop
+push-var-requires c κs =
+    let L = c .before .before .before .before .before .before .before .before .before .before .before .loop in
+    let f = row-fits (c .before .before .before .before .before .before .before .before .before .before .before .before .before .before .before .before .pre .0) (c .before .before .before .before .before .before .before .before .before .before .loop-test .taken) (c .before .before .before .before .before .before .before .get .ensures) in
+    (L .inv .0 .ready .board, omega (arith, f, L .inv .2, c .before .before .before .before .instance .kept .0))
+
+add-i : tie.Need-add-i Inv-loop μ-loop
+add-i c = omega (arith, c .before .before .before .before .before .before .before .before .before .before .before .before .before .loop-test .taken, c .before .before .before .before .before .before .before .before .before .before .before .before .before .before .before .before .before .before .before .pre .0 .few)
+
+loop-less : tie.Need-loop-less Inv-loop μ-loop
+loop-less c = omega (arith, c .before .before .before .before .before .before .before .before .before .before .before .before .before .loop-test .taken)
+
+loop-again : tie.Need-loop-again Inv-loop μ-loop
+loop-again c =
+    let a = c .before .before .before .before .before .before .before .before .before .before .before .before .before .before .before .before .before .before .before .args in
+    let L = c .before .before .before .before .before .before .before .before .before .before .before .before .before .before .loop in
+    let G = c .before .before .before .before .before .before .before .before .before .before .get in
+    let I = c .before .before .before .before .before .before .before .instance in
+    let P = c .before .before .push-var in
+    let e = sym (c .before .before .before .before .before .before .before .before .before .before .before .before .is-going .ensures) ∙ not-false (c .before .before .before .before .before .before .before .before .before .before .before .before .is-going .result) (c .before .before .before .before .before .before .before .before .before .before .before .if1 .left) in
+    (vars-turn (rows (now (a .s))) (now (a .v)) (a .n) (L .i) (G .result) _ (L .inv .0) (c .before .before .before .before .before .before .before .before .before .before .before .before .before .loop-test .taken) (G .ensures) (I .ensures .0) (P .ensures), P .kept .0 ∙ L .inv .1, I .kept .0 ∙ L .inv .2, room-var (rows (now (a .s))) (now (a .v)) (a .n) (G .result) _ (L .inv .3) e (c .before .before .before .before .before .before .before .before .before .before .before .before .before .loop-test .taken) (G .ensures) (I .ensures .0) (I .ensures .1) (P .ensures .0))
+
+same-length-3 : tie.Need-same-length-3 Inv-loop μ-loop
+same-length-3 c = c .before .loop .inv .1
+
+same-length-4 : tie.Need-same-length-4 Inv-loop μ-loop
+same-length-4 c = c .before .loop .inv .2
+
+returns-2 : tie.Need-returns-2 Inv-loop μ-loop
+returns-2 c =
     let a = c .before .before .before .before .before .before .args in
     let z = c .loop-test .left in
     let L = c .before .loop in
@@ -83,4 +97,4 @@ returns c =
 
 pub push-vars-spec : {M : Type 1} → statement M
 push-vars-spec =
-    tie.close (tie.spec Inv-loop μ-loop loop-holds get-requires mul-name mul-name-2 shared-slice-read-name cast-name mul-at instance-requires push-var-requires add-i loop-less loop-again same-length same-length-2 returns)
+    tie.close (tie.spec Inv-loop μ-loop loop-holds (λ c κs. search needs) same-length same-length-2 returns get-requires mul-name mul-name-2 shared-slice-read-name cast-name instance-requires push-var-requires add-i loop-less loop-again same-length-3 same-length-4 returns-2)

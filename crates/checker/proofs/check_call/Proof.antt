@@ -1,11 +1,10 @@
-use mathlib.Core.Path.{refl, sym, _∙_}
-use mathlib.Core.Logic.{inl, inr}
+use mathlib.Core.Path.{sym, _∙_}
 use Prim.Native.Nat.{_≤_}
 use native.Mathlib.Omega.{arith}
 use denote.Ref.{now}
 use Rattle.sizes.specs.Sizes.{highestCeiling}
 use Rattle.judgment.specs.Result.{Buffers}
-use Rattle.checker.proofs.Answering.{high-ceiling, bad-limit, low-limit, short-buffer, refused-by, front-asks, answered, line-word}
+use Rattle.checker.proofs.Answering.{high-ceiling, bad-limit, low-limit, short-buffer, bad-length, front-asks, answered}
 use Rattle.operations.specs.State.{modeOf}
 use borrow.Author.Needs.{needs}
 use Rattle.checker.proofs.check_call.Statement.{statement}
@@ -43,54 +42,28 @@ returns-3 c =
 
 run-front-requires : tie.Need-run-front-requires
 run-front-requires c κs =
-    let a = c .before .before .before .before .before .before .before .before .before .before .before .before .before .before .before .before .before .before .args in
+    let a = c .before .before .before .before .before .before .before .before .before .before .before .before .before .before .before .before .before .args in
     let B : Buffers = record { board = now (a .board); book = now (a .book); report = now (a .report) } in
-    let l = c .before .before .before .before .before .before .before .before .before .before .before .before .before .if1 .left in
+    let l = c .before .before .before .before .before .before .before .before .before .before .before .before .if1 .left in
     let h : a .ceiling ≤ highestCeiling = omega arith in
-    front-asks (modeOf (a .strict)) (now (a .sheet)) (a .ceiling) (a .limit) B h (c .before .before .before .before .before .before .before .before .before .before .before .before .limit-bad .ensures) (c .before .before .before .before .before .before .before .before .before .before .before .if2 .left) (c .before .before .before .before .before .before .before .too-short .ensures) (c .before .before .before .before .before .before .if3 .left) (sym (c .before .before .before .before .before .check-sheet .ensures) ∙ c .before .before .before .enum-told .given .1)
-
-cast-refused : tie.Need-cast-refused
-cast-refused c =
-    let x = line-word (now (c .before .before .before .before .before .before .before .before .before .before .before .before .before .before .before .before .args .sheet)) (c .before .before .before .check-sheet .ensures) (inl (c .before .line .given .1)) in
-    search needs
-
-cast-refused-2 : tie.Need-cast-refused-2
-cast-refused-2 c =
-    let x = line-word (now (c .before .before .before .before .before .before .before .before .before .before .before .before .before .before .before .before .args .sheet)) (c .before .before .before .check-sheet .ensures) (inr (c .before .line2 .given .1)) in
-    search needs
+    front-asks (modeOf (a .strict)) (now (a .sheet)) (a .ceiling) (a .limit) B h (c .before .before .before .before .before .before .before .before .before .before .before .limit-bad .ensures) (c .before .before .before .before .before .before .before .before .before .before .if2 .left) (c .before .before .before .before .before .before .too-short .ensures) (c .before .before .before .before .before .if3 .left) (sym (c .before .before .before .before .length-ok .ensures) ∙ c .before .before .before .if4 .taken)
 
 returns-4 : tie.Need-returns-4
 returns-4 c =
-    let a = c .before .before .before .before .before .before .before .before .before .before .before .before .before .before .before .before .before .before .before .before .before .before .before .before .before .args in
+    let a = c .before .before .before .before .before .before .before .before .before .before .before .before .before .before .before .before .before .before .before .before .before .before .before .before .args in
     let B : Buffers = record { board = now (a .board); book = now (a .book); report = now (a .report) } in
-    let l = c .before .before .before .before .before .before .before .before .before .before .before .before .before .before .before .before .before .before .before .before .if1 .left in
+    let l = c .before .before .before .before .before .before .before .before .before .before .before .before .before .before .before .before .before .before .before .if1 .left in
     let h : a .ceiling ≤ highestCeiling = omega arith in
-    answered (modeOf (a .strict)) (now (a .sheet)) (a .ceiling) (a .limit) B h (c .before .before .before .before .before .before .before .before .before .before .before .before .before .before .before .before .before .before .before .limit-bad .ensures) (c .before .before .before .before .before .before .before .before .before .before .before .before .before .before .before .before .before .before .if2 .left) (c .before .before .before .before .before .before .before .before .before .before .before .before .before .before .too-short .ensures) (c .before .before .before .before .before .before .before .before .before .before .before .before .before .if3 .left) (sym (c .before .before .before .before .before .before .before .before .before .before .before .before .check-sheet .ensures) ∙ c .before .before .before .before .before .before .before .before .before .before .enum-told .given .1) (c .before .before .before .before .before .before .run-front .ensures)
+    answered (modeOf (a .strict)) (now (a .sheet)) (a .ceiling) (a .limit) B h (c .before .before .before .before .before .before .before .before .before .before .before .before .before .before .before .before .before .before .limit-bad .ensures) (c .before .before .before .before .before .before .before .before .before .before .before .before .before .before .before .before .before .if2 .left) (c .before .before .before .before .before .before .before .before .before .before .before .before .before .too-short .ensures) (c .before .before .before .before .before .before .before .before .before .before .before .before .if3 .left) (c .before .before .before .before .before .before .run-front .ensures)
 
 returns-5 : tie.Need-returns-5
 returns-5 c =
-    let a = c .before .before .before .before .before .before .before .before .before .before .before .before .before .before .before .before .args in
+    let a = c .before .before .before .before .before .before .before .before .before .before .before .before .before .before .before .args in
     let B : Buffers = record { board = now (a .board); book = now (a .book); report = now (a .report) } in
-    let l = c .before .before .before .before .before .before .before .before .before .before .before .if1 .left in
+    let l = c .before .before .before .before .before .before .before .before .before .before .if1 .left in
     let h : a .ceiling ≤ highestCeiling = omega arith in
-    refused-by (modeOf (a .strict)) (now (a .sheet)) (a .ceiling) (a .limit) B h (c .before .before .before .before .before .before .before .before .before .before .limit-bad .ensures) (c .before .before .before .before .before .before .before .before .before .if2 .left) (c .before .before .before .before .before .too-short .ensures) (c .before .before .before .before .if3 .left) _ (sym (c .before .before .before .check-sheet .ensures) ∙ c .before .enum-told2 .given .1) refl (c .refused4 .ensures)
-
-returns-6 : tie.Need-returns-6
-returns-6 c =
-    let a = c .before .before .before .before .before .before .before .before .before .before .before .before .before .before .before .before .before .args in
-    let B : Buffers = record { board = now (a .board); book = now (a .book); report = now (a .report) } in
-    let l = c .before .before .before .before .before .before .before .before .before .before .before .before .if1 .left in
-    let h : a .ceiling ≤ highestCeiling = omega arith in
-    refused-by (modeOf (a .strict)) (now (a .sheet)) (a .ceiling) (a .limit) B h (c .before .before .before .before .before .before .before .before .before .before .before .limit-bad .ensures) (c .before .before .before .before .before .before .before .before .before .before .if2 .left) (c .before .before .before .before .before .before .too-short .ensures) (c .before .before .before .before .before .if3 .left) _ (sym (c .before .before .before .before .check-sheet .ensures) ∙ c .before .before .line .given .1) refl (c .refused5 .ensures)
-
-returns-7 : tie.Need-returns-7
-returns-7 c =
-    let a = c .before .before .before .before .before .before .before .before .before .before .before .before .before .before .before .before .before .args in
-    let B : Buffers = record { board = now (a .board); book = now (a .book); report = now (a .report) } in
-    let l = c .before .before .before .before .before .before .before .before .before .before .before .before .if1 .left in
-    let h : a .ceiling ≤ highestCeiling = omega arith in
-    refused-by (modeOf (a .strict)) (now (a .sheet)) (a .ceiling) (a .limit) B h (c .before .before .before .before .before .before .before .before .before .before .before .limit-bad .ensures) (c .before .before .before .before .before .before .before .before .before .before .if2 .left) (c .before .before .before .before .before .before .too-short .ensures) (c .before .before .before .before .before .if3 .left) _ (sym (c .before .before .before .before .check-sheet .ensures) ∙ c .before .before .line2 .given .1) refl (c .refused6 .ensures)
+    bad-length (modeOf (a .strict)) (now (a .sheet)) (a .ceiling) (a .limit) B h (c .before .before .before .before .before .before .before .before .before .limit-bad .ensures) (c .before .before .before .before .before .before .before .before .if2 .left) (c .before .before .before .before .too-short .ensures) (c .before .before .before .if3 .left) (c .before .before .length-ok .ensures) (c .before .if4 .left) (c .refused4 .ensures)
 
 pub check-call-spec : {M : Type 1} → statement M
 check-call-spec =
-    tie.close (tie.spec (λ c κs. search needs) returns (λ c κs. search needs) (λ c κs. search needs) returns-2 too-short-requires (λ c κs. search needs) (λ c. search needs) (λ c. search needs) (λ c. search needs) returns-3 (λ c κs. search needs) (λ c. search needs) run-front-requires (λ c. search needs) (λ c κs. search needs) (λ c. search needs) cast-refused (λ c κs. search needs) (λ c. search needs) cast-refused-2 (λ c κs. search needs) (λ c. search needs) (λ c. search needs) (λ c. search needs) returns-4 (λ c. search needs) (λ c. search needs) (λ c. search needs) returns-5 (λ c. search needs) (λ c. search needs) (λ c. search needs) returns-6 (λ c. search needs) (λ c. search needs) (λ c. search needs) returns-7)
+    tie.close (tie.spec (λ c κs. search needs) returns (λ c κs. search needs) (λ c κs. search needs) returns-2 too-short-requires (λ c κs. search needs) (λ c. search needs) (λ c. search needs) (λ c. search needs) returns-3 (λ c κs. search needs) run-front-requires (λ c. search needs) (λ c. search needs) (λ c. search needs) returns-4 (λ c κs. search needs) (λ c. search needs) (λ c. search needs) (λ c. search needs) returns-5)

@@ -1,4 +1,4 @@
-use mathlib.Core.Path.{_≡_, sym, _∙_}
+use mathlib.Core.Path.{sym}
 use Prim.Native.Nat.{_*_}
 use denote.Ref.{now}
 use lib.Seq.{length-take-le, length-front}
@@ -6,7 +6,7 @@ use Rattle.sizes.specs.Sizes.{boardSize, bookSize, reportStride}
 use Rattle.sheet.specs.Plan.{triples}
 use Rattle.judgment.specs.Result.{limitsFor, judge}
 use Rattle.operations.specs.State.{modeOf}
-use Rattle.checker.proofs.Answering.{fronted}
+use Rattle.checker.proofs.Answering.{fronts}
 use borrow.Author.Needs.{needs}
 use Rattle.checker.proofs.run_front.Statement.{statement}
 use Rattle.checker.proofs.run_front.Tie as tie
@@ -41,7 +41,7 @@ slice-aggregate-run-plan-3 c =
 run-plan-requires : tie.Need-run-plan-requires
 run-plan-requires c κs =
     let p = c .before .before .before .before .before .before .before .pre in
-    record { plan = p .plan; limited = p .limited; board = length-take-le boardSize (now (c .before .before .before .before .before .before .before .args .board)) (p .board); book = length-take-le bookSize (now (c .before .before .before .before .before .before .before .args .book)) (p .book); report = length-take-le (reportStride * c .before .before .before .before .before .before .before .args .limit) (now (c .before .before .before .before .before .before .before .args .report)) (p .report) }
+    record { sized = p .sized; limited = p .limited; board = length-take-le boardSize (now (c .before .before .before .before .before .before .before .args .board)) (p .board); book = length-take-le bookSize (now (c .before .before .before .before .before .before .before .args .book)) (p .book); report = length-take-le (reportStride * c .before .before .before .before .before .before .before .args .limit) (now (c .before .before .before .before .before .before .before .args .report)) (p .report) }
 
 same-length : tie.Need-same-length
 same-length c =
@@ -57,7 +57,9 @@ same-length-3 c =
 
 returns : tie.Need-returns
 returns c =
-    fronted (c .before .before .before .before .before .before .before .before .before .before .before .before .before .before .pre) (judge (limitsFor (modeOf (c .before .before .before .before .before .before .before .before .before .before .before .before .before .before .args .strict)) (c .before .before .before .before .before .before .before .before .before .before .before .before .before .before .args .limit)) (c .before .before .before .before .before .before .before .before .before .before .before .before .before .before .args .ceiling) (triples (now (c .before .before .before .before .before .before .before .before .before .before .before .before .before .before .args .s)))) (c .before .before .before .before .before .before .run-plan .ensures)
+    let a = c .before .before .before .before .before .before .before .before .before .before .before .before .before .before .args in
+    let q = c .before .before .before .before .before .before .run-plan in
+    fronts (c .before .before .before .before .before .before .before .before .before .before .before .before .before .before .pre) (judge (limitsFor (modeOf (a .strict)) (a .limit)) (a .ceiling) (triples (now (a .s)))) (q .last .1 .1 .1 .1 .0) (q .last .1 .1 .1 .1 .1 .0) (q .last .1 .1 .1 .1 .1 .1 .0) (q .result) (q .ensures)
 
 pub run-front-spec : {M : Type 1} → statement M
 run-front-spec =

@@ -15,7 +15,7 @@ value-at-requires c κs =
 
 infer-constructor-requires : tie.Need-infer-constructor-requires
 infer-constructor-requires c κs =
-    open-asks (c .before .before .before .before .before .before .before .before .before .before .before .pre .0) (c .before .before .before .before .before .before .before .before .before .before .before .pre .1) _ (sym (c .before .before .before .line .given .1) ∙ c .before .before .before .before .before .find-entry .ensures)
+    open-asks (c .before .before .before .before .before .before .before .before .before .before .before .pre .0) (now (c .before .before .before .before .before .before .before .before .before .before .before .args .l)) (c .before .before .before .before .before .before .before .before .before .before .before .pre .1) _ (sym (c .before .before .before .line .given .1) ∙ c .before .before .before .before .before .find-entry .ensures)
 
 returns : tie.Need-returns
 returns c =

@@ -16,7 +16,7 @@ pattern-parts-requires c κs =
     let p = c .before .before .before .before .before .before .before .before .before .before .before .before .before .pre .0 in
     let ls = rows (now (a .s)) in
     let e = entry-at ls (a .name) _ _ (p .sheet) (sym (c .before .before .before .before .before .line .given .1) ∙ c .before .before .before .before .before .before .before .find-entry .ensures) in
-    record { ready = p .ready; some = e .0; few = e .1; lines = e .2; narrow = e .3; small = p .small; good = p .good; left = p .left; right = p .right }
+    (record { ready = p .ready; some = e .0; few = e .1; lines = e .2; narrow = e .3; types = e .4; whole = e .5; declared = e .6; small = p .small; good = p .good; left = p .left; right = p .right }, c .before .before .before .before .before .before .before .before .before .before .before .before .before .pre .1)
 
 add-frame-requires : tie.Need-add-frame-requires
 add-frame-requires c κs = c .before .before .before .before .before .before .before .before .before .before .before .before .before .before .before .before .before .before .before .before .before .before .pre .0 .deep

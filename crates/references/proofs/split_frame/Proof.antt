@@ -1,80 +1,40 @@
-use mathlib.Core.Path.{_≡_}
+use mathlib.Core.Path.{_≡_, sym, ap, _∙_}
+use Prim.Native.Nat.{_+_, _-_, _≤_, _<_}
 use native.Mathlib.Omega.{arith}
-use Prim.Native.Nat.{_+_, _*_, _-_, _≤_, _<_}
 use denote.Ref.{now}
-use Rattle.sizes.specs.Sizes.{mostNodes}
+use lib.ListN.{length}
+use Rattle.spelling.specs.declared.Triple.{Triple}
+use Rattle.sheet.specs.Plan.{lineNode}
 use Rattle.sheet.specs.Rows.{rows}
-use Rattle.references.proofs.Parts.{frame-some, others-fit, halved}
+use Rattle.sheet.proofs.RowLaws.{length-rows}
+use Rattle.references.specs.Signatures.{arrowHead}
+use Rattle.references.proofs.Parts.{lines-fit, frame-ends, halved}
 use borrow.Author.Needs.{needs}
 use Rattle.references.proofs.split_frame.Statement.{statement}
 use Rattle.references.proofs.split_frame.Tie as tie
 
-instance-requires : tie.Need-instance-requires
-instance-requires c κs =
-    let p = c .before .before .before .pre in
-    let f = p .0 .good .few in
-    let l = p .2 in
-    (p .0 .good, omega arith, omega arith)
-
-mul-p : tie.Need-mul-p
-mul-p c =
-    let a = c .before .before .before .before .before .before .args in
-    let f : (0 < a .r .count) × (a .r .at + a .r .count ≤ mostNodes) = frame-some (c .before .before .before .before .before .before .pre .0) (c .before .before .before .before .before .before .pre .1) in
+add-first : tie.Need-add-first
+add-first c =
+    let a = c .before .before .args in
+    let f = lines-fit (rows (now (a .s))) (a .r) (c .before .before .pre .0 .good) (c .before .before .pre .1) .0 in
+    let m = length-rows (now (a .s)) in
     omega arith
 
-add-p : tie.Need-add-p
-add-p c =
-    let a = c .before .before .before .before .before .before .args in
-    let f : (0 < a .r .count) × (a .r .at + a .r .count ≤ mostNodes) = frame-some (c .before .before .before .before .before .before .pre .0) (c .before .before .before .before .before .before .pre .1) in
+add-first-2 : tie.Need-add-first-2
+add-first-2 c =
+    let a = c .before .before .args in
+    let f = lines-fit (rows (now (a .s))) (a .r) (c .before .before .pre .0 .good) (c .before .before .pre .1) .0 in
+    let m = length-rows (now (a .s)) in
     omega arith
 
-sub-first-part : tie.Need-sub-first-part
-sub-first-part c =
-    let a = c .before .before .before .before .before .before .before .args in
-    let f : (0 < a .r .count) × (a .r .at + a .r .count ≤ mostNodes) = frame-some (c .before .before .before .before .before .before .before .pre .0) (c .before .before .before .before .before .before .before .pre .1) in
-    omega arith
-
-first-part-requires : tie.Need-first-part-requires
-first-part-requires c κs =
-    let a = c .before .before .before .before .before .before .before .args in
-    let f : (0 < a .r .count) × (a .r .at + a .r .count ≤ mostNodes) = frame-some (c .before .before .before .before .before .before .before .pre .0) (c .before .before .before .before .before .before .before .pre .1) in
-    (search needs, omega arith)
-
-mul-q : tie.Need-mul-q
-mul-q c =
-    let a = c .before .before .before .before .before .before .before .before .args in
-    let f : (1 + c .first-part .result ≤ a .r .count) × (a .r .at + a .r .count ≤ mostNodes) = others-fit (rows (now (a .s))) (a .r) (c .before .before .before .before .before .before .before .before .pre .0) (c .before .before .before .before .before .before .before .before .pre .1) _ (c .before .before .before .before .instance .ensures .0) (c .first-part .result) (c .first-part .ensures) in
-    omega arith
-
-add-q : tie.Need-add-q
-add-q c =
-    let a = c .before .before .before .before .before .before .before .before .args in
-    let f : (1 + c .first-part .result ≤ a .r .count) × (a .r .at + a .r .count ≤ mostNodes) = others-fit (rows (now (a .s))) (a .r) (c .before .before .before .before .before .before .before .before .pre .0) (c .before .before .before .before .before .before .before .before .pre .1) _ (c .before .before .before .before .instance .ensures .0) (c .first-part .result) (c .first-part .ensures) in
-    omega arith
-
-sub-signature : tie.Need-sub-signature
-sub-signature c =
-    let a = c .before .before .before .before .before .before .before .before .before .args in
-    let f : (1 + c .before .first-part .result ≤ a .r .count) × (a .r .at + a .r .count ≤ mostNodes) = others-fit (rows (now (a .s))) (a .r) (c .before .before .before .before .before .before .before .before .before .pre .0) (c .before .before .before .before .before .before .before .before .before .pre .1) _ (c .before .before .before .before .before .instance .ensures .0) (c .before .first-part .result) (c .before .first-part .ensures) in
-    omega arith
-
-sub-signature-2 : tie.Need-sub-signature-2
-sub-signature-2 c =
-    let a = c .before .before .before .before .before .before .before .before .before .args in
-    let f : (1 + c .before .first-part .result ≤ a .r .count) × (a .r .at + a .r .count ≤ mostNodes) = others-fit (rows (now (a .s))) (a .r) (c .before .before .before .before .before .before .before .before .before .pre .0) (c .before .before .before .before .before .before .before .before .before .pre .1) _ (c .before .before .before .before .before .instance .ensures .0) (c .before .first-part .result) (c .before .first-part .ensures) in
-    omega arith
-
-signature-requires : tie.Need-signature-requires
-signature-requires c κs =
-    let a = c .before .before .before .before .before .before .before .before .before .args in
-    let f : (1 + c .before .first-part .result ≤ a .r .count) × (a .r .at + a .r .count ≤ mostNodes) = others-fit (rows (now (a .s))) (a .r) (c .before .before .before .before .before .before .before .before .before .pre .0) (c .before .before .before .before .before .before .before .before .before .pre .1) _ (c .before .before .before .before .before .instance .ensures .0) (c .before .first-part .result) (c .before .first-part .ensures) in
-    (search needs, omega arith)
+sub-t5 : tie.Need-sub-t5
+sub-t5 c = let a = c .before .before .before .args in frame-ends (rows (now (a .s))) (a .r) (c .before .before .before .pre .0) (c .before .before .before .pre .1) _ (c .part-line .ensures) .0
 
 returns : tie.Need-returns
 returns c =
-    let a = c .before .before .before .before .before .before .before .before .before .before .before .args in
-    (halved (rows (now (a .s))) (a .r) (c .before .before .before .before .before .before .before .before .before .before .before .pre .0) (c .before .before .before .before .before .before .before .before .before .before .before .pre .1) _ (c .before .before .before .before .before .before .before .instance .ensures .0) (c .before .before .before .first-part .result) (c .before .before .before .first-part .ensures) (c .before .signature .result .arity) (c .before .signature .ensures .1), c .before .before .before .before .before .before .before .instance .ensures .1)
+    let a = c .before .before .before .before .before .args in
+    halved (rows (now (a .s))) (a .r) (c .before .before .before .before .before .pre .0) (c .before .before .before .before .before .pre .1) _ (c .before .before .part-line .ensures) _ (c .is-arrow .ensures ∙ ap (λ (t : Triple). arrowHead (lineNode t)) (c .before .triple-at .ensures))
 
 pub split-frame-spec : {M : Type 1} → statement M
 split-frame-spec =
-    tie.close (tie.spec instance-requires mul-p add-p sub-first-part first-part-requires mul-q add-q sub-signature sub-signature-2 signature-requires (λ c. search needs) returns)
+    tie.close (tie.spec add-first add-first-2 (λ c κs. search needs) sub-t5 (λ c κs. search needs) (λ c κs. search needs) returns)

@@ -1,9 +1,8 @@
-use mathlib.Core.Path.{sym, ap}
-use Prim.Native.Nat.{ℕ, _*_}
-use lib.ListN.{take, drop}
+use Prim.Native.Nat.{_-_, _*_}
+use native.Mathlib.Omega.{arith}
+use lib.ListN.{length, drop, length-drop}
+use lib.Seq.{take-all}
 use borrow.Author.Needs.{needs}
-use Rattle.sizes.specs.Sizes.{lineLength}
-use Rattle.sheet.proofs.TermLines.{term-cut, term-rest}
 use Rattle.sheet.proofs.term_lines.Statement.{statement}
 use Rattle.sheet.proofs.term_lines.Tie as tie
 
@@ -11,8 +10,8 @@ returns : tie.Need-returns
 returns c =
     let s = c .before .args .s .now in
     let at = c .before .args .at in
-    let p = c .before .pre in
-    rw (term-cut s at (p .0) (p .2)) (ap (λ (n : ℕ). take n (drop (lineLength * at) s)) (term-rest s at (p .0) (p .2) (p .1)))
+    let d = length-drop (29 * at) s in
+    take-all (length s - 29 * at) (drop (29 * at) s) (omega arith)
 
 pub term-lines-spec : {M : Type 1} → statement M
 term-lines-spec = tie.close (tie.spec (λ c. search needs) (λ c. search needs) (λ c. search needs) (λ c. search needs) returns)
