@@ -5,10 +5,11 @@ use mathlib.Core.List.{List, [], _∷_}
 use Prim.Native.Nat.{ℕ, zero, suc, _+_, _*_, _≤_}
 use native.Mathlib.Omega.{arith}
 use lib.ListN.{length, take, drop}
-use Rattle.sizes.specs.Sizes.{mostNodes, boardBase}
-use Rattle.nodes.specs.Nodes.{node, Ty}
+use Rattle.sizes.specs.Sizes.{boardBase}
+use Rattle.nodes.specs.Nodes.{node, Ty, nodesAt}
 use Rattle.nodes.specs.Parts.{takeParts}
 use Rattle.nodes.proofs.ListLaws.{cond-ind}
+use Rattle.nodes.proofs.Laws.{length-nodesAt}
 use Rattle.nodes.proofs.PartLaws.{length-take}
 use Rattle.spelling.specs.declared.Triple.{Triple}
 use Rattle.kinds.specs.Kinds.{aType, partsOf}
@@ -89,13 +90,13 @@ module _ (k x : ℕ) where
     entry-is q = ap (typeAt (rows s)) (sym q ∙ e) ∙ find-lookup k x (rows s) (declarations (rows s) 0 0)
 
 -- ---- Vars on the board
--- what is found has at most m nodes, and stands among the first m
+-- what is found stands among the first m nodes
 abbrev Inside : ℕ → OnBoard → Type 0
-Inside m (Stands p) = (p .start + 2 * p .count ≤ boardBase + 2 * m) × (p .count ≤ m)
+Inside m (Stands p) = p .start + 2 * p .count ≤ boardBase + 2 * m
 Inside m Nowhere = Unit {0}
 
 inside-more : (m n : ℕ) (o : OnBoard) → m ≤ n → Inside m o → Inside n o
-inside-more m n (Stands p) h i = let a = i .0 in let b = i .1 in (omega arith, omega arith)
+inside-more m n (Stands p) h i = omega (arith, i)
 inside-more m n Nowhere h i = tt
 
 module _ (x : ℕ) (w : List ℕ) where
@@ -104,22 +105,28 @@ module _ (x : ℕ) (w : List ℕ) where
   found-inside zero = tt
   found-inside (suc i) =
       cond-ind (Inside (nodesBelow w i + (word w i 2 + word w i 3))) (isNode 2 x (node (word w i 0) (word w i 1)))
-      (λ _. (omega arith, omega arith))
+      (λ _. omega arith)
       (λ _. inside-more (nodesBelow w i) (nodesBelow w i + (word w i 2 + word w i 3)) (varPlace x w i) (omega arith) (found-inside i))
 
   module _ {b : Board} (s : Stacked w b) {r : OnBoard} (e : r ≡ varPlace x w (b .entries)) where
-    pub var-within : {p : Place} → r ≡ Stands p → (p .start + 2 * p .count ≤ length w) × (p .count ≤ mostNodes)
-    var-within {p} q =
+    var-inside : {p : Place} → r ≡ Stands p → p .start + 2 * p .count ≤ length w
+    var-inside {p} q =
         let i : Inside (nodesBelow w (b .entries)) (Stands p) = subst (Inside (nodesBelow w (b .entries))) (sym e ∙ q) (found-inside (b .entries)) in
-        let i0 = i .0 in
-        let i1 = i .1 in
         let n = s .nodes in
         let m = s .fewNodes in
         let l = s .room in
-        (omega arith, omega arith)
+        omega (arith, i)
 
     pub var-is : (ls : List Triple) {v : OnBoard} → r ≡ v → typeIn w v ≡ findVar x (entriesOf ls w (b .entries))
     var-is ls q = ap (typeIn w) (sym q ∙ e) ∙ sym (var-place ls x w (b .entries))
+
+-- the type that is found may be copied
+pub var-copies : {b : List ℕ} {c : Run} {s out t : List ℕ} {tn : ℕ} (a : VarAsk b c s out t tn) (x : ℕ) {r : OnBoard} → r ≡ varPlace x b (c .counters .board .entries)
+    → {p : Place} → r ≡ Stands p → (0 + 2 * p .count ≤ length out) × (p .start + 2 * p .count ≤ length b)
+var-copies {b} {c} {s} {out} a x e {p} q =
+    let u : Ty = nodesAt b (p .start) (p .count) in
+    let v : 2 * length u ≤ length out = a .vars x u (sym (var-is x b (a .board) e (rows s) q)) in
+    (omega (arith, v, length-nodesAt b (p .start) (p .count)), var-inside x b (a .board) e q)
 
 -- ---- the rule by the three types that a name may have
 pub looked : {w : Way} {b k rep : List ℕ} {c : Run} {b' k' rep' : List ℕ} {r : Run} (s : List ℕ) (x : ℕ) (t : Ty)

@@ -1,18 +1,19 @@
 -- What the code of InfApp and Var cites. Assumes nothing: these are definitions.
+use mathlib.Core.Path.{_≡_}
 use mathlib.Core.Option.{Option, none, some}
 use mathlib.Core.List.{List}
 use Prim.Native.Nat.{ℕ, _*_, _≤_}
 use lib.ListN.{length}
 use lib.Seq.{sets}
-use Rattle.sizes.specs.Sizes.{typeWords}
 use Rattle.nodes.specs.Nodes.{node, Ty, words}
 use Rattle.sheet.specs.Plan.{planOf, declarations, bindingsIn, lookup}
 use Rattle.sheet.specs.Rows.{rows, Ended}
 use Rattle.sheet.specs.Form.{Formed}
 use Rattle.judgment.specs.Types.{View, isArrow, isApp, isForall, isUnknown, isOther, view}
+use Rattle.judgment.specs.Board.{findVar}
 use Rattle.judgment.specs.Rules.{Env}
 use Rattle.judgment.specs.Result.{envOf}
-use Rattle.board.specs.Board.{Stacked}
+use Rattle.board.specs.Board.{entriesOf, Stacked}
 use Rattle.operations.specs.declared.Run.{Run}
 use Rattle.operations.specs.State.{Bookable}
 use Rattle.subtyping.specs.Subtyping.{openedAt, twiceReport}
@@ -44,6 +45,10 @@ foundOut out none = out
 foundOut out (some t) = sets out 0 (words t)
 
 -- ---- what a call asks
+-- room to copy the type of any Var on the board
+abbrev pub VarsFit : List ℕ → Run → List ℕ → List ℕ → Type 0
+VarsFit b c s out = (x : ℕ) (u : Ty) → findVar x (entriesOf (rows s) b (c .counters .board .entries)) ≡ some u → 2 * length u ≤ length out
+
 -- A sheet with types on its entries, room to copy any of them or any of the board's, and the taken type: the tn nodes at the front of t.
 pub record VarAsk (b : List ℕ) (c : Run) (s out t : List ℕ) (tn : ℕ) : Type 0 where
   pub formed : Bookable b c
@@ -51,5 +56,5 @@ pub record VarAsk (b : List ℕ) (c : Run) (s out t : List ℕ) (tn : ℕ) : Typ
   pub sheet : Formed (rows s)
   pub ended : Ended s
   pub lines : 2 * length (rows s) ≤ length out
-  pub room : typeWords ≤ length out
+  pub vars : VarsFit b c s out
   pub type : 2 * tn ≤ length t

@@ -44,14 +44,14 @@ module _ (L : Levels → Limits) (E : Env) (C : ℕ) where
 -- ---- the loop, by the strict call or the first
 -- T is what the run from the words at its start comes to
 pub record Loop (strict : Bool) (m : ℕ) (s : List ℕ) (C : ℕ) (T : Told) (b k rep : List ℕ) (c : Run) : Type 0 where
-  pub standing : Standing s b k c
+  pub standing : Standing m s b k c
   pub left : leftOf (limitsFor (modeOf strict) m) (envOn s) C (c .counters .taken) (levelsOf k) (outcomeOf (rows s) b k rep c) ≡ T
 
 -- the run from the words at the start
 abbrev pub wholeRun : Bool → ℕ → List ℕ → ℕ → List ℕ → List ℕ → Run → Told
 wholeRun strict m s C b k c = told (c .counters .taken) (levelsOf k) (runFrom (limitsFor (modeOf strict) m) (envOn s) (C - c .counters .taken) (levelsOf k) (stateOf (rows s) b k c))
 
-pub loop-start : {strict : Bool} {m : ℕ} {s : List ℕ} (C : ℕ) {b k rep : List ℕ} {c : Run} → Standing s b k c → going (c .halt) ≡ true → Loop strict m s C (wholeRun strict m s C b k c) b k rep c
+pub loop-start : {strict : Bool} {m : ℕ} {s : List ℕ} (C : ℕ) {b k rep : List ℕ} {c : Run} → Standing m s b k c → going (c .halt) ≡ true → Loop strict m s C (wholeRun strict m s C b k c) b k rep c
 loop-start {strict} {m} {s} C {b} {k} {rep} {c} r g = record {
   standing = r;
   left = rw g refl;

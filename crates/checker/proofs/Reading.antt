@@ -18,9 +18,9 @@ use Rattle.sheet.proofs.Lines.{length-triples}
 use Rattle.judgment.specs.declared.Answer.{Answer}
 use Rattle.judgment.specs.Result.{Result, refusedAt, limitsFor, judge}
 use Rattle.judgment.specs.Levels.{Mode}
-use Rattle.inferring.specs.Inferring.{CaseRoom}
-use Rattle.stepping.specs.Stepping.{Read}
-use Rattle.checker.specs.Calling.{RunAsk, RowsAsk, Ran, Kept, ByCheck}
+use Rattle.inferring.specs.Inferring.{TypeFits, CaseRoom}
+use Rattle.stepping.specs.Stepping.{Read, longest}
+use Rattle.checker.specs.Calling.{PlanAsk, ReadAsk, RunAsk, RowsAsk, Ran, Kept, ByCheck}
 
 -- ---- by what the sheet is
 by-check : (v : Check) (A B : Type 0) → (v ≡ Plan → A) → (isPlan v ≡ false → B) → ByCheck v A B
@@ -47,6 +47,28 @@ case-room s e x y z =
     let n = length-triples s in
     let m = ap length e in
     record { right = omega arith; frames = omega arith; bound = omega arith }
+
+-- with room for types
+pub plan-asks : {limit : ℕ} {d b k rep t l r w v : List ℕ} → ReadAsk limit d b k rep r w v → 2 * longest limit d ≤ length t → 2 * longest limit d ≤ length l → TypeFits d l → PlanAsk limit d b k rep t l r w v
+plan-asks p x y z = record {
+  plan = p .plan;
+  limited = p .limited;
+  board = p .board;
+  book = p .book;
+  report = p .report;
+  lent = record { type = x; left = y; lines = z; room = p .room };
+}
+
+-- of a sheet that was read
+pub read-asks : {limit : ℕ} (s : List ℕ) {b k rep d d' r w v : List ℕ} → check s ≡ Plan → RowsAsk limit s b k rep d r w v → (rows d' ≡ triples s) × Ended d' → ReadAsk limit d' b k rep r w v
+read-asks s h p q = record {
+  plan = was-read s h q;
+  limited = p .run .limited;
+  board = p .run .board;
+  book = p .run .book;
+  report = p .run .report;
+  room = case-room s (q .0) (p .right) (p .frames) (p .bound);
+}
 
 -- rows and room that are long enough
 pub rows-asks : (d : List ℕ) {limit : ℕ} {s b k rep r w v : List ℕ} → RunAsk limit s b k rep → 4 * (length s / lineLength) ≤ length d → 2 * (length s / lineLength) + 2 ≤ length r → 6 * (length s / lineLength) + 12 ≤ length w → 6 * (length s / lineLength) + 6 ≤ length v

@@ -2,11 +2,11 @@
 use mathlib.Core.Path.{_≡_, refl, sym, ap, ap₂, _∙_, subst, subst⁻¹}
 use mathlib.Core.List.{List, [], _∷_, _++_, append-nil}
 use Prim.Native.Nat.{ℕ, _+_, _*_, _-_, _≤_, _<_}
-use native.Mathlib.Nat.{add-zero}
+use native.Mathlib.Nat.{add-zero, le-max-right}
 use native.Mathlib.Omega.{arith}
 use lib.ListN.{length, take, drop}
 use lib.Seq.{sets}
-use Rattle.sizes.specs.Sizes.{mostLines, mostNodes, typeWords, boardSize, bookSize, bookStride}
+use Rattle.sizes.specs.Sizes.{mostLines, mostNodes, boardSize, bookSize, bookStride}
 use Rattle.nodes.specs.Nodes.{Ty, words, nodesAt}
 use Rattle.nodes.specs.Lists.{All}
 use Rattle.nodes.specs.Parts.{takeParts, dropParts}
@@ -25,6 +25,7 @@ use mathlib.Core.Bool.{Bool, true, false, cond, true≢false}
 use Rattle.judgment.specs.Board.{Limits, State, Outcome, finished, refused}
 use Rattle.judgment.specs.Run.{runFrom}
 use Rattle.judgment.proofs.Plans.{plan-inv}
+use Rattle.judgment.proofs.Short.{OutcomeShort, plan-short}
 use Rattle.judgment.specs.Levels.{Levels, ownLevels}
 use Rattle.judgment.specs.Result.{startOf, bookWords}
 use Rattle.applying.specs.Applying.{envOn}
@@ -41,12 +42,12 @@ use Rattle.inference.proofs.Written.{length-typeOn, copied}
 use Rattle.operations.specs.declared.Halt.{Halt}
 use Rattle.operations.specs.declared.Run.{Run}
 use Rattle.operations.specs.State.{reported, noHalt, errorOf, outcomeOf, stateOf, WellFormed, going}
-use Rattle.stepping.specs.Stepping.{Read, Standing}
+use Rattle.stepping.specs.Stepping.{Read, longest, Standing}
 use Rattle.judgment.specs.Chain.{told}
 use Rattle.checker.specs.Calling.{StartAsk}
 use Rattle.stepping.proofs.Judging.{part-stands}
 use Rattle.stepping.proofs.Reading.{read-few, read-formed, read-good, read-whole}
-use Rattle.stepping.proofs.Reaching.{OutcomeOK, of-outcome}
+use Rattle.stepping.proofs.Reaching.{OutcomeOK, of-outcome, of-short}
 
 -- a part that is all there is
 no-lines : (ts : List Triple) → Forms ts [] → ts ≡ []
@@ -78,7 +79,7 @@ module _ (s : List ℕ) (h : Read s) where
       let w1 = w .1 in
       (w .0, omega arith)
 
-  pub copy-start : (t : List ℕ) → typeWords ≤ length t → (let n = partLine ls at 1 - at in (0 + 2 * n ≤ length t) × (at + n ≤ length ls) × All Narrow (take n (drop at ls)))
+  pub copy-start : (t : List ℕ) → 2 * length ls ≤ length t → (let n = partLine ls at 1 - at in (0 + 2 * n ≤ length t) × (at + n ≤ length ls) × All Narrow (take n (drop at ls)))
   copy-start t m =
       let l = part-stands aType ls at expected-part in
       let w = part-within ls at 1 (omega arith) in
@@ -197,14 +198,17 @@ start-is s b k c q = go (going (c .halt)) refl (q .3 [])
     go true p e = (p, ap stateIn e)
     go false p e = absurd (true≢false (sym (ap goesOn e)))
 
-pub start-stands : (s b k : List ℕ) (c : Run) → Read s → WellFormed b k c × (c .counters .taken ≡ 0) × (levelsOf k ≡ ownLevels) × ((rep : List ℕ) → outcomeOf (rows s) b k rep c ≡ finished (startOf (rows s))) → Standing s b k c × (going (c .halt) ≡ true)
-start-stands s b k c h q =
+pub start-stands : (m : ℕ) (s b k : List ℕ) (c : Run) → Read s → WellFormed b k c × (c .counters .taken ≡ 0) × (levelsOf k ≡ ownLevels) × ((rep : List ℕ) → outcomeOf (rows s) b k rep c ≡ finished (startOf (rows s))) → Standing m s b k c × (going (c .halt) ≡ true)
+start-stands m s b k c h q =
     let p = planOf (rows s) in
     let w = read-whole h in
     let e = start-is s b k c q in
     let o = of-outcome ⊥ (c .halt) [] (entriesOf (rows s) b (c .counters .board .entries)) (sols k) (c .counters .fresh)
     (subst⁻¹ (OutcomeOK ⊥) (q .3 []) (record { inv = plan-inv p (read-good h); entries = (w .1, tt); solutions = tt })) in
-    (record { plan = h; formed = q .0; good = o }, e .0)
+    let z = longest m s in
+    let v = of-short z (c .halt) [] (entriesOf (rows s) b (c .counters .board .entries)) (sols k) (c .counters .fresh)
+    (subst⁻¹ (OutcomeShort z) (q .3 []) (plan-short z (rows s) (le-max-right m (length (rows s))) .1, tt)) in
+    (record { plan = h; formed = q .0; good = o; short = v }, e .0)
 
 -- its run is the sheet's
 pub start-told : (L : Levels → Limits) (s b k : List ℕ) (c : Run) (C : ℕ) → WellFormed b k c × (c .counters .taken ≡ 0) × (levelsOf k ≡ ownLevels) × ((rep : List ℕ) → outcomeOf (rows s) b k rep c ≡ finished (startOf (rows s)))

@@ -5,12 +5,14 @@ use mathlib.Core.List.{List}
 use Prim.Native.Nat.{ℕ, _+_, _*_, _/_, _≤_}
 use lib.ListN.{length}
 use lib.Seq.{sets}
-use Rattle.sizes.specs.Sizes.{lineLength, typeWords, highestLimit, boardSize, bookSize, reportStride}
+use Rattle.sizes.specs.Sizes.{lineLength, highestLimit, boardSize, bookSize, reportStride}
 use Rattle.grammar.specs.declared.Check.{Check}
 use Rattle.grammar.specs.declared.Check.the-variants.{Plan, Length, Misspelt, Unfit}
 use Rattle.grammar.specs.Check.{lengthOk, checkNumber, checkLine}
+use Rattle.sheet.specs.Rows.{rows}
 use Rattle.judgment.specs.declared.Answer.{Answer}
 use Rattle.judgment.specs.Result.{Result, refusedAt, boardWords, bookWords, reportWords}
+use Rattle.inferring.specs.Inferring.{CaseRoom}
 use Rattle.stepping.specs.Stepping.{Read, Lent}
 
 -- up to so many lines a sheet is lent less room than the longest one
@@ -25,7 +27,7 @@ pub record StartAsk (s b k t : List ℕ) : Type 0 where
   pub plan : Read s
   pub board : boardSize ≤ length b
   pub book : bookSize ≤ length k
-  pub type : typeWords ≤ length t
+  pub type : 2 * length (rows s) ≤ length t
 
 -- what the run of a plan that was read asks, with a limit of written-out types: the buffers at their own lengths
 pub record PlanAsk (limit : ℕ) (d b k rep t l r w v : List ℕ) : Type 0 where
@@ -34,7 +36,16 @@ pub record PlanAsk (limit : ℕ) (d b k rep t l r w v : List ℕ) : Type 0 where
   pub board : length b ≡ boardSize
   pub book : length k ≡ bookSize
   pub report : length rep ≡ reportStride * limit
-  pub lent : Lent d t l r w v
+  pub lent : Lent limit d t l r w v
+
+-- the same without room for types
+pub record ReadAsk (limit : ℕ) (d b k rep r w v : List ℕ) : Type 0 where
+  pub plan : Read d
+  pub limited : limit ≤ highestLimit
+  pub board : length b ≡ boardSize
+  pub book : length k ≡ bookSize
+  pub report : length rep ≡ reportStride * limit
+  pub room : CaseRoom d r w v
 
 -- the same of a sheet that is still to be read, of a length that a sheet may have
 pub record RunAsk (limit : ℕ) (s b k rep : List ℕ) : Type 0 where

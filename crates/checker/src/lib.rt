@@ -4,7 +4,7 @@ ghost use mathlib.Core.Bool.{true};
 ghost use mathlib.Core.List.{List};
 ghost use Prim.Native.Nat.{ℕ, _+_, _-_, _*_, _/_, _<_, _≤_};
 ghost use lib.ListN.{length};
-ghost use Rattle.sizes.specs.Sizes.{lineLength, mostNodes, highestLimit};
+ghost use Rattle.sizes.specs.Sizes.{lineLength, mostNodes, usualLimit, highestLimit};
 ghost use Rattle.grammar.specs.Check.{lengthOk, check, checkNumber, checkLine};
 ghost use Rattle.sheet.specs.Plan.{triples};
 ghost use Rattle.sheet.specs.Rows.{rows};
@@ -18,7 +18,7 @@ ghost use Rattle.judgment.specs.Levels.{ownLevels, firstCall, strictCall};
 ghost use Rattle.book.specs.Book.{levelsOf};
 ghost use Rattle.stepping.specs.Stepping.{Standing, Lent};
 ghost use Rattle.ending.specs.Ending.{endOf};
-ghost use Rattle.checker.specs.Calling.{shortLines, middleLines, StartAsk, PlanAsk, RunAsk, RowsAsk, Ran, Kept, ByCheck, FrontAsk, Fronted};
+ghost use Rattle.checker.specs.Calling.{shortLines, middleLines, StartAsk, PlanAsk, ReadAsk, RunAsk, RowsAsk, Ran, Kept, ByCheck, FrontAsk, Fronted};
 ghost use Rattle.checker.specs.Answered.{Answered};
 use board::Board;
 use board::clear_board;
@@ -38,6 +38,7 @@ use operations::Run;
 use sheet::copy_type;
 use sheet::find_places;
 use sheet::is_plain;
+use sheet::line_count;
 use sheet::part_line;
 use sheet::read_plan;
 use sizes::BOARD_SIZE;
@@ -49,12 +50,16 @@ use sizes::MOST_LINES;
 use sizes::REPORT_STRIDE;
 use sizes::SHEET_BYTES;
 use sizes::TYPE_WORDS;
+use sizes::USUAL_LIMIT;
 use stepping::solve_step;
 
 // Up to so many lines a sheet is lent less room than the longest one.
 const SHORT_LINES: usize = 64;
 
 const MIDDLE_LINES: usize = 256;
+
+// No type on the board has more nodes than the larger of the limit and the sheet's lines: where neither passes this, less room is lent.
+const USUAL_NODES: usize = USUAL_LIMIT as usize;
 
 // Takes entries until the board is empty, a rule refuses or the ceiling's number were taken.
 fn solve(
@@ -72,7 +77,7 @@ fn solve(
     w: &mut [usize],
     v: &mut [usize],
 ) -> Run
-    requires { ⌜ Standing (now s) (now board) (now book) c × (going (c .halt) ≡ true) × (limit ≤ mostNodes) × (4 * limit ≤ length (now report)) × Lent (now s) (now t) (now l) (now r) (now w) (now v) ⌝ }
+    requires { ⌜ Standing limit (now s) (now board) (now book) c × (going (c .halt) ≡ true) × (limit ≤ mostNodes) × (4 * limit ≤ length (now report)) × Lent limit (now s) (now t) (now l) (now r) (now w) (now v) ⌝ }
     ensures { λ q. ⌜ WellFormed (now (board .exit)) (now (book .exit)) q × (told (c .counters .taken) (levelsOf (now (book .entry))) (runFrom (limitsFor (modeOf strict) limit) (envOn (now (s .entry))) (ceiling - c .counters .taken) (levelsOf (now (book .entry))) (stateOf (rows (now (s .entry))) (now (board .entry)) (now (book .entry)) c)) ≡ record { end = endOf (now (report .exit)) q; taken = q .counters .taken; last = stateOf (rows (now (s .entry))) (now (board .exit)) (now (book .exit)) q; levels = levelsOf (now (book .exit)) }) ⌝ }
 {
     let mut run = c;
@@ -151,6 +156,98 @@ fn check_plan(
     answer(o, is_plain(s))
 }
 
+// Lends the rules room for two types: of a sheet of fewer than USUAL_NODES lines, with a limit of at most as many nodes.
+fn run_usual(
+    d: &[u64],
+    ceiling: u32,
+    limit: usize,
+    strict: bool,
+    board: &mut [u32],
+    book: &mut [u32],
+    report: &mut [u32],
+    r: &mut [u32],
+    w: &mut [usize],
+    v: &mut [usize],
+) -> Answer
+    requires { ⌜ ReadAsk limit (now d) (now board) (now book) (now report) (now r) (now w) (now v) × (limit ≤ usualLimit) × (length (rows (now d)) < usualLimit) ⌝ }
+    ensures { λ o. ⌜ Ran limit (judge (limitsFor (modeOf strict) limit) ceiling (rows (now (d .entry)))) (now (board .exit)) (now (book .exit)) (now (report .exit)) o ⌝ }
+{
+    let mut t = [0u32; 2 * USUAL_NODES];
+    let mut l = [0u32; 2 * USUAL_NODES];
+    check_plan(
+        d,
+        ceiling,
+        limit,
+        strict,
+        board,
+        book,
+        report,
+        &mut t,
+        &mut l,
+        r,
+        w,
+        v,
+    )
+}
+
+// The same of any sheet and any limit.
+fn run_any(
+    d: &[u64],
+    ceiling: u32,
+    limit: usize,
+    strict: bool,
+    board: &mut [u32],
+    book: &mut [u32],
+    report: &mut [u32],
+    r: &mut [u32],
+    w: &mut [usize],
+    v: &mut [usize],
+) -> Answer
+    requires { ⌜ ReadAsk limit (now d) (now board) (now book) (now report) (now r) (now w) (now v) ⌝ }
+    ensures { λ o. ⌜ Ran limit (judge (limitsFor (modeOf strict) limit) ceiling (rows (now (d .entry)))) (now (board .exit)) (now (book .exit)) (now (report .exit)) o ⌝ }
+{
+    let mut t = [0u32; TYPE_WORDS];
+    let mut l = [0u32; TYPE_WORDS];
+    check_plan(
+        d,
+        ceiling,
+        limit,
+        strict,
+        board,
+        book,
+        report,
+        &mut t,
+        &mut l,
+        r,
+        w,
+        v,
+    )
+}
+
+// The run of a sheet that was read. A room is cleared before it is lent, so it is no larger than limit and sheet ask.
+fn run_read(
+    d: &[u64],
+    ceiling: u32,
+    limit: usize,
+    strict: bool,
+    board: &mut [u32],
+    book: &mut [u32],
+    report: &mut [u32],
+    r: &mut [u32],
+    w: &mut [usize],
+    v: &mut [usize],
+) -> Answer
+    requires { ⌜ ReadAsk limit (now d) (now board) (now book) (now report) (now r) (now w) (now v) ⌝ }
+    ensures { λ o. ⌜ Ran limit (judge (limitsFor (modeOf strict) limit) ceiling (rows (now (d .entry)))) (now (board .exit)) (now (book .exit)) (now (report .exit)) o ⌝ }
+{
+    if line_count(d) < USUAL_NODES {
+        if limit <= USUAL_NODES {
+            return run_usual(d, ceiling, limit, strict, board, book, report, r, w, v);
+        }
+    }
+    run_any(d, ceiling, limit, strict, board, book, report, r, w, v)
+}
+
 // A refusal before a run.
 fn refused(number: u32, line: u32) -> Answer
     ensures { λ r. ⌜ r ≡ refusedAt number line ⌝ }
@@ -198,22 +295,7 @@ fn run_rows(
     if !read_plan(d, s) {
         return no_plan(s);
     }
-    let mut t = [0u32; TYPE_WORDS];
-    let mut l = [0u32; TYPE_WORDS];
-    check_plan(
-        d,
-        ceiling,
-        limit,
-        strict,
-        board,
-        book,
-        report,
-        &mut t,
-        &mut l,
-        r,
-        w,
-        v,
-    )
+    run_read(d, ceiling, limit, strict, board, book, report, r, w, v)
 }
 
 // A sheet of at most SHORT_LINES lines. A room is cleared before it is lent, so it is no larger than the sheet asks.

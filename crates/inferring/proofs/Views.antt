@@ -8,7 +8,6 @@ use native.Mathlib.Omega.{arith}
 use lib.ListN.{length, take, drop}
 use lib.Dec.{eqb, leb}
 use borrow.Author.Tests.{leb-true, eqb-true, eqb-false}
-use Rattle.sizes.specs.Sizes.{mostLines, typeWords}
 use Rattle.nodes.specs.Nodes.{Ty, nodesAt}
 use Rattle.spelling.specs.declared.Triple.{Triple}
 use Rattle.spelling.specs.declared.Line.the-variants.{Spelt}
@@ -40,7 +39,7 @@ use Rattle.patterns.proofs.Entries.{env-lookup, entry-at}
 use Rattle.arms.specs.Arms.{CaseAsk}
 use Rattle.arms.proofs.Cases.{case-view, case-narrow}
 use Rattle.applying.specs.Applying.{envOn}
-use Rattle.inferring.specs.Inferring.{InferAsk, CaseRoom, kindAt, TermAsk, Infers}
+use Rattle.inferring.specs.Inferring.{TypeFits, InferAsk, CaseRoom, kindAt, TermAsk, Infers}
 
 -- ---- a term's kinds
 abbrev termKind : ℕ → Row → Bool
@@ -115,7 +114,7 @@ module _ {K : ℕ} {b : List ℕ} {c : Run} {s : List ℕ} {p : ℕ} {t : List �
   lit-view e = rw (term-head ls p (a .stands), a .kind, e)
 
   -- the lines of a Lambda's type end where its body, at line j, starts
-  pub type-lines : K ≡ 23 → {j : ℕ} → j ≡ start 1 → (p + 1 ≤ j) × (j - (p + 1) ≤ mostLines) × LinesAsk s (p + 1) (j - (p + 1))
+  pub type-lines : K ≡ 23 → {j : ℕ} → j ≡ start 1 → (p + 1 ≤ j) × (j - (p + 1) + 1 ≤ length ls) × LinesAsk s (p + 1) (j - (p + 1))
   type-lines e q =
       let h = a .stands in
       let f = a .few in
@@ -173,7 +172,7 @@ module _ {K : ℕ} {b : List ℕ} {c : Run} {s : List ℕ} {p : ℕ} {t : List �
   pub constructor-rule : K ≡ 26 → {x : ℕ} → x ≡ head .value → {v : Found} → v ≡ findEntry 1 x ls → constructor E x T (typeAt ls v) ≡ inferBy E T (termView (termAt ls p))
   constructor-rule e qx q = ap (constructor E _ T) (ap (typeAt ls) q ∙ sym (env-lookup ls _)) ∙ ap (inferBy E T) (constructor-view e qx)
 
-  pub open-asks : (l : List ℕ) → typeWords ≤ length l → (x : ℕ) {line count : ℕ} → At line count ≡ findEntry 1 x ls → OpenAsk b c ls line count × Bound ls s line count × (2 * count ≤ length l) × (0 + 2 * tn ≤ length t) × Bookable b c
+  pub open-asks : (l : List ℕ) → TypeFits s l → (x : ℕ) {line count : ℕ} → At line count ≡ findEntry 1 x ls → OpenAsk b c ls line count × Bound ls s line count × (2 * count ≤ length l) × (0 + 2 * tn ≤ length t) × Bookable b c
   open-asks l h x q =
       let f = a .few in
       let e = entry-at ls x _ _ (record { formed = a .sheet; few = omega arith }) q in
@@ -209,7 +208,7 @@ module _ {b : List ℕ} {c : Run} {s : List ℕ} {p : ℕ} {t : List ℕ} {tn : 
           sheet = record { formed = a .sheet; few = omega arith };
           frames = omega arith;
           rows = omega arith;
-          left = (let z = a .left in omega arith);
+          left = a .left;
           right = room .right;
           type = a .within;
           within = rw q i;

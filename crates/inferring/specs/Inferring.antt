@@ -3,7 +3,7 @@ use mathlib.Core.Path.{_≡_}
 use mathlib.Core.List.{List}
 use Prim.Native.Nat.{ℕ, _+_, _*_, _≤_, _<_}
 use lib.ListN.{length, getD}
-use Rattle.sizes.specs.Sizes.{mostLines, typeWords}
+use Rattle.sizes.specs.Sizes.{mostLines}
 use Rattle.nodes.specs.Nodes.{nodesAt}
 use Rattle.kinds.specs.Kinds.{aTerm}
 use Rattle.sheet.specs.Plan.{noTriple}
@@ -16,9 +16,13 @@ use Rattle.board.specs.Board.{termAt}
 use Rattle.operations.specs.declared.Run.{Run}
 use Rattle.operations.specs.State.{Bookable, WellFormed, Does}
 use Rattle.patterns.specs.Turns.{Ready}
-use Rattle.applying.specs.Applying.{envOn}
+use Rattle.applying.specs.Applying.{envOn, VarsFit}
 
--- A whole term from this line of the sheet on, the taken type at the front of t, room for a type.
+-- room for a type of the sheet, and for the Arrow of a Lambda's
+abbrev pub TypeFits : List ℕ → List ℕ → Type 0
+TypeFits s l = 2 * length (rows s) + 2 ≤ length l
+
+-- A whole term from this line of the sheet on, the taken type at the front of t, room for a type of the sheet or of a Var.
 pub record InferAsk (b : List ℕ) (c : Run) (s : List ℕ) (line : ℕ) (t : List ℕ) (tn : ℕ) (l : List ℕ) : Type 0 where
   pub formed : Bookable b c
   pub ready : Ready b c
@@ -28,7 +32,8 @@ pub record InferAsk (b : List ℕ) (c : Run) (s : List ℕ) (line : ℕ) (t : Li
   pub stands : line < length (rows s)
   pub term : IsPart aTerm (termAt (rows s) line .lines)
   pub within : 2 * tn ≤ length t
-  pub left : typeWords ≤ length l
+  pub left : TypeFits s l
+  pub vars : VarsFit b c s l
 
 -- room for a second type, and for the frames and bindings of a Case's patterns
 pub record CaseRoom (s r w v : List ℕ) : Type 0 where

@@ -4,7 +4,7 @@ ghost use mathlib.Core.Path.{_≡_};
 ghost use mathlib.Core.List.{List};
 ghost use Prim.Native.Nat.{ℕ, _+_, _≤_, _<_};
 ghost use lib.ListN.{length, getD};
-ghost use Rattle.sizes.specs.Sizes.{mostLines, typeWords};
+ghost use Rattle.sizes.specs.Sizes.{mostLines};
 ghost use Rattle.nodes.specs.Nodes.{nodesAt};
 ghost use Rattle.sheet.specs.Plan.{noTriple, partLine, findEntry};
 ghost use Rattle.sheet.specs.Rows.{rows, Ended};
@@ -13,8 +13,8 @@ ghost use Rattle.judgment.specs.Rules.{inferBy};
 ghost use Rattle.judgment.specs.Result.{Way};
 ghost use Rattle.board.specs.Board.{termAt};
 ghost use Rattle.operations.specs.State.{WellFormed, Does};
-ghost use Rattle.applying.specs.Applying.{envOn};
-ghost use Rattle.inferring.specs.Inferring.{InferAsk, CaseRoom, TermAsk, kindAt, Infers};
+ghost use Rattle.applying.specs.Applying.{envOn, VarsFit};
+ghost use Rattle.inferring.specs.Inferring.{TypeFits, InferAsk, CaseRoom, TermAsk, kindAt, Infers};
 ghost use Rattle.inferring.specs.Rooms.{scratch, variableOut, lambdaOut, constructorOut, caseScratch, inferScratch};
 use applying::infer_variable;
 use arms::infer_case;
@@ -61,7 +61,7 @@ fn variable_term(
     tn: usize,
     l: &mut [u32],
 ) -> Run
-    requires { ⌜ TermAsk 21 (now board) c (now s) at (now t) tn × (typeWords ≤ length (now l)) ⌝ }
+    requires { ⌜ TermAsk 21 (now board) c (now s) at (now t) tn × TypeFits (now s) (now l) × VarsFit (now board) c (now s) (now l) ⌝ }
     ensures { λ o. ⌜ Infers (now (board .entry)) c (now (s .entry)) at (now (t .entry)) tn (now (board .exit)) o × (now (l .exit) ≡ variableOut (now (board .entry)) c (now (s .entry)) (getD (rows (now (s .entry))) at noTriple .value) (now (l .entry))) ⌝ }
 {
     let name = value_at(s, at);
@@ -78,7 +78,7 @@ fn lambda_term(
     tn: usize,
     l: &mut [u32],
 ) -> Run
-    requires { ⌜ TermAsk 23 (now board) c (now s) at (now t) tn × (typeWords ≤ length (now l)) ⌝ }
+    requires { ⌜ TermAsk 23 (now board) c (now s) at (now t) tn × TypeFits (now s) (now l) ⌝ }
     ensures { λ o. ⌜ Infers (now (board .entry)) c (now (s .entry)) at (now (t .entry)) tn (now (board .exit)) o × (now (l .exit) ≡ lambdaOut c (now (s .entry)) at (now (l .entry))) ⌝ }
 {
     let name = value_at(s, at);
@@ -118,7 +118,7 @@ fn constructor_term(
     tn: usize,
     l: &mut [u32],
 ) -> Run
-    requires { ⌜ TermAsk 26 (now board) c (now s) at (now t) tn × (typeWords ≤ length (now l)) ⌝ }
+    requires { ⌜ TermAsk 26 (now board) c (now s) at (now t) tn × TypeFits (now s) (now l) ⌝ }
     ensures { λ o. ⌜ Infers (now (board .entry)) c (now (s .entry)) at (now (t .entry)) tn (now (board .exit)) o × (now (l .exit) ≡ constructorOut c (rows (now (s .entry))) (now (l .entry)) (findEntry 1 (getD (rows (now (s .entry))) at noTriple .value) (rows (now (s .entry))))) ⌝ }
 {
     let name = value_at(s, at);

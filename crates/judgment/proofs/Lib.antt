@@ -30,6 +30,7 @@ pub mod WholeTypes
 pub mod Visits
 pub mod WholeTerms
 pub mod WholeRun
+pub mod Short
 pub mod Links
 pub mod Orders
 pub mod Narrow

@@ -8,6 +8,7 @@ pub mod Rules
 pub mod Run
 pub mod Result
 pub mod Good
+pub mod Short
 pub mod Promise
 pub mod Restricted
 pub mod Links

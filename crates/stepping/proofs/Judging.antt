@@ -21,10 +21,12 @@ use Rattle.judgment.specs.Types.{view}
 use Rattle.judgment.specs.Terms.{termView, lambdaOf}
 use Rattle.judgment.specs.Solutions.{writeOut}
 use Rattle.judgment.specs.Board.{tvar, var, sub, inf, chk, infApp, done}
+use Rattle.judgment.specs.Short.{EntryShort}
+use Rattle.judgment.proofs.Short.{FoundShort, findVar-short}
 use Rattle.judgment.specs.Rules.{Env, inferBy, checkBy, rule}
 use Rattle.judgment.specs.Result.{Way}
 use Rattle.board.specs.declared.Top.{Top}
-use Rattle.board.specs.Board.{termAt, entryOf}
+use Rattle.board.specs.Board.{termAt, entryOf, entriesOf}
 use Rattle.book.specs.Book.{sols}
 use Rattle.operations.specs.declared.Run.{Run}
 use Rattle.operations.specs.State.{Does}
@@ -32,11 +34,11 @@ use Rattle.operations.proofs.Then.{does-as}
 use Rattle.inference.proofs.Written.{copied}
 use Rattle.subtyping.specs.Subtyping.{Sound, subtypeReport, SubtypeAsk}
 use Rattle.checking.specs.Checking.{checkedType, checkedOut, CheckAsk}
-use Rattle.applying.specs.Applying.{appReport}
+use Rattle.applying.specs.Applying.{appReport, VarsFit}
 use Rattle.inferring.specs.Inferring.{InferAsk}
 use Rattle.inferring.specs.Rooms.{Scratch, scratch, inferScratch}
 use Rattle.stepping.specs.Rooms.{room, judgedRoom}
-use Rattle.stepping.specs.Stepping.{topEntry, EntrySound, JudgeAsk}
+use Rattle.stepping.specs.Stepping.{longest, topEntry, EntrySound, JudgeAsk}
 use Rattle.stepping.proofs.Reading.{read-few, read-formed}
 
 -- a part that is there stands on a line
@@ -82,12 +84,24 @@ module _ {m : ℕ} {s b k rep : List ℕ} {c : Run} {o : Top} {t l r w v : List 
   pub within-board : o .at + 2 * (o .left + o .right) ≤ length b
   within-board = let x = a .within in let y = a .formed .board .room in omega arith
 
-  pub copy-asks : (0 + 2 * o .left ≤ length t) × (o .at + 2 * o .left ≤ length b)
-  copy-asks =
-      let x = a .few in
+  -- the type of an Inf and of a Chk
+  pub inf-short : o .kind ≡ 4 → o .left ≤ longest m s
+  inf-short e = omega (arith, subst (EntryShort (longest m s)) (is-inf ls (o .number) _ _ (o .kind) e) (a .short) .1, length-nodesAt b (o .at) (o .left))
+
+  pub chk-short : o .kind ≡ 5 → o .left ≤ longest m s
+  chk-short e = omega (arith, subst (EntryShort (longest m s)) (is-chk ls (o .number) _ _ (o .kind) e) (a .short) .1, length-nodesAt b (o .at) (o .left))
+
+  pub copy-asks : o .left ≤ longest m s → (0 + 2 * o .left ≤ length t) × (o .at + 2 * o .left ≤ length b)
+  copy-asks h =
       let y = a .lent .type in
       let z = within-board in
       (omega arith, omega arith)
+
+  vars-fit : VarsFit b c s l
+  vars-fit x u e =
+      let f = subst (FoundShort (longest m s)) e (findVar-short (longest m s) x (entriesOf ls b (c .counters .board .entries)) (a .others)) in
+      let y = a .lent .left in
+      omega (arith, f)
 
   two-sound : Sound (c .counters .fresh) (nodesAt b (o .at) (o .left)) × Sound (c .counters .fresh) (nodesAt b (o .at + 2 * o .left) (o .right)) → SubtypeAsk b k rep c (o .at) (o .left) (o .right) m
   two-sound q = record {
@@ -118,15 +132,16 @@ module _ {m : ℕ} {s b k rep : List ℕ} {c : Run} {o : Top} {t l r w v : List 
         few = n;
         stands = part-stands aTerm ls (o .number) h;
         term = h;
-        within = let x = copy-asks .0 in omega arith;
-        left = a .lent .left;
+        within = let x = copy-asks (inf-short e) .0 in omega arith;
+        left = a .lent .lines;
+        vars = vars-fit;
       }
 
   pub check-asks : o .kind ≡ 5 → (t' : List ℕ) → length t' ≡ length t → CheckAsk b c s (o .number) t' (o .left) l
   check-asks e t' q =
       let h = subst (EntrySound (c .counters .fresh)) (is-chk ls (o .number) _ _ (o .kind) e) (a .entry) in
       let n = read-few (a .plan) in
-      let g = a .lent .left in
+      let g = a .lent .lines in
       record {
         formed = (k, a .formed);
         board = a .formed .board;
@@ -134,7 +149,7 @@ module _ {m : ℕ} {s b k rep : List ℕ} {c : Run} {o : Top} {t l r w v : List 
         stands = part-stands aTerm ls (o .number) h;
         few = n;
         term = h;
-        within = let x = copy-asks .0 in omega arith;
+        within = let x = copy-asks (chk-short e) .0 in omega arith;
         short = let x = a .few in omega arith;
         room = omega arith;
       }
@@ -156,23 +171,23 @@ module _ {m : ℕ} {s b k rep : List ℕ} {c : Run} {o : Top} {t l r w v : List 
 
   -- the rule of an Inf or a Chk on a copy of the taken type is that of the entry
   module _ {t' : List ℕ} (e : t' ≡ sets t 0 (words (nodesAt b (o .at) (o .left)))) where
-    same-type : nodesAt t' 0 (o .left) ≡ nodesAt b (o .at) (o .left)
-    same-type = copied t (nodesAt b (o .at) (o .left)) (o .left) (length-nodesAt b (o .at) (o .left)) (let x = copy-asks .0 in omega arith) e
+    same-type : o .left ≤ longest m s → nodesAt t' 0 (o .left) ≡ nodesAt b (o .at) (o .left)
+    same-type h = copied t (nodesAt b (o .at) (o .left)) (o .left) (length-nodesAt b (o .at) (o .left)) (let x = copy-asks h .0 in omega arith) e
 
     pub inferred : (E : Env) {x : Way} {b' k' rep' : List ℕ} {q : Run} → o .kind ≡ 4 → Does x ls b k rep c (inferBy E (nodesAt t' 0 (o .left)) (termView (termAt ls (o .number)))) b' k' rep' q → Does x ls b k rep c (rule E (topEntry ls b o)) b' k' rep' q
-    inferred E h = does-as (λ _. ap (λ (X : Ty). inferBy E X (termView (termAt ls (o .number)))) same-type ∙ ap (rule E) (sym (is-inf ls (o .number) _ _ (o .kind) h)))
+    inferred E h = does-as (λ _. ap (λ (X : Ty). inferBy E X (termView (termAt ls (o .number)))) (same-type (inf-short h)) ∙ ap (rule E) (sym (is-inf ls (o .number) _ _ (o .kind) h)))
 
     pub inferred-room : o .kind ≡ 4 → {l' r' w' v' : List ℕ} → scratch l' r' w' v' ≡ inferScratch b c s (o .number) (nodesAt t' 0 (o .left)) (scratch l r w v)
         → room rep t' l' r' w' v' ≡ judgedRoom m s b k c o (room rep t l r w v)
     unfolding judgedRoom
-    inferred-room h q = rw h (ap₂ (λ (y : List ℕ) (z : Scratch). record { report = rep; type = y; scratch = z }) e (q ∙ ap (λ (X : Ty). inferScratch b c s (o .number) X (scratch l r w v)) same-type))
+    inferred-room h q = rw h (ap₂ (λ (y : List ℕ) (z : Scratch). record { report = rep; type = y; scratch = z }) e (q ∙ ap (λ (X : Ty). inferScratch b c s (o .number) X (scratch l r w v)) (same-type (inf-short h))))
 
     pub checked-room : o .kind ≡ 5 → {t″ l' : List ℕ} → t″ ≡ checkedType t' (c .counters .fresh) (view (nodesAt t' 0 (o .left))) → l' ≡ checkedOut l (lambdaOf (termAt ls (o .number))) (view (nodesAt t' 0 (o .left)))
         → room rep t″ l' r w v ≡ judgedRoom m s b k c o (room rep t l r w v)
     unfolding judgedRoom
     checked-room h p q = rw h (ap₂ (λ (y z : List ℕ). room rep y z r w v)
-        (p ∙ ap₂ (λ (y : List ℕ) (X : Ty). checkedType y (c .counters .fresh) (view X)) e same-type)
-        (q ∙ ap (λ (X : Ty). checkedOut l (lambdaOf (termAt ls (o .number))) (view X)) same-type))
+        (p ∙ ap₂ (λ (y : List ℕ) (X : Ty). checkedType y (c .counters .fresh) (view X)) e (same-type (chk-short h)))
+        (q ∙ ap (λ (X : Ty). checkedOut l (lambdaOf (termAt ls (o .number))) (view X)) (same-type (chk-short h))))
 
     pub checked : (E : Env) {x : Way} {b' k' rep' : List ℕ} {q : Run} → o .kind ≡ 5 → Does x ls b k rep c (checkBy E (termAt ls (o .number)) (nodesAt t' 0 (o .left)) (view (nodesAt t' 0 (o .left)))) b' k' rep' q → Does x ls b k rep c (rule E (topEntry ls b o)) b' k' rep' q
-    checked E h = does-as (λ _. ap (λ (X : Ty). checkBy E (termAt ls (o .number)) X (view X)) same-type ∙ ap (rule E) (sym (is-chk ls (o .number) _ _ (o .kind) h)))
+    checked E h = does-as (λ _. ap (λ (X : Ty). checkBy E (termAt ls (o .number)) X (view X)) (same-type (chk-short h)) ∙ ap (rule E) (sym (is-chk ls (o .number) _ _ (o .kind) h)))

@@ -20,6 +20,7 @@ use Rattle.judgment.specs.Result.{envOf}
 use Rattle.judgment.specs.Good.{EntryWhole}
 use Rattle.judgment.proofs.WholeRun.{EnvWhole, plan-whole}
 use Rattle.judgment.proofs.Plans.{GoodPlan, sheet-plan}
+use Rattle.judgment.proofs.Short.{two-lines}
 use Rattle.stepping.specs.Stepping.{Read}
 
 -- at most 2,000 lines
@@ -32,6 +33,9 @@ module _ {d : List ℕ} (h : Read d) where
       let n = length-triples (h .sheet) in
       let m = plan-lines (h .sheet) (h .plan) in
       rw (h .same) (omega arith)
+
+  pub read-some : 2 ≤ length (rows d)
+  read-some = rw (h .same) (two-lines (h .sheet) (h .plan))
 
   pub read-formed : Formed (rows d)
   read-formed = subst⁻¹ Formed (h .same) (formed (h .sheet) (h .plan))

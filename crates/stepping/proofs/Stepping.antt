@@ -2,7 +2,9 @@
 use mathlib.Core.Path.{_≡_, ap, _∙_, subst}
 use mathlib.Core.List.{List, [], _∷_}
 use Prim.Native.Nat.{ℕ, _+_, _*_, _-_, _≤_, _<_}
+use native.Mathlib.Nat.{le-max-left}
 use native.Mathlib.Omega.{arith}
+use lib.ListN.{length}
 use Rattle.sizes.specs.Sizes.{mostNodes}
 use Rattle.nodes.specs.Lists.{All}
 use Rattle.spelling.specs.declared.Triple.{Triple}
@@ -14,6 +16,7 @@ use Rattle.judgment.specs.Chain.{stepO, performO, stepL, performL}
 use Rattle.judgment.proofs.Chained.{performs, levels-performed}
 use Rattle.judgment.specs.Result.{limitsIn}
 use Rattle.judgment.specs.Good.{EntryWhole, EntryOK}
+use Rattle.judgment.specs.Short.{EntryShort}
 use mathlib.Core.Bool.{Bool}
 use Rattle.board.specs.declared.Board.{Board}
 use Rattle.board.specs.declared.Top.{Top}
@@ -24,7 +27,7 @@ use Rattle.operations.specs.declared.Run.{Run}
 use Rattle.operations.specs.State.{Words, Came, performW, outcomeBy, outcomeOf, stateOf, WellFormed, Does, wayIn}
 use Rattle.applying.specs.Applying.{envOn}
 use Rattle.stepping.specs.Rooms.{Room, room, judgedRoom}
-use Rattle.stepping.specs.Stepping.{topEntry, taking, JudgeAsk, Stepping, StepAsk}
+use Rattle.stepping.specs.Stepping.{longest, topEntry, taking, JudgeAsk, Stepping, StepAsk}
 use Rattle.stepping.proofs.Reaching.{entry-sound, solutions-sound, stands}
 
 top-few : {b : List ℕ} {d : Board} → Stacked b d → 0 < d .entries → topOf b d .left + topOf b d .right ≤ mostNodes
@@ -55,6 +58,7 @@ module _ {m : ℕ} {s b k rep : List ℕ} {c : Run} {t l r w v : List ℕ} (a : 
   pub step-asks : JudgeAsk m s b k rep (taking c o) o t l r w v
   step-asks =
       let q = a .standing .good in
+      let z = subst (All (EntryShort (longest m s))) entries-are (a .standing .short) in
       record {
         plan = a .standing .plan;
         formed = formed-next;
@@ -67,6 +71,8 @@ module _ {m : ℕ} {s b k rep : List ℕ} {c : Run} {t l r w v : List ℕ} (a : 
             let x = subst (All (EntryOK ⊥ (c .counters .fresh))) entries-are (q .inv .entries) in
             let y = subst (All EntryWhole) entries-are (q .entries) in
             entry-sound ⊥ (c .counters .fresh) (topEntry ls b o) (x .0) (y .0);
+        short = z .0;
+        others = z .1;
         solutions = solutions-sound ⊥ (c .counters .fresh) (sols k) (q .inv .solutions) (q .solutions);
       }
 
@@ -85,7 +91,7 @@ module _ {m : ℕ} {s b k rep : List ℕ} {c : Run} {t l r w v : List ℕ} (a : 
       = rw (g, entries-are) (levels-performed (limitsIn (wayIn strict m k)) (rule E n) below σ (c .counters .fresh) (levelsOf k)) in
       let f : outcomeOf ls b' k' rep' q ≡ stepO (limitsIn (wayIn strict m k)) E (outcomeOf ls b k rep c) = ap (λ (x : Came). x .outcome) (d .outcome) ∙ one in
       record {
-        standing = stands (limitsIn (wayIn strict m k)) rep rep' (a .standing) (d .kept) f;
+        standing = stands m (limitsIn (wayIn strict m k)) rep rep' (le-max-left m (length ls)) (a .standing) (d .kept) f;
         outcome = f;
         levels = ap (λ (x : Came). x .levels) (d .outcome) ∙ two;
         taken = d .taken;

@@ -11,7 +11,7 @@ use Rattle.judgment.specs.Rules.{variable}
 use Rattle.operations.proofs.Then.{does-as}
 use Rattle.inference.proofs.Written.{copied}
 use Rattle.applying.specs.Applying.{envOn, entryIn, foundOut}
-use Rattle.applying.proofs.Entries.{var-within, var-is}
+use Rattle.applying.proofs.Entries.{var-copies, var-is}
 use borrow.Author.Needs.{needs}
 use Rattle.applying.proofs.infer_on_board.Statement.{statement}
 use Rattle.applying.proofs.infer_on_board.Tie as tie
@@ -20,18 +20,14 @@ copy-nodes-requires : tie.Need-copy-nodes-requires
 copy-nodes-requires c κs =
     let a = c .before .before .before .before .before .before .before .before .before .before .before .before .args in
     let p = c .before .before .before .before .before .before .before .before .before .before .before .before .pre in
-    let v = var-within (a .name) (now (a .board)) (p .board) (c .before .before .before .before .before .find-var .ensures) (c .before .before .before .place .given .1) in
-    let m = p .room in
-    let n = v .1 in
-    (omega arith, v .0)
+    var-copies p (a .name) (c .before .before .before .before .before .find-var .ensures) (c .before .before .before .place .given .1)
 
 push-sub-requires : tie.Need-push-sub-requires
 push-sub-requires c κs =
     let a = c .before .before .before .before .before .before .before .before .before .before .before .before .before .before .before .before .before .args in
     let p = c .before .before .before .before .before .before .before .before .before .before .before .before .before .before .before .before .before .pre in
-    let v = var-within (a .name) (now (a .board)) (p .board) (c .before .before .before .before .before .before .before .before .before .before .find-var .ensures) (c .before .before .before .before .before .before .before .before .place .given .1) in
-    let m = p .room in
-    let n = v .1 in
+    let v = var-copies p (a .name) (c .before .before .before .before .before .before .before .before .before .before .find-var .ensures) (c .before .before .before .before .before .before .before .before .place .given .1) in
+    let n = v .0 in
     let l : length (c .before .before .before .before .copy-nodes .last .0) ≡ length (now (a .out)) = c .before .before .before .before .copy-nodes .kept .0 in
     let y = p .type in
     (p .board, omega arith, omega arith)
@@ -43,9 +39,8 @@ returns : tie.Need-returns
 returns c =
     let a = c .before .before .before .before .before .before .before .before .before .before .before .before .before .before .before .before .before .before .before .before .args in
     let p = c .before .before .before .before .before .before .before .before .before .before .before .before .before .before .before .before .before .before .before .before .pre in
-    let v = var-within (a .name) (now (a .board)) (p .board) (c .before .before .before .before .before .before .before .before .before .before .before .before .before .find-var .ensures) (c .before .before .before .before .before .before .before .before .before .before .before .place .given .1) in
-    let m = p .room in
-    let n = v .1 in
+    let v = var-copies p (a .name) (c .before .before .before .before .before .before .before .before .before .before .before .before .before .find-var .ensures) (c .before .before .before .before .before .before .before .before .before .before .before .place .given .1) in
+    let n = v .0 in
     let x : Ty = nodesAt (now (a .board)) (c .before .before .before .before .before .before .before .before .before .before .before .place .given .0 .0 .start) (c .before .before .before .before .before .before .before .before .before .before .before .place .given .0 .0 .count) in
     let e = copied (now (a .out)) x (c .before .before .before .before .before .before .before .before .before .before .before .place .given .0 .0 .count) (length-nodesAt (now (a .board)) (c .before .before .before .before .before .before .before .before .before .before .before .place .given .0 .0 .start) (c .before .before .before .before .before .before .before .before .before .before .before .place .given .0 .0 .count)) (omega arith) (c .before .before .before .before .before .before .before .copy-nodes .ensures) in
     let q = var-is (a .name) (now (a .board)) (p .board) (c .before .before .before .before .before .before .before .before .before .before .before .before .before .find-var .ensures) (rows (now (a .s))) (c .before .before .before .before .before .before .before .before .before .before .before .place .given .1) in

@@ -16,7 +16,8 @@ start-requires c κs =
     let p = c .before .before .before .before .before .before .before .before .before .before .before .before .pre in
     let x = p .board in
     let y = p .book in
-    record { plan = p .plan; board = omega arith; book = omega arith; type = p .lent .type }
+    let z = p .lent .type in
+    record { plan = p .plan; board = omega arith; book = omega arith; type = omega arith }
 
 solve-requires : tie.Need-solve-requires
 solve-requires c κs =
@@ -25,8 +26,8 @@ solve-requires c κs =
     let y = p .lent .type in
     let n = p .limited in
     let k = c .before .before .before .before .before .before .before .before .before .before .before .before .before .before .start .kept .1 .1 .1 .0 in
-    let st = start-stands _ _ _ _ (p .plan) (c .before .before .before .before .before .before .before .before .before .before .before .before .before .before .start .ensures) in
-    (st .0, st .1, omega arith, omega arith, record { type = omega arith; left = p .lent .left; room = p .lent .room })
+    let st = start-stands _ _ _ _ _ (p .plan) (c .before .before .before .before .before .before .before .before .before .before .before .before .before .before .start .ensures) in
+    (st .0, st .1, omega arith, omega arith, record { type = omega arith; left = p .lent .left; lines = p .lent .lines; room = p .lent .room })
 
 clear-board-requires : tie.Need-clear-board-requires
 clear-board-requires c κs =

@@ -26,6 +26,7 @@ solve-step-requires c κs =
     let q = p .4 in
     let y = q .type in
     let z = q .left in
+    let z1 = q .lines in
     let g = q .room in
     let g0 = g .right in
     let g1 = g .frames in
@@ -38,7 +39,7 @@ solve-step-requires c κs =
       counts = let u = c .before .before .before .before .before .before .before .before .before .before .before .before .before .before .before .before .before .before .before .before .fits .ceiling in omega arith;
       limit = p .2;
       report = omega arith;
-      lent = record { type = omega arith; left = omega arith; room = record { right = omega arith; frames = omega arith; bound = omega arith } };
+      lent = record { type = omega arith; left = omega arith; lines = omega arith; room = record { right = omega arith; frames = omega arith; bound = omega arith } };
     }
 
 loop-less : tie.Need-loop-less Inv-loop μ-loop

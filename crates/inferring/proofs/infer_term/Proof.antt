@@ -12,7 +12,7 @@ use Rattle.inferring.proofs.infer_term.Statement.{statement}
 use Rattle.inferring.proofs.infer_term.Tie as tie
 
 variable-term-requires : tie.Need-variable-term-requires
-variable-term-requires c κs = (term-asks (c .before .before .before .before .before .before .before .before .before .before .before .pre .0) (c .before .before .before .triple-at .ensures) (c .before .before .if1 .taken), c .before .before .before .before .before .before .before .before .before .before .before .pre .0 .left)
+variable-term-requires c κs = (term-asks (c .before .before .before .before .before .before .before .before .before .before .before .pre .0) (c .before .before .before .triple-at .ensures) (c .before .before .if1 .taken), c .before .before .before .before .before .before .before .before .before .before .before .pre .0 .left, c .before .before .before .before .before .before .before .before .before .before .before .pre .0 .vars)
 
 infer-lit-int-requires : tie.Need-infer-lit-int-requires
 infer-lit-int-requires c κs = (c .before .before .before .before .before .before .before .before .before .before .before .pre .0 .ready .board, c .before .before .before .before .before .before .before .before .before .before .before .pre .0 .within, c .before .before .before .before .before .before .before .before .before .before .before .pre .0 .formed)

@@ -15,9 +15,9 @@ value-at-requires c κs =
 infer-variable-requires : tie.Need-infer-variable-requires
 infer-variable-requires c κs =
     let p = c .before .before .before .before .before .before .before .pre .0 in
-    let f = p .few in
     let l = c .before .before .before .before .before .before .before .pre .1 in
-    record { formed = p .formed; board = p .ready .board; sheet = p .sheet; ended = p .ended; lines = omega arith; room = l; type = p .within }
+    let v = c .before .before .before .before .before .before .before .pre .2 in
+    record { formed = p .formed; board = p .ready .board; sheet = p .sheet; ended = p .ended; lines = omega arith; vars = v; type = p .within }
 
 returns : tie.Need-returns
 returns c =

@@ -7,7 +7,7 @@ use Rattle.judgment.specs.Rules.{rule}
 use Rattle.operations.specs.State.{wayIn}
 use Rattle.operations.proofs.Then.{does-as, done-does, way-scoped}
 use Rattle.applying.specs.Applying.{envOn}
-use Rattle.stepping.proofs.Judging.{is-sub, is-app, is-other, subtype-asks, app-asks, infer-asks, check-asks, copy-asks, sub-room, app-room, other-room, inferred, inferred-room, checked, checked-room}
+use Rattle.stepping.proofs.Judging.{is-sub, is-app, is-other, subtype-asks, app-asks, infer-asks, check-asks, inf-short, chk-short, copy-asks, sub-room, app-room, other-room, inferred, inferred-room, checked, checked-room}
 use borrow.Author.Needs.{needs}
 use Rattle.stepping.proofs.solve_judgment.Statement.{statement}
 use Rattle.stepping.proofs.solve_judgment.Tie as tie
@@ -26,7 +26,9 @@ returns c =
     (does-as (λ _. ap (rule E) (sym (is-sub ls (a .o .number) T U (a .o .kind) (c .before .before .before .before .before .before .before .before .before .before .if1 .taken)))) (c .before .before .before .before .before .before .solve-subtype .ensures .0 ls), sub-room (c .before .before .before .before .before .before .before .before .before .before .before .before .before .before .before .before .before .before .before .before .pre) (c .before .before .before .before .before .before .before .before .before .before .if1 .taken) (c .before .before .before .before .before .before .solve-subtype .ensures .1))
 
 copy-nodes-requires : tie.Need-copy-nodes-requires
-copy-nodes-requires c κs = copy-asks (c .before .before .before .before .before .before .before .before .before .before .before .before .before .pre)
+copy-nodes-requires c κs =
+    let p = c .before .before .before .before .before .before .before .before .before .before .before .before .before .pre in
+    copy-asks p (inf-short p (c .before .before .if2 .taken))
 
 solve-inference-requires : tie.Need-solve-inference-requires
 solve-inference-requires c κs = (infer-asks (c .before .before .before .before .before .before .before .before .before .before .before .before .before .before .before .before .before .before .before .before .before .before .pre) (c .before .before .before .before .before .before .before .before .before .before .before .if2 .taken) _ (c .before .before .before .before .before .before .before .before .copy-nodes .kept .0), c .before .before .before .before .before .before .before .before .before .before .before .before .before .before .before .before .before .before .before .before .before .before .pre .lent .room)
@@ -37,7 +39,9 @@ returns-2 c =
     (inferred (c .before .before .before .before .before .before .before .before .before .before .before .before .before .before .before .before .before .before .before .before .before .before .before .before .before .before .before .before .before .before .before .before .before .pre) (c .before .before .before .before .before .before .before .before .before .before .before .before .before .before .before .before .before .before .before .copy-nodes .ensures) E (c .before .before .before .before .before .before .before .before .before .before .before .before .before .before .before .before .before .before .before .before .before .before .if2 .taken) (c .before .before .before .before .before .before .before .before .before .before .solve-inference .ensures .0 _ _ _ (c .before .before .before .before .before .before .before .before .before .before .before .before .before .before .before .before .before .before .before .before .before .before .before .before .before .before .before .before .before .before .before .before .before .pre .formed)), inferred-room (c .before .before .before .before .before .before .before .before .before .before .before .before .before .before .before .before .before .before .before .before .before .before .before .before .before .before .before .before .before .before .before .before .before .pre) (c .before .before .before .before .before .before .before .before .before .before .before .before .before .before .before .before .before .before .before .copy-nodes .ensures) (c .before .before .before .before .before .before .before .before .before .before .before .before .before .before .before .before .before .before .before .before .before .before .if2 .taken) (c .before .before .before .before .before .before .before .before .before .before .solve-inference .ensures .1))
 
 copy-nodes-requires-2 : tie.Need-copy-nodes-requires-2
-copy-nodes-requires-2 c κs = copy-asks (c .before .before .before .before .before .before .before .before .before .before .before .before .before .before .pre)
+copy-nodes-requires-2 c κs =
+    let p = c .before .before .before .before .before .before .before .before .before .before .before .before .before .before .pre in
+    copy-asks p (chk-short p (c .before .before .if3 .taken))
 
 solve-checking-requires : tie.Need-solve-checking-requires
 solve-checking-requires c κs = (c .before .before .before .before .before .before .before .before .before .before .before .before .before .before .before .before .before .before .before .before .before .pre .formed, check-asks (c .before .before .before .before .before .before .before .before .before .before .before .before .before .before .before .before .before .before .before .before .before .pre) (c .before .before .before .before .before .before .before .before .before .if3 .taken) _ (c .before .before .before .before .before .before .copy-nodes2 .kept .0))
