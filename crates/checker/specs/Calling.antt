@@ -16,6 +16,9 @@ use Rattle.inferring.specs.Inferring.{CaseRoom}
 use Rattle.stepping.specs.Stepping.{Read, Lent}
 
 -- up to so many lines a sheet is lent less room than the longest one
+abbrev pub tinyLines : ℕ
+tinyLines = 24
+
 abbrev pub shortLines : ℕ
 shortLines = 64
 

@@ -18,7 +18,7 @@ ghost use Rattle.judgment.specs.Levels.{ownLevels, firstCall, strictCall};
 ghost use Rattle.book.specs.Book.{levelsOf};
 ghost use Rattle.stepping.specs.Stepping.{Standing, Lent};
 ghost use Rattle.ending.specs.Ending.{endOf};
-ghost use Rattle.checker.specs.Calling.{shortLines, middleLines, StartAsk, PlanAsk, ReadAsk, RunAsk, RowsAsk, Ran, Kept, ByCheck, FrontAsk, Fronted};
+ghost use Rattle.checker.specs.Calling.{tinyLines, shortLines, middleLines, StartAsk, PlanAsk, ReadAsk, RunAsk, RowsAsk, Ran, Kept, ByCheck, FrontAsk, Fronted};
 ghost use Rattle.checker.specs.Answered.{Answered};
 use board::Board;
 use board::clear_board;
@@ -54,6 +54,8 @@ use sizes::USUAL_LIMIT;
 use stepping::solve_step;
 
 // Up to so many lines a sheet is lent less room than the longest one.
+const TINY_LINES: usize = 24;
+
 const SHORT_LINES: usize = 64;
 
 const MIDDLE_LINES: usize = 256;
@@ -298,7 +300,39 @@ fn run_rows(
     run_read(d, ceiling, limit, strict, board, book, report, r, w, v)
 }
 
-// A sheet of at most SHORT_LINES lines. A room is cleared before it is lent, so it is no larger than the sheet asks.
+// A sheet of at most TINY_LINES lines. A room is cleared before it is lent, so it is no larger than the sheet asks.
+fn run_tiny(
+    s: &[u8],
+    ceiling: u32,
+    limit: usize,
+    strict: bool,
+    board: &mut [u32],
+    book: &mut [u32],
+    report: &mut [u32],
+) -> Answer
+    requires { ⌜ RunAsk limit (now s) (now board) (now book) (now report) × (length (now s) / lineLength ≤ tinyLines) ⌝ }
+    ensures { λ o. ⌜ ByCheck (check (now (s .entry))) (Ran limit (judge (limitsFor (modeOf strict) limit) ceiling (triples (now (s .entry)))) (now (board .exit)) (now (book .exit)) (now (report .exit)) o) (Kept (check (now (s .entry))) (now (board .entry)) (now (book .entry)) (now (report .entry)) (now (board .exit)) (now (book .exit)) (now (report .exit)) o) ⌝ }
+{
+    let mut d = [0u64; 4 * TINY_LINES];
+    let mut r = [0u32; 2 * TINY_LINES + 2];
+    let mut w = [0usize; 6 * TINY_LINES + 12];
+    let mut v = [0usize; 6 * TINY_LINES + 6];
+    run_rows(
+        s,
+        ceiling,
+        limit,
+        strict,
+        board,
+        book,
+        report,
+        &mut d[..4 * (s.len() / LINE_LENGTH)],
+        &mut r,
+        &mut w,
+        &mut v,
+    )
+}
+
+// A sheet of at most SHORT_LINES lines.
 fn run_short(
     s: &[u8],
     ceiling: u32,
@@ -406,6 +440,9 @@ fn run_plan(
     requires { ⌜ RunAsk limit (now s) (now board) (now book) (now report) ⌝ }
     ensures { λ o. ⌜ ByCheck (check (now (s .entry))) (Ran limit (judge (limitsFor (modeOf strict) limit) ceiling (triples (now (s .entry)))) (now (board .exit)) (now (book .exit)) (now (report .exit)) o) (Kept (check (now (s .entry))) (now (board .entry)) (now (book .entry)) (now (report .entry)) (now (board .exit)) (now (book .exit)) (now (report .exit)) o) ⌝ }
 {
+    if s.len() / LINE_LENGTH <= TINY_LINES {
+        return run_tiny(s, ceiling, limit, strict, board, book, report);
+    }
     if s.len() / LINE_LENGTH <= SHORT_LINES {
         return run_short(s, ceiling, limit, strict, board, book, report);
     }
