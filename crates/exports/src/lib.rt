@@ -2,8 +2,8 @@
 use checker::check_type;
 use checker::check_type_strict;
 use grammar::Check;
-use grammar::check_sheet;
 use judgment::Answer;
+use reading::check_sheet;
 use reading::term_of_sheet;
 use sizes::BOARD_SIZE;
 use sizes::BOOK_SIZE;

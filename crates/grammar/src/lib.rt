@@ -1,4 +1,4 @@
-// The grammar of a plan: readers of types, terms, arms and patterns, and refusals 3, 4 and 5.
+// The grammar of a plan: readers of types, terms, arms and patterns.
 use kinds::ARM;
 use kinds::ENTRY;
 use kinds::EXPECTED;
@@ -10,10 +10,8 @@ use kinds::TYPE;
 use kinds::begins;
 use kinds::head_of;
 use sizes::LINE_LENGTH;
-use sizes::SHEET_BYTES;
 use spelling::Line;
 use spelling::Triple;
-use spelling::first_misspelt;
 use spelling::line_at;
 ghost use mathlib.Core.Path.{_≡_};
 ghost use mathlib.Core.List.{[], _∷_};
@@ -24,7 +22,7 @@ ghost use Rattle.spelling.specs.declared.Line.the-variants.{Spelt};
 ghost use Rattle.spelling.specs.Spelling.{lineAt};
 ghost use Rattle.kinds.specs.Kinds.{aType, aTerm, aPattern, aGoal};
 ghost use Rattle.grammar.specs.Grammar.{part, entries, headIn, inOrder, declaredBy, arms, following, readAt, subTerm};
-ghost use Rattle.grammar.specs.Check.{readSheet, refusal, check};
+ghost use Rattle.grammar.specs.Check.{readSheet};
 
 // Where reading goes on, counted from 0; or the line, counted from 1, that can't continue a plan.
 pub enum Got {
@@ -262,7 +260,7 @@ fn read_entries(s: &[u8], at: usize, k: u64, last: u64) -> Got
 }
 
 // A whole plan, and no line after its term.
-fn read_sheet(s: &[u8]) -> Got
+pub fn read_sheet(s: &[u8]) -> Got
     ensures { λ r. ⌜ r ≡ readSheet (now (s .entry)) ⌝ }
 {
     match read_entries(s, 0, 1, 0) {
@@ -300,32 +298,4 @@ pub enum Check {
     Misspelt(usize),
     // 5: the first line that can't continue a plan, or the one that is lacking.
     Unfit(usize),
-}
-
-// A sheet that is no plan, line l of which can't continue one: a misspelt line anywhere comes before.
-fn refused_at(s: &[u8], l: usize) -> Check
-    ensures { λ r. ⌜ r ≡ refusal (now (s .entry)) l ⌝ }
-{
-    let i = first_misspelt(s);
-    if i < s.len() / LINE_LENGTH {
-        return Check::Misspelt(i + 1);
-    }
-    Check::Unfit(l)
-}
-
-// The tests of a sheet. Lines that make up a plan are spelt, so only a refused sheet is searched for a misspelt one.
-pub fn check_sheet(s: &[u8]) -> Check
-    ensures { λ r. ⌜ r ≡ check (now (s .entry)) ⌝ }
-{
-    if 0 < s.len() {
-        if s.len() <= SHEET_BYTES {
-            if s.len() % LINE_LENGTH == 0 {
-                return match read_sheet(s) {
-                    Got::Next(_) => Check::Plan,
-                    Got::Refused(l) => refused_at(s, l),
-                };
-            }
-        }
-    }
-    Check::Length
 }

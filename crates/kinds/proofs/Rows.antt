@@ -3,16 +3,16 @@ use mathlib.Core.Path.{_≡_, refl, sym, ap, _∙_, subst⁻¹}
 use mathlib.Core.Logic.{_⊎_, inl, inr}
 use mathlib.Core.Bool.{Bool, true, false, not, cond, _&&_, _||_, and-eq-true-iff}
 use mathlib.Core.List.{List, [], _∷_}
-use Prim.Native.Nat.{ℕ, _+_, _*_, _≤_, _<_, max}
+use Prim.Native.Nat.{ℕ, _+_, _*_, _/_, _%_, _≤_, _<_, max}
 use native.Mathlib.Omega.{arith}
 use lib.Dec.{eqb, leb}
 use lib.ListN.{List·getD-map}
-use borrow.Author.Tests.{eq-eqb, ne-eqb, leb-true, eqb-true}
+use borrow.Author.Tests.{eq-eqb, ne-eqb, leb-true, eqb-true, eqb-false}
 use Rattle.spelling.specs.declared.Triple.{Triple}
 use Rattle.kinds.specs.declared.Row.{Row}
 use Rattle.kinds.specs.declared.Head.{Head}
 use Rattle.kinds.specs.declared.Head.the-variants.{Parts, No}
-use Rattle.kinds.specs.Kinds.{Listed, find, table, rowOf, unlisted, nothing, anArm, anEntry, anExpected, aGoal, rowIn, begins, headOf, partsOf, Tabled}
+use Rattle.kinds.specs.Kinds.{Listed, find, table, rowOf, unlisted, nothing, anArm, anEntry, anExpected, aGoal, rowIn, isLeaf, begins, headOf, partsOf, Tabled}
 use Rattle.kinds.proofs.Table.{tabled, at}
 
 -- the largest kind listed
@@ -70,6 +70,31 @@ wordOf k = let r = rowOf k in r .sort * 1048576 + r .value * 65536 + r .count * 
 pub words-tabled : Tabled (tabled wordOf 0 44)
 unfolding tabled rowOf find table
 words-tabled k h = sym (List·getD-map rowIn (tabled wordOf 0 44) k 0) ∙ at rowOf (rowIn 0) 44 k h
+
+-- its last three digits are those of what follows
+two-digits : (v : ℕ) → v % 256 ≡ 16 * (v / 16 % 16) + v % 16
+two-digits v = let a : v / 256 ≡ v / 16 / 16 = omega arith in omega arith
+
+digits : (w : ℕ) → w % 4096 ≡ 256 * (w / 256 % 16) + 16 * (w / 16 % 16) + w % 16
+digits w =
+    let a : w / 256 ≡ w / 16 / 16 = omega arith in
+    let b : w % 4096 ≡ 16 * (w / 16 % 256) + w % 16 = let e : w / 4096 ≡ w / 16 / 256 = omega arith in omega arith in
+    let d = two-digits (w / 16) in
+    rw a (omega arith)
+
+pub leaf-word : (w : ℕ) → eqb (w % 4096) 0 ≡ isLeaf (rowIn w)
+leaf-word w = go (eqb (w / 256 % 16) 0) refl (eqb (w / 16 % 16) 0) refl (eqb (w % 16) 0) refl
+  where
+    go : (p : Bool) → eqb (w / 256 % 16) 0 ≡ p → (q : Bool) → eqb (w / 16 % 16) 0 ≡ q → (r : Bool) → eqb (w % 16) 0 ≡ r → eqb (w % 4096) 0 ≡ (p && (q && r))
+    go true p true q true r =
+        let x = eqb-true (w / 256 % 16) 0 p in
+        let y = eqb-true (w / 16 % 16) 0 q in
+        let z = eqb-true (w % 16) 0 r in
+        let d = digits w in
+        eq-eqb (w % 4096) 0 (omega arith)
+    go true p true q false r = let n = eqb-false (w % 16) 0 r in let d = digits w in ne-eqb (w % 4096) 0 (λ e. n (omega arith))
+    go true p false q r′ r = let n = eqb-false (w / 16 % 16) 0 q in let d = digits w in ne-eqb (w % 4096) 0 (λ e. n (omega arith))
+    go false p q′ q r′ r = let n = eqb-false (w / 256 % 16) 0 p in let d = digits w in ne-eqb (w % 4096) 0 (λ e. n (omega arith))
 
 -- ---- the plan's own lines: so many types and terms follow, and no more
 abbrev pub Follow : ℕ → ℕ → Row → Type 0

@@ -114,8 +114,11 @@ abbrev pub valueOk : ℕ → ℕ → Bool
 valueOk rule v = cond (eqb rule unused) (eqb v 0) (cond (eqb rule number) true (leb 1 v && leb v (cond (eqb rule name) highestName 6)))
 
 -- counts are 0 to 99, an unused count is 0
+abbrev pub mostCount : ℕ → ℕ
+mostCount rule = cond (eqb rule unused) 0 99
+
 abbrev pub countOk : ℕ → ℕ → Bool
-countOk rule c = cond (eqb rule unused) (eqb c 0) (leb c 99)
+countOk rule c = leb c (mostCount rule)
 
 -- the fields of a line of that row are in range
 abbrev pub fieldsOk : Row → Triple → Bool
@@ -130,6 +133,10 @@ unfoldable pub headOf : ℕ → Triple → Head
 headOf x t =
     let r = rowOf (t .kind) in
     cond (begins x t) (Parts (r .types) (r .terms) (r .each) (t .count)) No
+
+-- nothing follows a line of the row r
+abbrev pub isLeaf : Row → Bool
+isLeaf r = eqb (r .types) 0 && (eqb (r .terms) 0 && eqb (r .each) nothing)
 
 -- how many parts follow a line, by its row and its count
 abbrev pub eachParts : ℕ → ℕ → ℕ

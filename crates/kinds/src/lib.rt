@@ -3,7 +3,7 @@ use sizes::HIGHEST_NAME;
 use spelling::Triple;
 ghost use mathlib.Core.Path.{_≡_};
 ghost use Prim.Native.Nat.{ℕ, _<_, _≤_};
-ghost use Rattle.kinds.specs.Kinds.{rowIn, rowOf, valueOk, countOk, fieldsOk, begins as beginsWith, headOf, partsIn, Tabled};
+ghost use Rattle.kinds.specs.Kinds.{rowIn, rowOf, mostCount, valueOk, countOk, fieldsOk, isLeaf, begins as beginsWith, headOf, Tabled};
 
 // Sorts of parts. An arm is a pattern and then a term.
 pub const NOTHING: u64 = 0;
@@ -97,16 +97,16 @@ const TABLE: [u32; 44] = [
     0x311003, // 43 Constructor
 ];
 
-fn unpacked(row: u32) -> Row
-    ensures { λ r. ⌜ r ≡ rowIn row ⌝ }
+pub fn unpacked(word: u32) -> Row
+    ensures { λ r. ⌜ r ≡ rowIn word ⌝ }
 {
     Row {
-        sort: (row / 0x100000) as u64,
-        value: (row / 0x10000 % 16) as u64,
-        count: (row / 0x1000 % 16) as u64,
-        types: (row / 0x100 % 16) as u64,
-        terms: (row / 0x10 % 16) as u64,
-        each: (row % 16) as u64,
+        sort: (word / 0x100000) as u64,
+        value: (word / 0x10000 % 16) as u64,
+        count: (word / 0x1000 % 16) as u64,
+        types: (word / 0x100 % 16) as u64,
+        terms: (word / 0x10 % 16) as u64,
+        each: (word % 16) as u64,
     }
 }
 
@@ -126,15 +126,22 @@ pub fn table_words() -> [u32; 44]
     TABLE
 }
 
-// What the table says of a kind, from such words.
-pub fn row_in(words: &[u32; 44], kind: u64) -> Row
+// The row of a kind as its word, from such words: most lines need few of its fields.
+pub fn word_in(words: &[u32; 44], kind: u64) -> u32
     requires { ⌜ Tabled (now words) ⌝ }
-    ensures { λ r. ⌜ r ≡ rowOf kind ⌝ }
+    ensures { λ r. ⌜ rowIn r ≡ rowOf kind ⌝ }
 {
     if kind < 44 {
-        return unpacked(words[kind as usize]);
+        return words[kind as usize];
     }
-    unpacked(0)
+    0
+}
+
+// No part follows a line whose row is that word.
+pub fn is_leaf(word: u32) -> bool
+    ensures { λ r. ⌜ r ≡ isLeaf (rowIn word) ⌝ }
+{
+    word % 0x1000 == 0
 }
 
 fn value_ok(rule: u64, value: u64) -> bool
@@ -157,20 +164,23 @@ fn value_ok(rule: u64, value: u64) -> bool
     }
 }
 
+fn most_count(rule: u64) -> u64
+    ensures { λ r. ⌜ r ≡ mostCount rule ⌝ }
+{
+    if rule == UNUSED { 0 } else { 99 }
+}
+
 fn count_ok(rule: u64, count: u64) -> bool
     ensures { λ r. ⌜ r ≡ countOk rule count ⌝ }
 {
-    if rule == UNUSED {
-        count == 0
-    } else {
-        count <= 99
-    }
+    count <= most_count(rule)
 }
 
-// The fields of a line of that row are in range.
-pub fn fields_ok(row: Row, t: Triple) -> bool
-    ensures { λ r. ⌜ r ≡ fieldsOk row t ⌝ }
+// The fields of a line whose row is that word are in range.
+pub fn fields_ok(word: u32, t: Triple) -> bool
+    ensures { λ r. ⌜ r ≡ fieldsOk (rowIn word) t ⌝ }
 {
+    let row = unpacked(word);
     if value_ok(row.value, t.value) {
         return count_ok(row.count, t.count);
     }
@@ -215,20 +225,5 @@ pub fn begins(t: Triple, sort: u64) -> bool
     match head_of(t, sort) {
         Head::Parts { .. } => true,
         Head::No => false,
-    }
-}
-
-// How many parts follow a line of that row. A line's count has at most five digits.
-pub fn parts_of(row: Row, count: u64) -> u64
-    requires { ⌜ (row .types ≤ 2) × (row .terms ≤ 3) × (count < 100000) ⌝ }
-    ensures { λ r. ⌜ r ≡ partsIn row count ⌝ }
-{
-    let fixed = row.types + row.terms;
-    if row.each == NOTHING {
-        fixed
-    } else if row.each == ARM {
-        fixed + 2 * count
-    } else {
-        fixed + count
     }
 }

@@ -38,7 +38,6 @@ use Rattle.sheet.proofs.Declarations.{here}
 use Rattle.sheet.proofs.Forming.{AllParts, parts-following, few-each, length-following, due-following, split}
 use Rattle.sheet.proofs.TypeLines.{sort-is, value-ok, count-ok, begun-row}
 use Rattle.sheet.proofs.Formed.{Says, an-entry, expects, neither, says, sheet-forms}
-use Rattle.sheet.proofs.TermLines.{goal-four}
 use Rattle.sheet.proofs.LineKinds.{Sorted, sorted-following, sorted-due}
 
 -- ---- the test is the fact
@@ -57,6 +56,14 @@ true-forms (t ∷ ts) [] f = absurd f
 true-forms (t ∷ ts) (x ∷ a) f = and-eq-true-iff (ok x (Spelt t)) _ .1 (f .0, true-forms ts (due x (Spelt t) ++ a) (f .1))
 
 -- ---- a part that is due by its sort
+-- the goal's line has kind 4
+goal-four : (t : Triple) → begins aGoal t ≡ true → t .kind ≡ 4
+unfolding table
+goal-four t b = eqb-true (t .kind) 4 (rw (eq-eqb (rowOf (t .kind) .sort) aGoal (sort-is aGoal t b)) at (begun-row aGoal t b (omega arith) four refl))
+  where
+    four : ℕ → Row → Bool
+    four k r = not (eqb (r .sort) aGoal) || eqb k 4
+
 begins-by : (x : ℕ) (t : Triple) → rowOf (t .kind) .sort ≡ x → fieldsOk (rowOf (t .kind)) t ≡ true → begins x t ≡ true
 unfolding begins
 begins-by x t e f = rw (eq-eqb (rowOf (t .kind) .sort) x e) f

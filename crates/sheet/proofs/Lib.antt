@@ -9,7 +9,6 @@ pub mod LineKinds
 pub mod TypeLines
 pub mod Copies
 pub mod Ranges
-pub mod TermLines
 pub mod Fitting
 mod Walks
 pub mod Binders

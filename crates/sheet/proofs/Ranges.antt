@@ -51,8 +51,8 @@ literal-only k = go (listed-passes literalOnly k refl)
 count-small : (rule c : ℕ) → countOk rule c ≡ true → c ≤ 99
 count-small rule c = go (eqb rule 0)
   where
-    go : (b : Bool) → cond b (eqb c 0) (leb c 99) ≡ true → c ≤ 99
-    go true e = let z = eqb-true c 0 e in omega arith
+    go : (b : Bool) → leb c (cond b 0 99) ≡ true → c ≤ 99
+    go true e = let z = leb-true c 0 e in omega arith
     go false e = leb-true c 99 e
 
 line-in-range : (x : ℕ) (t : Triple) → ok (part x) (Spelt t) ≡ true → InRange t

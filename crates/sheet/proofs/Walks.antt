@@ -1,86 +1,27 @@
--- The walk over the parts of a line by their first lines: what is left from here is the whole. Assumes nothing.
-use mathlib.Core.Path.{_≡_, refl, sym, ap, ap₂, _∙_, subst}
-use mathlib.Core.Bool.{Bool, true, false, cond, _&&_}
+-- The walk over the parts of a line by their first lines. Assumes nothing.
+use mathlib.Core.Path.{_≡_, refl, sym, ap, ap₂, _∙_}
+use mathlib.Core.Logic.{_≢_}
+use mathlib.Core.Bool.{Bool, true, false, cond, _&&_, and-eq-true-iff}
 use mathlib.Core.List.{List, [], _∷_, _++_}
 use Prim.Native.Nat.{ℕ, zero, suc, _+_, _*_, _-_, _%_, _≤_, _<_}
-use native.Mathlib.Nat.{sub-zero}
-use native.Mathlib.Numerals.{add-one}
+use native.Mathlib.Nat.{add-zero}
 use native.Mathlib.Omega.{arith}
-use lib.ListN.{length, getD, drop, replicate, getD-replicate, drop-of-length-le}
-use lib.Seq.{drop-cons}
-use lib.Dec.{eqb, ltb}
-use borrow.Author.Tests.{ltb-true, ltb-false, ne-eqb}
+use lib.ListN.{length, getD, drop, replicate, length-append, drop-of-length-le}
+use lib.Dec.{eqb}
+use borrow.Author.Tests.{ne-eqb, eqb-true}
+use Rattle.nodes.specs.Parts.{dropParts}
 use Rattle.spelling.specs.declared.Triple.{Triple}
 use Rattle.kinds.specs.declared.Row.{Row}
-use Rattle.kinds.specs.Kinds.{aType, aTerm, aPattern, anArm, rowOf, fieldsOk, eachParts, partsIn, partsOf}
+use Rattle.kinds.specs.Kinds.{aType, aTerm, aPattern, anArm, rowOf, isLeaf, fieldsOk, partsOf}
 use Rattle.grammar.specs.Grammar.{Item, part, entries, arms, repeated, following}
 use Rattle.sheet.specs.declared.Walked.{Walked}
 use Rattle.sheet.specs.Plan.{noTriple, partLine}
 use Rattle.sheet.specs.Rows.{endAt, EndsFrom, KindsFrom}
-use Rattle.sheet.specs.Fit.{meets, partsAfter, sortDue, lineFits, walked}
+use Rattle.sheet.specs.Fit.{firstSort, meets, partsAfter, lineFits, walkedOver, walked}
 use Rattle.sheet.proofs.Lines.{line-none, line-past, line-hop, line-from, drop-line}
 use Rattle.sheet.proofs.Declarations.{here}
-use Rattle.sheet.proofs.Forming.{few-each}
-use Rattle.sheet.proofs.Fitting.{Real, real-after, length-after}
-
--- ---- part p of those that follow a line
-abbrev armSort : ℕ → ℕ
-armSort q = cond (eqb (q % 2) 0) aPattern aTerm
-
-arm-at : (n q : ℕ) → q < 2 * n → getD (arms n) q (part 0) ≡ part (armSort q)
-unfolding arms
-arm-at zero q h = absurd (omega arith)
-arm-at (suc n) zero h = refl
-arm-at (suc n) (suc zero) h = refl
-arm-at (suc n) (suc (suc q)) h = let e : suc (suc q) % 2 ≡ q % 2 = omega arith in rw e (arm-at n q (omega arith))
-
-each-at : (e n q : ℕ) → e ≤ 4 → q < eachParts e n → getD (repeated e n) q (part 0) ≡ part (cond (eqb e anArm) (armSort q) e)
-each-at zero n q l h = absurd (omega arith)
-each-at (suc zero) n q l h = getD-replicate n q (part aType) (part 0) h
-each-at (suc (suc zero)) n q l h = getD-replicate n q (part aTerm) (part 0) h
-each-at (suc (suc (suc zero))) n q l h = getD-replicate n q (part aPattern) (part 0) h
-each-at (suc (suc (suc (suc zero)))) n q l h = arm-at n q h
-each-at (suc (suc (suc (suc (suc e))))) n q l h = absurd (omega arith)
-
--- the first so many are x
-in-front : (m : ℕ) (x : Item) (b : List Item) (p : ℕ) → p < m → getD (replicate m x ++ b) p (part 0) ≡ x
-in-front zero x b p h = absurd (omega arith)
-in-front (suc m) x b zero h = refl
-in-front (suc m) x b (suc p) h = in-front m x b p (omega arith)
-
-behind : (m : ℕ) (x : Item) (b : List Item) (p : ℕ) → m ≤ p → getD (replicate m x ++ b) p (part 0) ≡ getD b (p - m) (part 0)
-behind zero x b p h = rw (sub-zero p)
-behind (suc m) x b zero h = absurd (omega arith)
-behind (suc m) x b (suc p) h = let e : suc p - suc m ≡ p - m = omega arith in rw e (behind m x b p (omega arith))
-
-part-at : (r : Row) (n p : ℕ) → r .each ≤ 4 → p < partsIn r n → getD (partsAfter r n) p (part 0) ≡ part (sortDue r p)
-unfolding following
-part-at r n p l h = go (ltb p (r .types)) refl (ltb p (r .types + r .terms)) refl
-  where
-    terms : List Item
-    terms = replicate (r .terms) (part aTerm) ++ repeated (r .each) n
-
-    go : (a : Bool) → ltb p (r .types) ≡ a → (b : Bool) → ltb p (r .types + r .terms) ≡ b
-        → getD (replicate (r .types) (part aType) ++ (replicate (r .terms) (part aTerm) ++ repeated (r .each) n)) p (part 0)
-        ≡ part (cond a aType (cond b aTerm (cond (eqb (r .each) anArm) (armSort (p - (r .types + r .terms))) (r .each))))
-    go true e b f = in-front (r .types) (part aType) _ p (ltb-true p (r .types) e)
-    go false e true f =
-        let k = ltb-false p (r .types) e in
-        let j = ltb-true p (r .types + r .terms) f in
-        behind (r .types) (part aType) _ p k ∙ in-front (r .terms) (part aTerm) (repeated (r .each) n) (p - r .types) (omega arith)
-    go false e false f =
-        let k = ltb-false p (r .types) e in
-        let j = ltb-false p (r .types + r .terms) f in
-        let z : p - r .types - r .terms ≡ p - (r .types + r .terms) = omega arith in
-        behind (r .types) (part aType) _ p k ∙ behind (r .terms) (part aTerm) (repeated (r .each) n) (p - r .types) (omega arith)
-        ∙ ap (λ (q : ℕ). getD (repeated (r .each) n) q (part 0)) z
-        ∙ each-at (r .each) n (p - (r .types + r .terms)) l (omega arith)
-
-real-drop : (p : ℕ) (a : List Item) → Real a → Real (drop p a)
-real-drop zero a r = r
-real-drop (suc p) [] r = tt
-real-drop (suc p) (part x ∷ a) r = real-drop p a (r .1)
-real-drop (suc p) (entries k n ∷ a) r = absurd r
+use Rattle.sheet.proofs.Forming.{AllParts, few-each}
+use Rattle.sheet.proofs.Fitting.{length-after}
 
 and-assoc : (a b c : Bool) → (a && (b && c)) ≡ ((a && b) && c)
 and-assoc true b c = refl
@@ -94,85 +35,150 @@ and-true : (a : Bool) → (a && true) ≡ a
 and-true true = refl
 and-true false = refl
 
-abbrev parts : Triple → List Item
-parts t = partsAfter (rowOf (t .kind)) (t .count)
+abbrev ended : ℕ → Bool → Walked
+ended at fits = record { line = at; fits = fits }
 
-parts-next : (t : Triple) (p : ℕ) → p < partsOf t → drop p (parts t) ≡ part (sortDue (rowOf (t .kind)) p) ∷ drop (p + 1) (parts t)
-unfolding partsOf
-parts-next t p h =
-    let l = length-after t in
-    drop-cons (parts t) p (part 0) (omega arith) ∙ ap₂ (λ (x : Item) (k : ℕ). x ∷ drop k (parts t)) (part-at (rowOf (t .kind)) (t .count) p (few-each (t .kind)) h) (sym (add-one p))
+both-are : {x y : ℕ} {f g : Bool} → x ≡ y → f ≡ g → ended x f ≡ ended y g
+both-are e f = ap₂ ended e f
 
--- ---- a walk that has come to part p, at line `at`
-pub record Walk (ls : List Triple) (i : ℕ) (t : Triple) (at p : ℕ) (fits : Bool) : Type 0 where
-  pub from : i + 1 ≤ at
-  pub line : partLine ls at (partsOf t - p) ≡ partLine ls (i + 1) (partsOf t)
-  pub fit : (fits && meets (drop at ls) (drop p (parts t))) ≡ lineFits t (drop (i + 1) ls)
+module _ (ls : List Triple) where
+  hop : (at n : ℕ) → partLine ls (partLine ls at 1) n ≡ partLine ls at (suc n)
+  hop at n = let e : n ≡ suc n - 1 = omega arith in ap (partLine ls (partLine ls at 1)) e ∙ line-hop ls at (suc n) (omega arith)
 
+  -- nothing is due
+  pub over-none : (at : ℕ) (f : Bool) → ended at f ≡ walkedOver ls at f []
+  unfolding meets
+  over-none at f = both-are (line-none ls at 0 refl) (sym (and-true f))
+
+  -- a part is due, and no line is there for it
+  pub over-past : (at : ℕ) (f : Bool) (x : ℕ) (ahead : List Item) → length ls ≤ at → x ≢ 0 → ended at false ≡ walkedOver ls at f (part x ∷ ahead)
+  unfolding meets
+  over-past at f x ahead h n =
+      let e : meets (drop at ls) (part x ∷ ahead) ≡ false = rw (drop-of-length-le ls h, ne-eqb 0 x (λ q. n (sym q))) in
+      both-are (line-past ls at (suc (length ahead)) h) (sym (ap (λ (b : Bool). f && b) e ∙ and-false f))
+
+  -- one part more
+  pub over-next : (at : ℕ) (f : Bool) (x : ℕ) (ahead : List Item) → at < length ls
+      → walkedOver ls (partLine ls at 1) (f && eqb (rowOf (getD ls at noTriple .kind) .sort) x) ahead ≡ walkedOver ls at f (part x ∷ ahead)
+  unfolding meets
+  over-next at f x ahead h =
+      let e : Bool = eqb (rowOf (getD ls at noTriple .kind) .sort) x in
+      let m : meets (drop at ls) (part x ∷ ahead) ≡ (e && meets (drop (partLine ls at 1) ls) ahead) = rw (drop-line ls at 1, here ls at h) in
+      both-are (hop at (length ahead)) (sym (ap (λ (b : Bool). f && b) m ∙ and-assoc f e _))
+
+  -- what is due in two goes
+  line-on : (at n m : ℕ) → partLine ls (partLine ls at n) m ≡ partLine ls at (n + m)
+  line-on at zero m = let e : m ≡ 0 + m = omega arith in ap₂ (λ (k j : ℕ). partLine ls k j) (sym (line-none ls at 0 refl)) e
+  line-on at (suc n) m =
+      let e : suc (n + m) ≡ suc n + m = omega arith in
+      ap (λ (k : ℕ). partLine ls k m) (sym (hop at n)) ∙ line-on (partLine ls at 1) n m ∙ hop at (n + m) ∙ ap (partLine ls at) e
+
+  meets-on : (at : ℕ) (a b : List Item) → AllParts a → meets (drop at ls) (a ++ b) ≡ (meets (drop at ls) a && meets (drop (partLine ls at (length a)) ls) b)
+  unfolding meets
+  meets-on at [] b p = ap (λ (k : ℕ). meets (drop k ls) b) (line-none ls at 0 refl)
+  meets-on at (part x ∷ a) b p =
+      let d = drop-line ls at 1 in
+      let ts = dropParts partsOf (drop at ls) 1 in
+      let rest = meets (drop (partLine ls at (suc (length a))) ls) b in
+      let again : meets ts (a ++ b) ≡ (meets ts a && rest) =
+      sym (ap (λ (xs : List Triple). meets xs (a ++ b)) d) ∙ meets-on (partLine ls at 1) a b p
+      ∙ ap₂ (λ (y z : Bool). y && z) (ap (λ (xs : List Triple). meets xs a) d) (ap (λ (k : ℕ). meets (drop k ls) b) (hop at (length a))) in
+      ap (λ (y : Bool). eqb (firstSort (drop at ls)) x && y) again ∙ and-assoc (eqb (firstSort (drop at ls)) x) (meets ts a) rest
+  meets-on at (entries k n ∷ a) b p = absurd p
+
+  pub over-on : (at : ℕ) (f : Bool) (a b : List Item) → AllParts a → walkedOver ls (partLine ls at (length a)) (f && meets (drop at ls) a) b ≡ walkedOver ls at f (a ++ b)
+  over-on at f a b p =
+      both-are (line-on at (length a) (length b) ∙ ap (partLine ls at) (sym (length-append a b))) (sym (ap (λ (x : Bool). f && x) (meets-on at a b p) ∙ and-assoc f _ _))
+
+-- ---- what the code has read: ends and kinds stand in the words
+pub ends-on : (ls : List Triple) (d : List ℕ) (at line : ℕ) → at ≤ line → EndsFrom ls d at → EndsFrom ls d line
+ends-on ls d at line h e i k l = e i (omega arith) l
+
+pub kinds-on : (ls : List Triple) (d : List ℕ) (at line : ℕ) → at ≤ line → KindsFrom ls d at → KindsFrom ls d line
+kinds-on ls d at line h e i k l = e i (omega arith) l
+
+pub over-from : (ls : List Triple) (at : ℕ) (f : Bool) (ahead : List Item) {w : Walked} → w ≡ walkedOver ls at f ahead → at ≤ w .line
+over-from ls at f ahead e = rw e (line-from ls at (length ahead))
+
+-- one more of so many parts of one sort
+module _ (d : List ℕ) (ls : List Triple) {at : ℕ} (ends : EndsFrom ls d at) (kinds : KindsFrom ls d at) (x : ℕ) where
+  pub sort-turn : (line : ℕ) (fits : Bool) (due : ℕ) → at ≤ line → line < length ls → 0 < due → {s e : ℕ} {f : Bool}
+      → s ≡ rowOf (getD d (2 * line + 1) 0 % 1024) .sort → e ≡ endAt d line → f ≡ (fits && eqb s x)
+      → (at ≤ e) × (walkedOver ls e f (replicate (due - 1) (part x)) ≡ walkedOver ls line fits (replicate due (part x)))
+  sort-turn line fits zero h l k es ee ef = absurd (omega arith)
+  sort-turn line fits (suc due) h l k es ee ef =
+      let s = es ∙ ap (λ (j : ℕ). rowOf j .sort) (kinds line h l) in
+      let e = ee ∙ ends line h l in
+      let n : suc due - 1 ≡ due = omega arith in
+      let w = line-from ls line 1 in
+      rw (ef, s, e, n) (omega arith, over-next ls line fits x (replicate due (part x)) l)
+
+  pub sort-past : (line : ℕ) (fits : Bool) (due : ℕ) → length ls ≤ line → 0 < due → 0 < x → ended line false ≡ walkedOver ls line fits (replicate due (part x))
+  sort-past line fits zero l k p = absurd (omega arith)
+  sort-past line fits (suc due) l k p = over-past ls line fits x (replicate due (part x)) l (λ e. omega arith)
+
+pub sort-done : (ls : List Triple) (x line : ℕ) (fits : Bool) (due : ℕ) → due ≤ 0 → ended line fits ≡ walkedOver ls line fits (replicate due (part x))
+sort-done ls x line fits zero h = over-none ls line fits
+sort-done ls x line fits (suc due) h = absurd (omega arith)
+
+-- one more arm
+pub arm-turn : (ls : List Triple) (line : ℕ) (fits : Bool) (due : ℕ) → 0 < due → {p t : Walked} → p ≡ walkedOver ls line fits (replicate 1 (part aPattern)) → t ≡ walkedOver ls (p .line) (p .fits) (replicate 1 (part aTerm))
+    → (line ≤ t .line) × (walkedOver ls (t .line) (t .fits) (arms (due - 1)) ≡ walkedOver ls line fits (arms due))
+unfolding arms
+arm-turn ls line fits zero h ep et = absurd (omega arith)
+arm-turn ls line fits (suc due) h ep et =
+    let n : suc due - 1 ≡ due = omega arith in
+    let w = line-from ls line 1 in
+    let v = line-from ls (partLine ls line 1) 1 in
+    let m = meets (drop line ls) (part aPattern ∷ []) in
+    rw (et, ep, n) (omega arith, over-on ls (partLine ls line 1) (fits && m) (part aTerm ∷ []) (arms due) tt ∙ over-on ls line fits (part aPattern ∷ []) (part aTerm ∷ arms due) tt)
+
+pub arms-done : (ls : List Triple) (line : ℕ) (fits : Bool) (due : ℕ) → due ≤ 0 → ended line fits ≡ walkedOver ls line fits (arms due)
+unfolding arms
+arms-done ls line fits zero h = over-none ls line fits
+arms-done ls line fits (suc due) h = absurd (omega arith)
+
+-- what follows count times
+pub each-none : (ls : List Triple) (line : ℕ) (fits : Bool) (e n : ℕ) → e ≡ 0 → ended line fits ≡ walkedOver ls line fits (repeated e n)
+each-none ls line fits e n h = rw h (over-none ls line fits)
+
+pub each-arms : (e n : ℕ) → e ≡ anArm → arms n ≡ repeated e n
+each-arms e n h = rw h
+
+pub each-sort : (e n : ℕ) → e ≤ 4 → (e ≡ 0 → ⊥) → (e ≡ anArm → ⊥) → replicate n (part e) ≡ repeated e n
+each-sort zero n h f g = absurd (f refl)
+each-sort (suc zero) n h f g = refl
+each-sort (suc (suc zero)) n h f g = refl
+each-sort (suc (suc (suc zero))) n h f g = refl
+each-sort (suc (suc (suc (suc zero)))) n h f g = absurd (g refl)
+each-sort (suc (suc (suc (suc (suc e))))) n h f g = absurd (omega arith)
+
+-- all that follows a line
+all-parts : (n x : ℕ) → AllParts (replicate n (part x))
+all-parts zero x = tt
+all-parts (suc n) x = all-parts n x
+
+pub parts-walked : (ls : List Triple) (at : ℕ) (held : Bool) (r : Row) (n : ℕ) {ty te e : Walked} → ty ≡ walkedOver ls at held (replicate (r .types) (part aType)) → te ≡ walkedOver ls (ty .line) (ty .fits) (replicate (r .terms) (part aTerm))
+    → e ≡ walkedOver ls (te .line) (te .fits) (repeated (r .each) n) → e ≡ walkedOver ls at held (partsAfter r n)
+unfolding following
+parts-walked ls at held r n ey et ee =
+    let m = meets (drop at ls) (replicate (r .types) (part aType)) in
+    rw (ee, et, ey) (
+    over-on ls (partLine ls at (length (replicate (r .types) (part aType)))) (held && m) (replicate (r .terms) (part aTerm)) (repeated (r .each) n) (all-parts (r .terms) aTerm)
+    ∙ over-on ls at held (replicate (r .types) (part aType)) (replicate (r .terms) (part aTerm) ++ repeated (r .each) n) (all-parts (r .types) aType)
+    )
+
+-- and of line i
 module _ (ls : List Triple) (i : ℕ) (t : Triple) where
-  pub walk-start : Walk ls i t (i + 1) 0 (fieldsOk (rowOf (t .kind)) t)
-  walk-start = record { from = omega arith; line = ap (partLine ls (i + 1)) (sub-zero (partsOf t)); fit = refl }
+  pub line-walked : {r : Row} {f : Bool} {w : Walked} → r ≡ rowOf (t .kind) → f ≡ fieldsOk r t → w ≡ walkedOver ls (i + 1) f (partsAfter r (t .count)) → w ≡ walked ls i t
+  line-walked er ef ew = rw (ew, ef, er) (both-are (ap (partLine ls (i + 1)) (length-after t)) refl)
 
-  module _ {at p : ℕ} {fits : Bool} (w : Walk ls i t at p fits) where
-    pub walk-end : partsOf t ≤ p → record { line = at; fits = fits } ≡ walked ls i t
-    unfolding meets
-    walk-end h =
-        let l = length-after t in
-        let k : length (parts t) ≤ p = omega arith in
-        let z : drop p (parts t) ≡ [] = drop-of-length-le (parts t) k in
-        let a : at ≡ partLine ls (i + 1) (partsOf t) = line-none ls at (partsOf t - p) (omega arith) ∙ w .line in
-        let f : fits ≡ lineFits t (drop (i + 1) ls) = sym (and-true fits) ∙ sym (ap (λ (a : List Item). fits && meets (drop at ls) a) z) ∙ w .fit in
-        ap₂ (λ (x : ℕ) (y : Bool). (let e : Walked = record { line = x; fits = y } in e)) a f
+  leaf-none : (r : Row) (n : ℕ) → isLeaf r ≡ true → partsAfter r n ≡ []
+  unfolding following
+  leaf-none r n e =
+      let a = and-eq-true-iff (eqb (r .types) 0) _ .0 e in
+      let b = and-eq-true-iff (eqb (r .terms) 0) _ .0 (a .1) in
+      rw (eqb-true (r .types) 0 (a .0), eqb-true (r .terms) 0 (b .0), eqb-true (r .each) 0 (b .1))
 
-    module _ (h : p < partsOf t) where
-      -- no line is there for it
-      pub walk-past : length ls ≤ at → record { line = at; fits = false } ≡ walked ls i t
-      unfolding meets
-      walk-past l =
-          let x : ℕ = sortDue (rowOf (t .kind)) p in
-          let r : Real (part x ∷ drop (p + 1) (parts t)) = subst Real (parts-next t p h) (real-drop p (parts t) (real-after (rowOf (t .kind)) (t .count))) in
-          let e : meets (drop at ls) (drop p (parts t)) ≡ false = rw (drop-of-length-le ls l, parts-next t p h, ne-eqb 0 x (λ q. r .0 (sym q))) in
-          let a : at ≡ partLine ls (i + 1) (partsOf t) = line-past ls at (partsOf t - p) l ∙ w .line in
-          let f : false ≡ lineFits t (drop (i + 1) ls) = sym (ap (λ (b : Bool). fits && b) e ∙ and-false fits) ∙ w .fit in
-          ap₂ (λ (x : ℕ) (y : Bool). (let e : Walked = record { line = x; fits = y } in e)) a f
-
-      pub walk-turn : at < length ls → Walk ls i t (partLine ls at 1) (p + 1) (fits && eqb (rowOf (getD ls at noTriple .kind) .sort) (sortDue (rowOf (t .kind)) p))
-      unfolding meets
-      walk-turn l =
-          let u : Triple = getD ls at noTriple in
-          let e : Bool = eqb (rowOf (u .kind) .sort) (sortDue (rowOf (t .kind)) p) in
-          let q = line-from ls at 1 in
-          let b = w .from in
-          let m : meets (drop at ls) (drop p (parts t)) ≡ (e && meets (drop (partLine ls at 1) ls) (drop (p + 1) (parts t))) =
-          rw (parts-next t p h, drop-line ls at 1, here ls at l) in
-          let k : partsOf t - (p + 1) ≡ partsOf t - p - 1 = omega arith in
-          record {
-            from = omega arith;
-            line = ap (partLine ls (partLine ls at 1)) k ∙ line-hop ls at (partsOf t - p) (omega arith) ∙ w .line;
-            fit = sym (ap (λ (b : Bool). fits && b) m ∙ and-assoc fits e _) ∙ w .fit;
-          }
-
--- ---- the same of what the code has read: row and count of parts are those of the line, ends and kinds stand in the words
-module _ (d : List ℕ) (ls : List Triple) (i : ℕ) (t : Triple) {row : Row} {n : ℕ} (er : row ≡ rowOf (t .kind)) (en : n ≡ partsIn row (t .count)) where
-  count-is : n ≡ partsOf t
-  unfolding partsOf
-  count-is = en ∙ ap (λ (r : Row). partsIn r (t .count)) er
-
-  pub begun : {f : Bool} → f ≡ fieldsOk row t → Walk ls i t (i + 1) 0 f
-  begun e = subst (Walk ls i t (i + 1) 0) (sym (e ∙ ap (λ (r : Row). fieldsOk r t) er)) (walk-start ls i t)
-
-  module _ {at p : ℕ} {fits : Bool} (w : Walk ls i t at p fits) where
-    pub stopped : p < n → length ls ≤ at → record { line = at; fits = false } ≡ walked ls i t
-    stopped h l = let c = count-is in walk-past ls i t w (omega arith) l
-
-    pub ended : n ≤ p → record { line = at; fits = fits } ≡ walked ls i t
-    ended h = let c = count-is in walk-end ls i t w (omega arith)
-
-    pub went : EndsFrom ls d (i + 1) → KindsFrom ls d (i + 1) → p < n → at < length ls → {s u e : ℕ} {f : Bool} → s ≡ rowOf (getD d (2 * at + 1) 0 % 1024) .sort → u ≡ sortDue row p → e ≡ endAt d at → f ≡ (fits && eqb s u)
-        → Walk ls i t e (p + 1) f
-    went ends kinds h l es eu ee ef =
-        let c = count-is in
-        let k = es ∙ ap (λ (j : ℕ). rowOf j .sort) (kinds at (w .from) l) in
-        let u = eu ∙ ap (λ (r : Row). sortDue r p) er in
-        let e = ee ∙ ends at (w .from) l in
-        rw (ef, k, u, e) (walk-turn ls i t w (omega arith) l)
+  pub leaf-walked : {r : Row} {f : Bool} → r ≡ rowOf (t .kind) → f ≡ fieldsOk r t → isLeaf r ≡ true → ended (i + 1) f ≡ walked ls i t
+  leaf-walked {r} {f} er ef l = line-walked er ef (over-none ls (i + 1) f ∙ ap (walkedOver ls (i + 1) f) (sym (leaf-none r (t .count) l)))

@@ -1,14 +1,14 @@
 -- Whether lines make up a plan, told line by line from the last one up. Assumes nothing: these are definitions.
-use mathlib.Core.Bool.{Bool, true, false, cond, _&&_}
+use mathlib.Core.Bool.{Bool, true, false, _&&_}
 use mathlib.Core.List.{List, [], _∷_, _++_}
-use Prim.Native.Nat.{ℕ, _+_, _-_, _%_}
-use lib.Dec.{eqb, ltb}
-use lib.ListN.{drop}
+use Prim.Native.Nat.{ℕ, _+_}
+use lib.Dec.{eqb}
+use lib.ListN.{length, drop}
 use Rattle.nodes.specs.Parts.{dropParts}
 use Rattle.spelling.specs.declared.Triple.{Triple}
 use Rattle.spelling.specs.declared.Line.the-variants.{Spelt}
 use Rattle.kinds.specs.declared.Row.{Row}
-use Rattle.kinds.specs.Kinds.{nothing, aType, aTerm, aPattern, anArm, rowOf, fieldsOk, partsOf}
+use Rattle.kinds.specs.Kinds.{nothing, rowOf, fieldsOk, partsOf}
 use Rattle.grammar.specs.declared.Check.{Check}
 use Rattle.grammar.specs.declared.Check.the-variants.{Plan, Length, Misspelt, Unfit}
 use Rattle.grammar.specs.Grammar.{Item, part, entries, following, ok, due}
@@ -40,14 +40,9 @@ meets ts [] = true
 meets ts (part x ∷ ahead) = let rest = meets (dropParts partsOf ts 1) ahead in eqb (firstSort ts) x && rest
 meets ts (entries k last ∷ ahead) = false
 
--- what must follow a line of the row r with the count n, and the sort of part p of it
+-- what must follow a line of the row r with the count n
 abbrev pub partsAfter : Row → ℕ → List Item
 partsAfter r n = following (r .types) (r .terms) (r .each) n
-
-abbrev pub sortDue : Row → ℕ → ℕ
-sortDue r p =
-    let q = p - (r .types + r .terms) in
-    cond (ltb p (r .types)) aType (cond (ltb p (r .types + r .terms)) aTerm (cond (eqb (r .each) anArm) (cond (eqb (q % 2) 0) aPattern aTerm) (r .each)))
 
 -- the line fits in front of the lines ts: its fields are in range, and its parts follow
 abbrev pub lineFits : Triple → List Triple → Bool
@@ -56,6 +51,10 @@ lineFits t ts = let r = rowOf (t .kind) in fieldsOk r t && meets ts (partsAfter 
 unfoldable pub allFit : List Triple → Bool
 allFit [] = true
 allFit (t ∷ ts) = let rest = allFit ts in lineFits t ts && rest
+
+-- what is due walked over from line `at` on: where it ends, and whether all fits, with what came before
+abbrev pub walkedOver : List Triple → ℕ → Bool → List Item → Walked
+walkedOver ls at held ahead = record { line = partLine ls at (length ahead); fits = held && meets (drop at ls) ahead }
 
 -- line i, which says t: where its parts end, and whether it fits
 abbrev pub walked : List Triple → ℕ → Triple → Walked

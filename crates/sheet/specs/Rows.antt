@@ -116,39 +116,16 @@ pub record Unlinked (d : List ℕ) : Type 0 where
   pub none : (i : ℕ) → i < lineCount d → firstAt d i ≡ 0
   pub alone : (i : ℕ) → i < lineCount d → nextAt d i ≡ 0
 
--- ---- reading a sheet to rows: lines first, with no end, and then the ends, the last line's first
--- one row of n written
-abbrev pub setRow : List ℕ → ℕ → ℕ → Triple → ℕ → List ℕ
-setRow d n i t end = set (set (set (set d (2 * i) (t .value)) (2 * i + 1) (packed t end)) (2 * n + i) 0) (3 * n + i) 0
+-- ---- reading a sheet to rows, the last line first
+-- one row written
+abbrev pub setRow : List ℕ → ℕ → Triple → ℕ → List ℕ
+setRow d i t end = set (set d (2 * i) (t .value)) (2 * i + 1) (packed t end)
 
--- the rows from row i on written
-unfoldable pub putRows : List ℕ → ℕ → List Triple → List ℕ
-putRows d i [] = d
-putRows d i (t ∷ ts) = putRows (setRow d (lineCount d) i t 0) (i + 1) ts
-
--- the line after the first one of kind 4
-unfoldable pub afterGoal : List Triple → ℕ
-afterGoal [] = 0
-afterGoal (t ∷ ts) = let others = afterGoal ts in suc (cond (eqb (t .kind) 4) 0 others)
-
--- row i is that of line i of ls, with that end, and nothing is linked
-abbrev pub RowIs : List Triple → List ℕ → ℕ → ℕ → Type 0
-RowIs ls d i end =
-    (getD d (2 * i) 0 ≡ getD ls i noTriple .value)
-    × (getD d (2 * i + 1) 0 ≡ packed (getD ls i noTriple) end)
-    × (getD d (2 * length ls + i) 0 ≡ 0)
-    × (getD d (3 * length ls + i) 0 ≡ 0)
-
--- the rows below row n have no end
-abbrev pub Bare : List Triple → List ℕ → ℕ → Type 0
-Bare ls d n = (i : ℕ) → i < n → RowIs ls d i 0
-
--- what the end of line i asks: a row for each line, its own row, and the ends and kinds of those after it
+-- what reading line i asks: a row for each line, and the ends and kinds of those after it
 pub record RowAsk (d s : List ℕ) (i : ℕ) : Type 0 where
   pub room : length d ≡ 4 * length (triples s)
   pub few : length (triples s) ≤ mostLines
   pub stands : i < length (triples s)
-  pub bare : RowIs (triples s) d i 0
   pub after : EndsFrom (triples s) d (i + 1)
   pub kinds : KindsFrom (triples s) d (i + 1)
 

@@ -2,36 +2,39 @@
 // A sheet is read once into rows, and the rules read those. A function that looks for a part's end asks for rows that have their ends, as `read_plan` gives them; the others take any words. What
 // they mean as a plan is for a sheet that is one.
 use kinds::ARM;
+use kinds::NOTHING;
 use kinds::PATTERN;
 use kinds::Row;
 use kinds::TERM;
 use kinds::TYPE;
 use kinds::fields_ok;
-use kinds::parts_of;
-use kinds::row_in;
+use kinds::is_leaf;
 use kinds::table_words;
-use reading::next_of_sheet;
+use kinds::unpacked;
+use kinds::word_in;
 use sizes::HIGHEST_NAME;
 use sizes::LINE_LENGTH;
 use spelling::Line;
 use spelling::Triple;
+use spelling::few_at;
+use spelling::line_at;
 ghost use mathlib.Core.Path.{_≡_};
 ghost use mathlib.Core.Bool.{true, not, cond, _&&_, _||_};
 ghost use mathlib.Core.List.{List, [], _∷_};
 ghost use Prim.Native.Nat.{ℕ, _+_, _*_, _-_, _/_, _%_, _≤_, _<_};
-ghost use lib.ListN.{length, getD, set, take, drop};
+ghost use lib.ListN.{length, getD, set, take, drop, replicate};
 ghost use lib.Seq.{sets};
 ghost use Rattle.sizes.specs.Sizes.{lineLength, mostLines};
 ghost use Rattle.kinds.specs.Kinds.{aGoal, rowOf, Tabled};
-ghost use Rattle.grammar.specs.Grammar.{part, entries, inOrder};
+ghost use Rattle.grammar.specs.Grammar.{part, entries, inOrder, arms, repeated};
 ghost use Rattle.grammar.specs.Check.{lengthOk, check};
-ghost use Rattle.nodes.specs.Nodes.{number, words};
+ghost use Rattle.nodes.specs.Nodes.{number, words, zeros};
 ghost use Rattle.nodes.specs.Lists.{All};
 ghost use Rattle.sheet.specs.Plan.{noTriple, tripleOf, triples, partLine, lineNode, nodesOf, Narrow, isEntry, named, declarations, findEntry, entriesEnd, placesOf, isPlain, isUse, plainEntries, plainPlan};
 ghost use Rattle.sheet.specs.Used.{tableLength, markName, marked, isMarked, Tells, SmallNames};
-ghost use Rattle.sheet.specs.Rows.{packed, rowTriple, lineCount, rows, endAt, binderAt, EndsFrom, Ended, setRow, putRows, Bare, afterGoal, RowAsk, KindsFrom, linked, linkEntry, Unlinked, Linked, unlinkedWords, linkAll, frontOf, setBinder, putBinders, quantified, bindType, bindAll, sheetWords};
+ghost use Rattle.sheet.specs.Rows.{packed, rowTriple, lineCount, rows, endAt, binderAt, EndsFrom, Ended, setRow, RowAsk, KindsFrom, linked, linkEntry, Unlinked, Linked, unlinkedWords, linkAll, frontOf, setBinder, putBinders, quantified, bindType, bindAll, sheetWords};
 ghost use Rattle.sheet.specs.Binders.{putNames, binderBy, TellsPlaces, UpTo, markType, markAll, anyQuantified, Bindable, TypeAsk};
-ghost use Rattle.sheet.specs.Fit.{isPlan, forms, sortDue, walked, lineFits, allFit};
+ghost use Rattle.sheet.specs.Fit.{isPlan, forms, partsAfter, walkedOver, walked, lineFits, allFit};
 
 // How many lines there are: each has a row of two words, and behind the rows two words that link the entries.
 pub fn line_count(s: &[u64]) -> usize
@@ -144,59 +147,27 @@ fn pack(t: Triple, end: usize) -> u64
     t.kind + 1024 * (sign + 2 * (t.count + 131072 * (end as u64)))
 }
 
-// Writes a line to row i, with no end yet. No entry is linked yet.
-fn put_row(d: &mut [u64], i: usize, t: Triple)
-    requires { ⌜ (i < length (now d) / 4) × (t .kind < 1000) × (t .count < 100000) ⌝ }
-    ensures { λ _. ⌜ now (d .exit) ≡ setRow (now (d .entry)) (lineCount (now (d .entry))) i t 0 ⌝ }
+// No entry is linked.
+fn clear_links(d: &mut [u64])
+    ensures { λ _. ⌜ now (d .exit) ≡ sets (now (d .entry)) (2 * lineCount (now (d .entry))) (zeros (length (now (d .entry)) - 2 * lineCount (now (d .entry)))) ⌝ }
 {
-    let lines = d.len() / 4;
-    d[2 * i] = t.value;
-    d[2 * i + 1] = pack(t, 0);
-    d[2 * lines + i] = 0;
-    d[3 * lines + i] = 0;
-}
-
-// Reads the lines up to that of kind 4, and gives the line after it.
-fn read_head(d: &mut [u64], s: &[u8]) -> usize
-    requires { ⌜ length (now d) ≡ 4 * (length (now s) / lineLength) ⌝ }
-    ensures { λ r. ⌜ (r ≡ afterGoal (triples (now (s .entry)))) × (length (now (d .exit)) ≡ length (now (d .entry))) × (putRows (now (d .exit)) r (drop r (triples (now (s .entry)))) ≡ putRows (now (d .entry)) 0 (triples (now (s .entry)))) ⌝ }
-{
-    let lines = s.len() / LINE_LENGTH;
-    let mut at = 0;
-    while at < lines {
-        let n = next_of_sheet(s, at);
-        let line = n.line;
-        let t = triple_of(line);
-        put_row(d, at, t);
-        at = n.next;
-        if t.kind == 4 {
-            return at;
-        }
+    let n = d.len();
+    let mut i = 2 * (n / 4);
+    while i < n {
+        d[i] = 0;
+        i += 1;
     }
-    at
 }
 
-// The lines from a line on. From the line after that of kind 4 on they are, of a plan, the lines of its term (`term-part`).
-fn term_lines(s: &[u8], at: usize) -> &[u8]
-    requires { ⌜ at ≤ length (now s) / lineLength ⌝ }
-    ensures { λ r. ⌜ now r ≡ drop (lineLength * at) (now (s .entry)) ⌝ }
+// What line i says. Most lines have few digits.
+fn line_said(s: &[u8], i: usize) -> Triple
+    requires { ⌜ i < length (now s) / lineLength ⌝ }
+    ensures { λ r. ⌜ r ≡ getD (triples (now (s .entry))) i noTriple ⌝ }
 {
-    &s[LINE_LENGTH * at..]
-}
-
-// Reads the lines of a part of a sheet to the rows from row `first` on.
-fn read_part(d: &mut [u64], first: usize, s: &[u8])
-    requires { ⌜ first + length (now s) / lineLength ≤ length (now d) / 4 ⌝ }
-    ensures { λ _. ⌜ now (d .exit) ≡ putRows (now (d .entry)) first (triples (now (s .entry))) ⌝ }
-{
-    let lines = s.len() / LINE_LENGTH;
-    let mut at = 0;
-    while at < lines {
-        let n = next_of_sheet(s, at);
-        let line = n.line;
-        put_row(d, first + at, triple_of(line));
-        at = n.next;
+    if let Line::Spelt(t) = few_at(s, LINE_LENGTH * i) {
+        return t;
     }
+    triple_of(line_at(s, i))
 }
 
 fn both(a: bool, b: bool) -> bool
@@ -205,33 +176,12 @@ fn both(a: bool, b: bool) -> bool
     if a { b } else { false }
 }
 
-// The sort of part p of those that follow a line of that row.
-fn sort_due(row: Row, p: u64) -> u64
-    requires { ⌜ (row .types ≤ 2) × (row .terms ≤ 3) ⌝ }
-    ensures { λ r. ⌜ r ≡ sortDue row p ⌝ }
-{
-    if p < row.types {
-        return TYPE;
-    }
-    let fixed = row.types + row.terms;
-    if p < fixed {
-        return TERM;
-    }
-    if row.each == ARM {
-        if (p - fixed) % 2 == 0 {
-            return PATTERN;
-        }
-        return TERM;
-    }
-    row.each
-}
-
 // The sort of part that starts at line i.
 fn sort_at(d: &[u64], words: &[u32; 44], i: usize) -> u64
     requires { ⌜ (2 * i + 1 < length (now d)) × Tabled (now words) ⌝ }
     ensures { λ r. ⌜ r ≡ rowOf (getD (now (d .entry)) (2 * i + 1) 0 % 1024) .sort ⌝ }
 {
-    let row = row_in(words, d[2 * i + 1] % 1024);
+    let row = unpacked(word_in(words, d[2 * i + 1] % 1024));
     row.sort
 }
 
@@ -241,55 +191,129 @@ pub struct Walked {
     pub fits: bool,
 }
 
-// Walks over the parts of line i, which says t, by their first lines; the rows after it have their ends. The line fits if its fields are in range and each part
-// starts with a line of the sort that is due there.
-fn walk_line(d: &[u64], words: &[u32; 44], lines: usize, i: usize, t: Triple) -> Walked
-    requires { ⌜ (2 * lines ≤ length (now d)) × (i < lines) × (t .count < 100000) × Tabled (now words) ⌝ }
-    ensures { λ r. ⌜ ((ls : List Triple) → length ls ≡ lines → EndsFrom ls (now (d .entry)) (i + 1) → KindsFrom ls (now (d .entry)) (i + 1) → r ≡ walked ls i t) ⌝ }
+// Walks over n parts of one sort from line `at` on by their first lines; the rows from there on have their ends. `held` tells whether all before them fits.
+fn walk_sort(
+    d: &[u64],
+    words: &[u32; 44],
+    lines: usize,
+    at: usize,
+    n: u64,
+    sort: u64,
+    held: bool,
+) -> Walked
+    requires { ⌜ (2 * lines ≤ length (now d)) × Tabled (now words) × (0 < sort) ⌝ }
+    ensures { λ r. ⌜ ((ls : List Triple) → length ls ≡ lines → EndsFrom ls (now (d .entry)) at → KindsFrom ls (now (d .entry)) at → r ≡ walkedOver ls at held (replicate n (part sort))) ⌝ }
 {
-    let row = row_in(words, t.kind);
-    let parts = parts_of(row, t.count);
-    let mut at = i + 1;
-    let mut fits = fields_ok(row, t);
-    let mut p = 0;
-    while p < parts {
-        if lines <= at {
-            return Walked {
-                line: at,
-                fits: false,
-            };
+    let mut line = at;
+    let mut fits = held;
+    let mut due = n;
+    while 0 < due {
+        if lines <= line {
+            return Walked { line, fits: false };
         }
-        let sort = sort_at(d, words, at);
-        let due = sort_due(row, p);
-        fits = both(fits, sort == due);
-        at = end_at(d, at);
-        p += 1;
+        fits = both(fits, sort_at(d, words, line) == sort);
+        line = end_at(d, line);
+        due -= 1;
     }
-    Walked { line: at, fits }
+    Walked { line, fits }
 }
 
-// The end of the part that starts at line i, where its own parts end; the ends of those after it stand in the rows. Gives whether the line fits in front of them.
-fn set_end(d: &mut [u64], words: &[u32; 44], s: &[u8], i: usize) -> bool
-    requires { ⌜ RowAsk (now d) (now s) i × Tabled (now words) ⌝ }
-    ensures { λ r. ⌜ (now (d .exit) ≡ set (now (d .entry)) (2 * i + 1) (packed (getD (triples (now (s .entry))) i noTriple) (partLine (triples (now (s .entry))) i 1))) × (r ≡ lineFits (getD (triples (now (s .entry))) i noTriple) (drop (i + 1) (triples (now (s .entry))))) ⌝ }
+// The same over n arms.
+fn walk_arms(d: &[u64], words: &[u32; 44], lines: usize, at: usize, n: u64, held: bool) -> Walked
+    requires { ⌜ (2 * lines ≤ length (now d)) × Tabled (now words) ⌝ }
+    ensures { λ r. ⌜ ((ls : List Triple) → length ls ≡ lines → EndsFrom ls (now (d .entry)) at → KindsFrom ls (now (d .entry)) at → r ≡ walkedOver ls at held (arms n)) ⌝ }
 {
-    let lines = s.len() / LINE_LENGTH;
-    let t = row_triple(d[2 * i], d[2 * i + 1]);
-    let w = walk_line(d, words, lines, i, t);
+    let mut line = at;
+    let mut fits = held;
+    let mut due = n;
+    while 0 < due {
+        let pattern = walk_sort(d, words, lines, line, 1, PATTERN, fits);
+        let term = walk_sort(d, words, lines, pattern.line, 1, TERM, pattern.fits);
+        line = term.line;
+        fits = term.fits;
+        due -= 1;
+    }
+    Walked { line, fits }
+}
+
+// The same over what follows n times.
+fn walk_each(
+    d: &[u64],
+    words: &[u32; 44],
+    lines: usize,
+    at: usize,
+    n: u64,
+    each: u64,
+    held: bool,
+) -> Walked
+    requires { ⌜ (2 * lines ≤ length (now d)) × Tabled (now words) × (each ≤ 4) ⌝ }
+    ensures { λ r. ⌜ ((ls : List Triple) → length ls ≡ lines → EndsFrom ls (now (d .entry)) at → KindsFrom ls (now (d .entry)) at → r ≡ walkedOver ls at held (repeated each n)) ⌝ }
+{
+    if each == NOTHING {
+        return Walked {
+            line: at,
+            fits: held,
+        };
+    }
+    if each == ARM {
+        return walk_arms(d, words, lines, at, n, held);
+    }
+    walk_sort(d, words, lines, at, n, each, held)
+}
+
+// The same over all that follows a line of that row with the count n.
+fn walk_parts(
+    d: &[u64],
+    words: &[u32; 44],
+    lines: usize,
+    at: usize,
+    n: u64,
+    row: Row,
+    held: bool,
+) -> Walked
+    requires { ⌜ (2 * lines ≤ length (now d)) × Tabled (now words) × (row .each ≤ 4) ⌝ }
+    ensures { λ r. ⌜ ((ls : List Triple) → length ls ≡ lines → EndsFrom ls (now (d .entry)) at → KindsFrom ls (now (d .entry)) at → r ≡ walkedOver ls at held (partsAfter row n)) ⌝ }
+{
+    let types = walk_sort(d, words, lines, at, row.types, TYPE, held);
+    let terms = walk_sort(d, words, lines, types.line, row.terms, TERM, types.fits);
+    walk_each(d, words, lines, terms.line, n, row.each, terms.fits)
+}
+
+// Walks over the parts of line i, which says t. The line fits if its fields are in range and each part starts with a line of the sort that is due there.
+fn walk_line(d: &[u64], words: &[u32; 44], lines: usize, i: usize, t: Triple) -> Walked
+    requires { ⌜ (2 * lines ≤ length (now d)) × (i < lines) × Tabled (now words) ⌝ }
+    ensures { λ r. ⌜ ((ls : List Triple) → length ls ≡ lines → EndsFrom ls (now (d .entry)) (i + 1) → KindsFrom ls (now (d .entry)) (i + 1) → r ≡ walked ls i t) ⌝ }
+{
+    let word = word_in(words, t.kind);
+    let fits = fields_ok(word, t);
+    if is_leaf(word) {
+        return Walked { line: i + 1, fits };
+    }
+    walk_parts(d, words, lines, i + 1, t.count, unpacked(word), fits)
+}
+
+// Reads line i to its row. Its parts end where its own end stands; those after it have been read. Gives whether the line fits in front of them.
+fn read_line(d: &mut [u64], words: &[u32; 44], s: &[u8], i: usize) -> bool
+    requires { ⌜ RowAsk (now d) (now s) i × Tabled (now words) ⌝ }
+    ensures { λ r. ⌜ (now (d .exit) ≡ setRow (now (d .entry)) i (getD (triples (now (s .entry))) i noTriple) (partLine (triples (now (s .entry))) i 1)) × (r ≡ lineFits (getD (triples (now (s .entry))) i noTriple) (drop (i + 1) (triples (now (s .entry))))) ⌝ }
+{
+    let t = line_said(s, i);
+    let w = walk_line(d, words, s.len() / LINE_LENGTH, i, t);
+    d[2 * i] = t.value;
     d[2 * i + 1] = pack(t, w.line);
     w.fits
 }
 
-// The ends of all lines, the last one's first. Gives whether every line fits in front of those after it.
-fn set_ends(d: &mut [u64], words: &[u32; 44], s: &[u8]) -> bool
-    requires { ⌜ (length (now d) ≡ 4 * length (triples (now s))) × (length (triples (now s)) ≤ mostLines) × Bare (triples (now s)) (now d) (length (triples (now s))) × Tabled (now words) ⌝ }
+// Reads all lines, the last one first. Gives whether every line fits in front of those after it.
+fn read_lines(d: &mut [u64], words: &[u32; 44], s: &[u8]) -> bool
+    requires { ⌜ (length (now d) ≡ 4 * length (triples (now s))) × (length (triples (now s)) ≤ mostLines) × Unlinked (now d) × Tabled (now words) ⌝ }
     ensures { λ r. ⌜ (rows (now (d .exit)) ≡ triples (now (s .entry))) × EndsFrom (rows (now (d .exit))) (now (d .exit)) 0 × Unlinked (now (d .exit)) × (now (d .exit) ≡ unlinkedWords (triples (now (s .entry)))) × (r ≡ allFit (triples (now (s .entry)))) ⌝ }
 {
     let mut i = s.len() / LINE_LENGTH;
     let mut fits = true;
     while 0 < i {
         i -= 1;
-        let here = set_end(d, words, s, i);
+        let here = read_line(d, words, s, i);
         fits = both(here, fits);
     }
     fits
@@ -348,15 +372,14 @@ fn top_ok(d: &[u64]) -> bool
     false
 }
 
-// Reads a sheet once, to rows, and tells whether it is a plan: every word is fixed, those of the links too. The term is read from its own part of the sheet.
+// Reads a sheet once, to rows, and tells whether it is a plan: every word is fixed, those of the links too.
 pub fn read_plan(d: &mut [u64], s: &[u8]) -> bool
     requires { ⌜ (length (now d) ≡ 4 * (length (now s) / lineLength)) × (lengthOk (length (now s)) ≡ true) ⌝ }
     ensures { λ r. ⌜ (r ≡ isPlan (check (now (s .entry)))) × (now (d .exit) ≡ cond r (sheetWords (triples (now (s .entry)))) (unlinkedWords (triples (now (s .entry))))) × (r ≡ true → (rows (now (d .exit)) ≡ triples (now (s .entry))) × Ended (now (d .exit))) ⌝ }
 {
-    let term = read_head(d, s);
-    read_part(d, term, term_lines(s, term));
+    clear_links(d);
     let words = table_words();
-    if set_ends(d, &words, s) {
+    if read_lines(d, &words, s) {
         if top_ok(d) {
             link_entries(d);
             bind_entries(d);

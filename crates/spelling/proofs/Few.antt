@@ -1,7 +1,8 @@
 -- A line of few digits is spelt, and says what its short fields say.
 -- Assumes nothing.
 use mathlib.Core.Path.{_≡_, refl, sym, ap, _∙_}
-use mathlib.Core.Bool.{Bool, true, false, cond, _&&_, _||_, false≢true}
+use mathlib.Core.Bool.{Bool, true, false, cond, _&&_, _||_, and-eq-true-iff, false≢true}
+use mathlib.Core.Logic.{_⊎_, inl, inr}
 use mathlib.Core.List.{List}
 use Prim.Native.Nat.{ℕ, zero, suc, _+_, _*_, _-_, _^_, _≤_, _<_}
 use native.Mathlib.Omega.{arith}
@@ -14,7 +15,7 @@ use Rattle.spelling.specs.declared.Field.the-variants.{Blank, Minus, Num
 use Rattle.spelling.specs.declared.Triple.{Triple}
 use Rattle.spelling.specs.declared.Line.the-variants.{Spelt, Misspelt}
 use Rattle.spelling.specs.Spelling.{digitStep, otherStep, step, fieldFrom, spacesFrom, blank, lineOf, lineAt}
-use Rattle.spelling.specs.Few.{noNumber, plain, roomy, fewOf, fewAt}
+use Rattle.spelling.specs.Few.{noNumber, plain, roomy, shortField, fewOf, fewAt}
 use Rattle.spelling.proofs.Laws.{blank-skip, spaces-skip}
 use Rattle.spelling.proofs.Fields.{narrow}
 
@@ -153,6 +154,24 @@ more-digits n a b p q h k i j =
     ap (λ (f : Field). plain (step f b)) (more-digit n a p (omega arith) h k)
     ∙ ap plain (more-digit (10 * n + (a - 48)) b (omega arith) (omega arith) i j)
 
+-- ---- four bytes as one word
+pub four-spaces : (a b c d : ℕ) → a < 256 → b < 256 → c < 256 → d < 256
+    → eqb (a + 256 * b + 65536 * (c + 256 * d)) 538976288 ≡ (eqb a 32 && (eqb b 32 && (eqb c 32 && eqb d 32)))
+four-spaces a b c d ha hb hc hd = go (eqb a 32) refl (eqb b 32) refl (eqb c 32) refl (eqb d 32) refl
+  where
+    go : (p : Bool) → eqb a 32 ≡ p → (q : Bool) → eqb b 32 ≡ q → (r : Bool) → eqb c 32 ≡ r → (s : Bool) → eqb d 32 ≡ s
+        → eqb (a + 256 * b + 65536 * (c + 256 * d)) 538976288 ≡ (p && (q && (r && s)))
+    go true p true q true r true s =
+        let x = eqb-true a 32 p in
+        let y = eqb-true b 32 q in
+        let z = eqb-true c 32 r in
+        let w = eqb-true d 32 s in
+        eq-eqb (a + 256 * b + 65536 * (c + 256 * d)) 538976288 (omega arith)
+    go true p true q true r false s = let w = eqb-false d 32 s in ne-eqb (a + 256 * b + 65536 * (c + 256 * d)) 538976288 (λ e. w (omega arith))
+    go true p true q false r s′ s = let w = eqb-false c 32 r in ne-eqb (a + 256 * b + 65536 * (c + 256 * d)) 538976288 (λ e. w (omega arith))
+    go true p false q r′ r s′ s = let w = eqb-false b 32 q in ne-eqb (a + 256 * b + 65536 * (c + 256 * d)) 538976288 (λ e. w (omega arith))
+    go false p q′ q r′ r s′ s = let w = eqb-false a 32 p in ne-eqb (a + 256 * b + 65536 * (c + 256 * d)) 538976288 (λ e. w (omega arith))
+
 -- ---- four bytes after spaces
 is-plain : (f : Field) → plain f < noNumber → f ≡ Number false (plain f)
 is-plain Blank h = absurd (omega arith)
@@ -251,25 +270,48 @@ module _ (s : List ℕ) (at : ℕ) where
       ap plain four-bytes
       ∙ lost-two front (getD s (at + 2) 0) (getD s (at + 3) 0) (lost-by front (started-step (step Blank (getD s at 0)) (getD s (at + 1) 0) n) small k)
 
+  -- ---- five bytes, the first three of them spaces
+  pub five-is : (b : Bool) → b ≡ ((eqb (getD s at 0) 32 && eqb (getD s (at + 1) 0) 32) && eqb (getD s (at + 2) 0) 32) → b ≡ blank s at 3
+  unfolding blank
+  five-is b e =
+      let p : at + 1 + 1 ≡ at + 2 = omega arith in
+      e ∙ rw p (go (eqb (getD s at 0) 32) (eqb (getD s (at + 1) 0) 32) (eqb (getD s (at + 2) 0) 32))
+    where
+      go : (x y z : Bool) → ((x && y) && z) ≡ (x && (y && (z && true)))
+      go true true true = refl
+      go true true false = refl
+      go true false z = refl
+      go false y z = refl
+
+  pub five-short : blank s at 3 ≡ true → plain (step (step Blank (getD s (at + 3) 0)) (getD s (at + 4) 0)) ≡ shortField s at
+  unfolding shortField
+  five-short e = rw e (sym (ap plain (two-bytes s (at + 3) (at + 4) (omega arith))))
+
+  -- four spaces in front
+  pub five-spaces : (eqb (getD s at 0) 32 && (eqb (getD s (at + 1) 0) 32 && (eqb (getD s (at + 2) 0) 32 && eqb (getD s (at + 3) 0) 32))) ≡ true → plain (step (step Blank 32) (getD s (at + 4) 0)) ≡ shortField s at
+  five-spaces e =
+      let x = and-eq-true-iff (eqb (getD s at 0) 32) _ .0 e in
+      let y = and-eq-true-iff (eqb (getD s (at + 1) 0) 32) _ .0 (x .1) in
+      let z = and-eq-true-iff (eqb (getD s (at + 2) 0) 32) _ .0 (y .1) in
+      let f : getD s (at + 3) 0 ≡ 32 = eqb-true (getD s (at + 3) 0) 32 (z .1) in
+      let b : blank s at 3 ≡ true = sym (five-is true (rw (x .0, y .0, z .0))) in
+      rw f at (five-short b)
+
+  pub five-none : blank s at 3 ≡ false → noNumber ≡ shortField s at
+  unfolding shortField
+  five-none e = rw e
+
   -- ---- a line of few digits
   -- by the tests in the order of the code
-  pub roomy-by : (z a b c d : Bool) → z ≡ blank s (at + 3) 16 → a ≡ (z && eqb (getD s at 0) 32) → b ≡ (a && eqb (getD s (at + 23) 0) 32)
-      → c ≡ (b && eqb (getD s (at + 24) 0) 32) → d ≡ (c && eqb (getD s (at + 25) 0) 32) → getD s (at + 28) 0 ≡ 10 → d ≡ roomy s at
+  pub roomy-by : (z a : Bool) → z ≡ blank s (at + 3) 16 → a ≡ (z && eqb (getD s at 0) 32) → getD s (at + 28) 0 ≡ 10 → a ≡ roomy s at
   unfolding roomy blank
-  roomy-by z a b c d p q r t u e =
-      let i : at + 23 + 1 ≡ at + 24 = omega arith in
-      let j : at + 24 + 1 ≡ at + 25 = omega arith in
-      rw (u, t, r, q, p, e, i, j)
-      (go (blank s (at + 3) 16) (eqb (getD s at 0) 32) (eqb (getD s (at + 23) 0) 32) (eqb (getD s (at + 24) 0) 32) (eqb (getD s (at + 25) 0) 32))
+  roomy-by z a p q e = rw (q, p, e) (go (blank s (at + 3) 16) (eqb (getD s at 0) 32))
     where
-      go : (z a b c d : Bool) → ((((z && a) && b) && c) && d) ≡ ((a && true) && (z && (b && (c && (d && true)))))
-      go true true true true true = refl
-      go true true true true false = refl
-      go true true true false d = refl
-      go true true false c d = refl
-      go true false b c d = refl
-      go false true b c d = refl
-      go false false b c d = refl
+      go : (z a : Bool) → (z && a) ≡ ((a && true) && z)
+      go true true = refl
+      go true false = refl
+      go false true = refl
+      go false false = refl
 
   pub roomy-not : (getD s (at + 28) 0 ≡ 10 → ⊥) → roomy s at ≡ false
   unfolding roomy
@@ -282,13 +324,10 @@ module _ (s : List ℕ) (at : ℕ) where
   value = plain (fieldFrom s (at + 19) 4 Blank)
 
   abbrev count : ℕ
-  count = plain (fieldFrom s (at + 26) 2 Blank)
+  count = shortField s (at + 23)
 
   pub kind-is : plain (step (step Blank (getD s (at + 1) 0)) (getD s (at + 2) 0)) ≡ kind
   kind-is = sym (ap plain (two-bytes s (at + 1) (at + 2) (omega arith)))
-
-  pub count-is : plain (step (step Blank (getD s (at + 26) 0)) (getD s (at + 27) 0)) ≡ count
-  count-is = sym (ap plain (two-bytes s (at + 26) (at + 27) (omega arith)))
 
   pub few-not : roomy s at ≡ false → fewAt s at ≡ Misspelt
   unfolding fewAt
@@ -350,32 +389,49 @@ of-fields k v c e t i = go (ltb (plain k) noNumber) refl (ltb (plain v) noNumber
 record Room (s : List ℕ) (at : ℕ) : Type 0 where
   kind : blank s at 1 ≡ true
   value : blank s (at + 3) 16 ≡ true
-  count : blank s (at + 23) 3 ≡ true
   ends : getD s (at + 28) 0 ≡ 10
 
 room : (s : List ℕ) (at : ℕ) → roomy s at ≡ true → Room s at
 unfolding roomy
-room s at = go (eqb (getD s (at + 28) 0) 10) refl (blank s at 1) refl (blank s (at + 3) 16) refl (blank s (at + 23) 3) refl
+room s at = go (eqb (getD s (at + 28) 0) 10) refl (blank s at 1) refl (blank s (at + 3) 16) refl
   where
-    go : (p : Bool) → eqb (getD s (at + 28) 0) 10 ≡ p → (q : Bool) → blank s at 1 ≡ q → (r : Bool) → blank s (at + 3) 16 ≡ r → (w : Bool) → blank s (at + 23) 3 ≡ w
-        → (p && (q && (r && w))) ≡ true → Room s at
-    go true p true q true r true w z = record { kind = q; value = r; count = w; ends = eqb-true (getD s (at + 28) 0) 10 p }
-    go true p true q true r false w z = absurd (false≢true z)
-    go true p true q false r w′ w z = absurd (false≢true z)
-    go true p false q r′ r w′ w z = absurd (false≢true z)
-    go false p q′ q r′ r w′ w z = absurd (false≢true z)
+    go : (p : Bool) → eqb (getD s (at + 28) 0) 10 ≡ p → (q : Bool) → blank s at 1 ≡ q → (r : Bool) → blank s (at + 3) 16 ≡ r
+        → (p && (q && r)) ≡ true → Room s at
+    go true p true q true r z = record { kind = q; value = r; ends = eqb-true (getD s (at + 28) 0) 10 p }
+    go true p true q false r z = absurd (false≢true z)
+    go true p false q r′ r z = absurd (false≢true z)
+    go false p q′ q r′ r z = absurd (false≢true z)
+
+-- a short field is that of all five bytes, or there is no number
+short-field : (s : List ℕ) (at : ℕ) → (shortField s at ≡ noNumber) ⊎ (shortField s at ≡ plain (fieldFrom s at 5 Blank))
+unfolding shortField
+short-field s at = go (blank s at 3) refl
+  where
+    go : (b : Bool) → blank s at 3 ≡ b → (cond b (plain (fieldFrom s (at + 3) 2 Blank)) noNumber ≡ noNumber) ⊎ (cond b (plain (fieldFrom s (at + 3) 2 Blank)) noNumber ≡ plain (fieldFrom s at 5 Blank))
+    go true e = inr (ap plain (sym (blank-field s 3 at 5 (omega arith) e)))
+    go false e = inl refl
+
+no-few : (k v c : ℕ) (t : Triple) → c ≡ noNumber → fewOf k v c ≡ Spelt t → ⊥
+no-few k v c t e z = go (ltb k noNumber) (ltb v noNumber) (rw e at z)
+  where
+    go : (p q : Bool) → cond (p && (q && ltb noNumber noNumber)) (Spelt (record { kind = k; negative = false; value = v; count = noNumber })) Misspelt ≡ Spelt t → ⊥
+    go true true z = let y : _≡_ {A = ℕ} 0 1 = cc in omega arith
+    go true false z = let y : _≡_ {A = ℕ} 0 1 = cc in omega arith
+    go false q z = let y : _≡_ {A = ℕ} 0 1 = cc in omega arith
 
 spelt : (s : List ℕ) (i : ℕ) (t : Triple) → Room s (lineLength * i)
     → fewOf (kind s (lineLength * i)) (value s (lineLength * i)) (count s (lineLength * i)) ≡ Spelt t → lineAt s i ≡ Spelt t
 unfolding lineAt
-spelt s i t r z =
-    let p = lineLength * i in
-    let e : p + 3 + 16 ≡ p + 19 = omega arith in
-    let j : p + 23 + 3 ≡ p + 26 = omega arith in
-    let k : fieldFrom s p 3 Blank ≡ fieldFrom s (p + 1) 2 Blank = blank-field s 1 p 3 (omega arith) (r .kind) in
-    let v : fieldFrom s (p + 3) 20 Blank ≡ fieldFrom s (p + 19) 4 Blank = rw e at (blank-field s 16 (p + 3) 20 (omega arith) (r .value)) in
-    let c : fieldFrom s (p + 23) 5 Blank ≡ fieldFrom s (p + 26) 2 Blank = rw j at (blank-field s 3 (p + 23) 5 (omega arith) (r .count)) in
-    rw (k, v, c) (of-fields (fieldFrom s (p + 1) 2 Blank) (fieldFrom s (p + 19) 4 Blank) (fieldFrom s (p + 26) 2 Blank) (getD s (p + 28) 0) t (r .ends) z)
+spelt s i t r z = go (short-field s (lineLength * i + 23))
+  where
+    go : (shortField s (lineLength * i + 23) ≡ noNumber) ⊎ (shortField s (lineLength * i + 23) ≡ plain (fieldFrom s (lineLength * i + 23) 5 Blank)) → lineAt s i ≡ Spelt t
+    go (inl n) = absurd (no-few (kind s (lineLength * i)) (value s (lineLength * i)) (count s (lineLength * i)) t n z)
+    go (inr c) =
+        let p = lineLength * i in
+        let e : p + 3 + 16 ≡ p + 19 = omega arith in
+        let k : fieldFrom s p 3 Blank ≡ fieldFrom s (p + 1) 2 Blank = blank-field s 1 p 3 (omega arith) (r .kind) in
+        let v : fieldFrom s (p + 3) 20 Blank ≡ fieldFrom s (p + 19) 4 Blank = rw e at (blank-field s 16 (p + 3) 20 (omega arith) (r .value)) in
+        rw (k, v) (of-fields (fieldFrom s (p + 1) 2 Blank) (fieldFrom s (p + 19) 4 Blank) (fieldFrom s (p + 23) 5 Blank) (getD s (p + 28) 0) t (r .ends) (rw c at z))
 
 -- WHERE IT GIVES A TRIPLE, the line is spelt and says that triple
 pub few-spelt : (s : List ℕ) (i : ℕ) (t : Triple) → fewAt s (lineLength * i) ≡ Spelt t → lineAt s i ≡ Spelt t

@@ -19,9 +19,13 @@ noNumber = 100000
 abbrev pub plain : Field → ℕ
 plain f = cond (unsigned f) (magnitude f) noNumber
 
--- of the 29 bytes from at, all but the last two of kind and count and the last four of the value are spaces; LF
+-- of the 29 bytes from at, those before the last two of the kind and before the last four of the value are spaces; LF
 unfoldable pub roomy : List ℕ → ℕ → Bool
-roomy s at = eqb (getD s (at + 28) 0) 10 && (blank s at 1 && (blank s (at + 3) 16 && blank s (at + 23) 3))
+roomy s at = eqb (getD s (at + 28) 0) 10 && (blank s at 1 && blank s (at + 3) 16)
+
+-- the number in five bytes, the first three of which are spaces
+unfoldable pub shortField : List ℕ → ℕ → ℕ
+shortField s at = cond (blank s at 3) (plain (fieldFrom s (at + 3) 2 Blank)) noNumber
 
 -- the line of these numbers, if all are there
 abbrev pub fewOf : ℕ → ℕ → ℕ → Line
@@ -34,5 +38,5 @@ fewOf k v c =
 unfoldable pub fewAt : List ℕ → ℕ → Line
 fewAt s at =
     cond (roomy s at)
-    (fewOf (plain (fieldFrom s (at + 1) 2 Blank)) (plain (fieldFrom s (at + 19) 4 Blank)) (plain (fieldFrom s (at + 26) 2 Blank)))
+    (fewOf (plain (fieldFrom s (at + 1) 2 Blank)) (plain (fieldFrom s (at + 19) 4 Blank)) (shortField s (at + 23)))
     Misspelt

@@ -4,8 +4,8 @@ ghost use mathlib.Core.Bool.{false, _&&_};
 ghost use Prim.Native.Nat.{_+_, _*_, _-_, _/_, _≤_, _<_};
 ghost use lib.Dec.{eqb};
 ghost use lib.ListN.{length};
-ghost use Rattle.spelling.specs.Spelling.{digitStep, otherStep, step, fieldFrom, blank, spacesFrom, unsigned, magnitude, minus, signOk, lineOf, lineAt, linesOf, firstMisspelt};
-ghost use Rattle.spelling.specs.Few.{plain, roomy, fewAt};
+ghost use Rattle.spelling.specs.Spelling.{digitStep, otherStep, step, fieldFrom, blank, spacesFrom, unsigned, magnitude, minus, signOk, lineOf, lineAt};
+ghost use Rattle.spelling.specs.Few.{plain, roomy, shortField, fewAt};
 use sizes::LINE_LENGTH;
 
 // What the bytes of a field read so far spell.
@@ -302,7 +302,30 @@ fn last_four(s: &[u8], at: usize) -> u64
     NO_NUMBER
 }
 
-// Columns 1, 4 to 19 and 24 to 26 are spaces, and LF stands at the end.
+// Four bytes that are all spaces: compared as one word.
+fn are_spaces(a: u8, b: u8, c: u8, d: u8) -> bool
+    ensures { λ r. ⌜ r ≡ (eqb a 32 && (eqb b 32 && (eqb c 32 && eqb d 32))) ⌝ }
+{
+    let low = (a as u32) + 256 * (b as u32);
+    let high = (c as u32) + 256 * (d as u32);
+    low + 65536 * high == 538976288
+}
+
+// Five bytes, of which the first three are spaces. Most counts have one digit.
+fn last_five(s: &[u8], at: usize) -> u64
+    requires { ⌜ at + 5 ≤ length (now s) ⌝ }
+    ensures { λ r. ⌜ r ≡ shortField (now (s .entry)) at ⌝ }
+{
+    if are_spaces(s[at], s[at + 1], s[at + 2], s[at + 3]) {
+        return last_two(32, s[at + 4]);
+    }
+    if still(still(s[at] == 32, s[at + 1]), s[at + 2]) {
+        return last_two(s[at + 3], s[at + 4]);
+    }
+    NO_NUMBER
+}
+
+// Columns 1 and 4 to 19 are spaces, and LF stands at the end.
 fn is_roomy(s: &[u8], at: usize) -> bool
     requires { ⌜ at + 29 ≤ length (now s) ⌝ }
     ensures { λ r. ⌜ r ≡ roomy (now (s .entry)) at ⌝ }
@@ -310,13 +333,12 @@ fn is_roomy(s: &[u8], at: usize) -> bool
     if s[at + 28] != 10 {
         return false;
     }
-    let all = still(sixteen_spaces(s, at + 3), s[at]);
-    still(still(still(all, s[at + 23]), s[at + 24]), s[at + 25])
+    still(sixteen_spaces(s, at + 3), s[at])
 }
 
 // The line from the byte at, if its kind and count have at most two digits and its value at most four and no sign, as
 // in most lines. Misspelt says here that it is no such line, not that it is misspelt.
-fn few_at(s: &[u8], at: usize) -> Line
+pub fn few_at(s: &[u8], at: usize) -> Line
     requires { ⌜ at + 29 ≤ length (now s) ⌝ }
     ensures { λ r. ⌜ r ≡ fewAt (now (s .entry)) at ⌝ }
 {
@@ -331,7 +353,7 @@ fn few_at(s: &[u8], at: usize) -> Line
     if NO_NUMBER <= value {
         return Line::Misspelt;
     }
-    let count = last_two(s[at + 26], s[at + 27]);
+    let count = last_five(s, at + 23);
     if NO_NUMBER <= count {
         return Line::Misspelt;
     }
@@ -349,9 +371,6 @@ pub fn line_at(s: &[u8], i: usize) -> Line
 {
     if i < s.len() / LINE_LENGTH {
         let at = LINE_LENGTH * i;
-        if let Line::Spelt(t) = few_at(s, at) {
-            return Line::Spelt(t);
-        }
         let k = field_at(s, at, 3);
         let v = field_at(s, at + 3, 20);
         let c = field_at(s, at + 23, 5);
@@ -359,23 +378,4 @@ pub fn line_at(s: &[u8], i: usize) -> Line
     } else {
         Line::Misspelt
     }
-}
-
-// How many lines stand before the first misspelt one; all, if there is none.
-pub fn first_misspelt(s: &[u8]) -> usize
-    ensures { λ r. ⌜ r ≡ firstMisspelt (linesOf (now (s .entry))) ⌝ }
-{
-    let n = s.len() / LINE_LENGTH;
-    let mut i = 0;
-    while i < n {
-        match line_at(s, i) {
-            Line::Spelt(_) => {
-                i += 1;
-            }
-            Line::Misspelt => {
-                return i;
-            }
-        }
-    }
-    i
 }

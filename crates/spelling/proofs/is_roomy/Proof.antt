@@ -8,8 +8,8 @@ returns : tie.Need-returns
 returns c = let a = c .before .before .before .args in sym (roomy-not (a .s .now) (a .at) (c .if1 .taken))
 
 returns-2 : tie.Need-returns-2
-returns-2 c = let a = c .before .before .before .before .before .before .before .before .before .before .before .before .args in roomy-by (a .s .now) (a .at) _ _ _ _ _ (c .before .before .before .before .before .before .before .before .sixteen-spaces .ensures) (c .before .before .before .before .before .before .still .ensures) (c .before .before .before .before .still2 .ensures) (c .before .before .still3 .ensures) (c .still4 .ensures) (c .before .before .before .before .before .before .before .before .before .if1 .left)
+returns-2 c = let a = c .before .before .before .before .before .before .args in roomy-by (a .s .now) (a .at) _ _ (c .before .before .sixteen-spaces .ensures) (c .still .ensures) (c .before .before .before .if1 .left)
 
 pub is-roomy-spec : {M : Type 1} → statement M
 is-roomy-spec =
-    tie.close (tie.spec (λ c. search needs) (λ c. search needs) returns (λ c. search needs) (λ c κs. search needs) (λ c. search needs) (λ c κs. search needs) (λ c. search needs) (λ c. search needs) (λ c κs. search needs) (λ c. search needs) (λ c. search needs) (λ c κs. search needs) (λ c. search needs) (λ c. search needs) (λ c κs. search needs) returns-2)
+    tie.close (tie.spec (λ c. search needs) (λ c. search needs) returns (λ c. search needs) (λ c κs. search needs) (λ c. search needs) (λ c κs. search needs) returns-2)

@@ -1,12 +1,12 @@
 use mathlib.Core.Path.{_≡_, sym, ap, _∙_}
 use denote.Ref.{now}
 use Rattle.spelling.proofs.Tests.{tests}
 use Rattle.grammar.specs.declared.Got.{Got}
 use Rattle.grammar.specs.Check.{check, readSheet, fitting, misspeltFirst}
 use Rattle.grammar.proofs.Lines.{plan-first}
 use borrow.Author.Needs.{needs}
-use Rattle.grammar.proofs.check_sheet.Statement.{statement}
-use Rattle.grammar.proofs.check_sheet.Tie as tie
+use Rattle.reading.proofs.check_sheet.Statement.{statement}
+use Rattle.reading.proofs.check_sheet.Tie as tie
 
 returns : tie.Need-returns
 unfolding check

@@ -1,7 +1,7 @@
 use Rattle.spelling.proofs.Tests.{tests}
 use borrow.Author.Needs.{needs}
-use Rattle.grammar.proofs.refused_at.Statement.{statement}
-use Rattle.grammar.proofs.refused_at.Tie as tie
+use Rattle.reading.proofs.refused_at.Statement.{statement}
+use Rattle.reading.proofs.refused_at.Tie as tie
 
 returns : tie.Need-returns
 returns c =
