@@ -1,15 +1,17 @@
 -- One node of a walk over the nodes in a buffer, and the rest. Assumes nothing.
-use mathlib.Core.Path.{_≡_, refl, sym, ap, ap₂, _∙_}
+use mathlib.Core.Path.{_≡_, refl, sym, ap, ap₂, _∙_, subst}
 use mathlib.Core.Logic.{_≢_}
 use mathlib.Core.Bool.{Bool, true, false, cond, _&&_}
 use mathlib.Core.List.{List, [], _∷_, _++_, append-assoc, append-nil}
 use Prim.Native.Nat.{ℕ, zero, suc, _+_, _*_, _-_, _≤_, _<_}
+use native.Mathlib.Decide.{ℕ-discrete}
+use native.Mathlib.Nat.{not-suc-le-zero}
 use native.Mathlib.Numerals.{add-one, add-two}
 use native.Mathlib.Omega.{arith}
 use lib.ListN.{length, getD, set}
 use lib.Seq.{sets, set-getD}
 use lib.Dec.{eqb}
-use borrow.Author.Tests.{eq-eqb, ne-eqb, eqb-true}
+use borrow.Author.Tests.{eq-eqb, ne-eqb}
 use Rattle.nodes.specs.Parts.{takeParts, dropParts}
 use Rattle.nodes.specs.Nodes.{Node, node, Ty, nodeParts}
 use Rattle.judgment.specs.Levels.{isAbove, noneAbove}
@@ -17,7 +19,7 @@ use Rattle.judgment.specs.Types.{first, rest, isNode, occurs, isMonotype, subst
 use Rattle.nodes.specs.Nodes.{words, nodeAt, nodesAt}
 use Rattle.nodes.proofs.Laws.{nodesAt-cons, nodesAt-snoc, nodesAt-above, nodesAt-same, length-nodesAt, take-nodesAt, drop-nodesAt}
 use Rattle.nodes.proofs.PartLaws.{length-take, is-take, is-drop}
-use Rattle.core_types.specs.Walk.{substituting}
+use Rattle.core_types.specs.Walk.{nodesBefore, substituting}
 
 pub nothing : (b : List ℕ) (p n : ℕ) → n ≡ 0 → nodesAt b p n ≡ []
 unfolding nodesAt
@@ -124,7 +126,51 @@ module _ (b : List ℕ) (at n r : ℕ) (e : r ≡ length (first (nodesAt b at n)
   pub rest-nodes : nodesAt b (at + 2 * r) (n - r) ≡ rest (nodesAt b at n)
   rest-nodes = rw e (sym (is-drop nodeParts (nodesAt b at n) 1 ∙ drop-nodesAt b at n (length (first (nodesAt b at n))) (rw e at first-within)))
 
+-- ---- the nodes before the first of a number
+module _ (x : ℕ) (b : List ℕ) (p n : ℕ) (h : 0 < n) where
+  pub before-hit : getD b (p + 1) 0 ≡ x → nodesBefore x (nodesAt b p n) ≡ 0
+  unfolding nodesBefore
+  before-hit e = rw (nodesAt-cons b p n h, eq-eqb (getD b (p + 1) 0) x e)
+
+  pub before-turn : getD b (p + 1) 0 ≢ x → nodesBefore x (nodesAt b p n) ≡ suc (nodesBefore x (nodesAt b (p + 2) (n - 1)))
+  unfolding nodesBefore
+  before-turn f = rw (nodesAt-cons b p n h, ne-eqb (getD b (p + 1) 0) x f)
+
+pub before-end : (x : ℕ) (b : List ℕ) (p n : ℕ) → n ≡ 0 → nodesBefore x (nodesAt b p n) ≡ 0
+unfolding nodesBefore
+before-end x b p n e = ap (nodesBefore x) (nothing b p n e)
+
+-- what a round of the count leaves
+module _ (x : ℕ) (b : List ℕ) (at n : ℕ) where
+  abbrev pub Counting : ℕ → Type 0
+  Counting i = nodesBefore x (nodesAt b at n) ≡ i + nodesBefore x (nodesAt b (at + 2 * i) (n - i))
+
+  pub count-start : Counting 0
+  count-start =
+      let e : at ≡ at + 2 * 0 = omega arith in
+      let f : n ≡ n - 0 = omega arith in
+      let g : nodesBefore x (nodesAt b at n) ≡ nodesBefore x (nodesAt b (at + 2 * 0) (n - 0)) = ap₂ (λ (y z : ℕ). nodesBefore x (nodesAt b y z)) e f in
+      omega arith
+
+  pub count-turn : (i : ℕ) → i < n → getD b (at + 2 * i + 1) 0 ≢ x → Counting i → Counting (i + 1)
+  count-turn i l f h =
+      let e : at + 2 * i + 2 ≡ at + 2 * (i + 1) = omega arith in
+      let g : n - i - 1 ≡ n - (i + 1) = omega arith in
+      let k = before-turn x b (at + 2 * i) (n - i) (omega arith) f in
+      let m : nodesBefore x (nodesAt b (at + 2 * i + 2) (n - i - 1)) ≡ nodesBefore x (nodesAt b (at + 2 * (i + 1)) (n - (i + 1))) = ap₂ (λ (y z : ℕ). nodesBefore x (nodesAt b y z)) e g in
+      omega arith
+
+  pub count-hit : (i : ℕ) → i < n → getD b (at + 2 * i + 1) 0 ≡ x → Counting i → i ≡ nodesBefore x (nodesAt b at n)
+  count-hit i l e h = let k = before-hit x b (at + 2 * i) (n - i) (omega arith) e in omega arith
+
+  pub count-end : (i : ℕ) → n - i ≡ 0 → Counting i → i ≡ nodesBefore x (nodesAt b at n)
+  count-end i e h = let k = before-end x b (at + 2 * i) (n - i) e in omega arith
+
 -- ---- substitution
+and-false : (a : Bool) → (a && false) ≡ false
+and-false true = refl
+and-false false = refl
+
 module _ (x : ℕ) (r : Node) (t : List ℕ) (p left : ℕ) (h : 0 < left) where
   -- a node and its successors
   sub-turn : (skip k v skip′ : ℕ) → substituteFrom x r (nodeAt t p ∷ nodesAt t (p + 2) (left - 1)) skip ≡ node k v ∷ substituteFrom x r (nodesAt t (p + 2) (left - 1)) skip′
@@ -151,34 +197,129 @@ module _ (x : ℕ) (r : Node) (t : List ℕ) (p left : ℕ) (h : 0 < left) where
       let e : nodeParts (nodeAt t p) + m ≡ suc m - 1 + nodeParts (nodeAt t p) = omega arith in
       sub-kept (suc m) (nodeParts (nodeAt t p) + m) refl ∙ ap (λ (y : ℕ). substituting x r t (p + 2) (left - 1) y) e
 
-  pub sub-bound : isNode 11 x (nodeAt t p) ≡ false → isNode 14 x (nodeAt t p) ≡ true → substituting x r t p left 0 ≡ substituting x r t (p + 2) (left - 1) 1
-  sub-bound e f = sub-kept 0 1 (rw (e, f))
+  -- of the nodes that have the name a variable is replaced, and a quantifier hides its body
+  pub sub-bound : getD t p 0 ≡ 14 → getD t (p + 1) 0 ≡ x → substituting x r t p left 0 ≡ substituting x r t (p + 2) (left - 1) 1
+  sub-bound e f = sub-kept 0 1 (rw (e, eq-eqb x (getD t (p + 1) 0) (sym f)))
 
-  pub sub-other : isNode 11 x (nodeAt t p) ≡ false → isNode 14 x (nodeAt t p) ≡ false → substituting x r t p left 0 ≡ substituting x r t (p + 2) (left - 1) 0
-  sub-other e f = sub-kept 0 0 (rw (e, f))
+  pub sub-kind : getD t p 0 ≢ 11 → getD t p 0 ≢ 14 → substituting x r t p left 0 ≡ substituting x r t (p + 2) (left - 1) 0
+  sub-kind e f = sub-kept 0 0 (rw (ne-eqb 11 (getD t p 0) (λ z. e (sym z)), ne-eqb 14 (getD t p 0) (λ z. f (sym z))))
 
-and-left : (a b : Bool) → (a && b) ≡ true → a ≡ true
-and-left true b e = refl
-and-left false b e = e
+  pub sub-number : getD t (p + 1) 0 ≢ x → substituting x r t p left 0 ≡ substituting x r t (p + 2) (left - 1) 0
+  sub-number f = sub-kept 0 0 (rw (ne-eqb x (getD t (p + 1) 0) (λ z. f (sym z)), and-false (eqb 11 (getD t p 0)), and-false (eqb 14 (getD t p 0))))
 
--- a variable is never a quantifier
-no-quantifier : (x k v : ℕ) → isNode 11 x (node k v) ≡ true → isNode 14 x (node k v) ≡ false
-no-quantifier x k v e =
-    let z : 11 ≡ k = eqb-true 11 k (and-left (eqb 11 k) (eqb x v) e) in
-    rw (ne-eqb 14 k (omega arith))
-
-pub sub-hit : (x k v : ℕ) (t : List ℕ) (p left : ℕ) → 0 < left → isNode 11 x (nodeAt t p) ≡ true
+pub sub-hit : (x k v : ℕ) (t : List ℕ) (p left : ℕ) → 0 < left → getD t p 0 ≡ 11 → getD t (p + 1) 0 ≡ x
     → substituting x (node k v) t p left 0 ≡ substituting x (node k v) (set (set t p k) (p + 1) v) (p + 2) (left - 1) 0
-sub-hit x k v t p left h e = sub-turn x (node k v) t p left h 0 k v 0 (rw (e, no-quantifier x (getD t p 0) (getD t (p + 1) 0) e))
+sub-hit x k v t p left h e f = sub-turn x (node k v) t p left h 0 k v 0 (rw (e, eq-eqb x (getD t (p + 1) 0) (sym f)))
 
 pub sub-end : (x : ℕ) (r : Node) (t : List ℕ) (p left skip : ℕ) → left ≡ 0 → substituting x r t p left skip ≡ t
 unfolding substituting words nodesAt
 sub-end x r t p left skip e = rw e
 
+-- several nodes at once
+module _ (x : ℕ) (r : Node) (t : List ℕ) where
+  abbrev hidden : ℕ → ℕ → ℕ → ℕ
+  hidden p left skip = length (takeParts nodeParts (nodesAt t p left) skip)
+
+  -- the types that are left alone
+  sub-hidden : (left p skip : ℕ) → substituting x r t p left skip ≡ substituting x r t (p + 2 * hidden p left skip) (left - hidden p left skip) 0
+  sub-hidden zero p skip = sub-end x r t p 0 skip refl ∙ sym (sub-end x r t (p + 2 * hidden p 0 skip) (0 - hidden p 0 skip) 0 (omega arith))
+  sub-hidden (suc left) p zero =
+      let m : ℕ = hidden p (suc left) 0 in
+      let e : m ≡ 0 = ap length (take-none (nodesAt t p (suc left)) 0 refl) in
+      let f : p ≡ p + 2 * m = omega arith in
+      let g : suc left ≡ suc left - m = omega arith in
+      ap₂ (λ (y z : ℕ). substituting x r t y z 0) f g
+  sub-hidden (suc left) p (suc skip) =
+      let h : 0 < suc left = omega arith in
+      let k : ℕ = suc skip - 1 + nodeParts (nodeAt t p) in
+      let q : suc left - 1 ≡ left = omega arith in
+      let z : suc skip ≢ 0 = omega arith in
+      let m : ℕ = hidden p (suc left) (suc skip) in
+      let m′ : ℕ = hidden (p + 2) left k in
+      let e : m ≡ suc m′ = ap length (take-turn t p (suc left) h (suc skip) z) ∙ ap (λ (y : ℕ). suc (hidden (p + 2) y k)) q in
+      let f : p + 2 + 2 * m′ ≡ p + 2 * m = omega arith in
+      let g : left - m′ ≡ suc left - m = omega arith in
+      sub-skip x r t p (suc left) h (suc skip) z ∙ ap (λ (y : ℕ). substituting x r t (p + 2) y k) q ∙ sub-hidden left (p + 2) k ∙ ap₂ (λ (a b : ℕ). substituting x r t a b 0) f g
+
+  pub sub-one : (t′ : List ℕ) (p left : ℕ) → substituting x r t p left 0 ≡ substituting x r t′ (p + 2) (left - 1) 0 → substituting x r t p left 0 ≡ substituting x r t′ (p + 2 * 1) (left - 1) 0
+  sub-one t′ p left e = let f : p + 2 ≡ p + 2 * 1 = omega arith in e ∙ ap (λ (y : ℕ). substituting x r t′ y (left - 1) 0) f
+
+  -- a quantifier of the name, and its body
+  pub sub-body : (p left m : ℕ) → 0 < left → getD t p 0 ≡ 14 → getD t (p + 1) 0 ≡ x → m ≡ length (first (nodesAt t (p + 2) (left - 1)))
+      → substituting x r t p left 0 ≡ substituting x r t (p + 2 * (1 + m)) (left - (1 + m)) 0
+  sub-body p left m h e f g =
+      let a : p + 2 + 2 * m ≡ p + 2 * (1 + m) = omega arith in
+      let b : left - 1 - m ≡ left - (1 + m) = omega arith in
+      sub-bound x r t p left h e f ∙ sub-hidden (left - 1) (p + 2) 1
+      ∙ ap (λ (y : ℕ). substituting x r t (p + 2 + 2 * y) (left - 1 - y) 0) (sym g) ∙ ap₂ (λ (y z : ℕ). substituting x r t y z 0) a b
+
+  -- the nodes before the first that has the name: what is left begins with that one
+  abbrev pub Reached : ℕ → ℕ → ℕ → Type 0
+  Reached p n b = (b ≤ n) × (b < n → getD t (p + 2 * b + 1) 0 ≡ x) × (substituting x r t p n 0 ≡ substituting x r t (p + 2 * b) (n - b) 0)
+
+  reach-none : (p n b : ℕ) → b ≡ 0 → (0 < n → getD t (p + 1) 0 ≡ x) → Reached p n b
+  reach-none p n b e f =
+      let k : p + 1 ≡ p + 2 * b + 1 = omega arith in
+      let l : p ≡ p + 2 * b = omega arith in
+      let m : n ≡ n - b = omega arith in
+      (omega arith, (λ h. ap (λ (y : ℕ). getD t y 0) (sym k) ∙ f (omega arith)), ap₂ (λ (y z : ℕ). substituting x r t y z 0) l m)
+
+  reach-turn : (p n b b′ : ℕ) → getD t (p + 1) 0 ≢ x → b ≡ suc b′ → Reached (p + 2) n b′ → Reached p (suc n) b
+  reach-turn p n b b′ f e h =
+      let k : p + 2 + 2 * b′ + 1 ≡ p + 2 * b + 1 = omega arith in
+      let l : p + 2 + 2 * b′ ≡ p + 2 * b = omega arith in
+      let m : n - b′ ≡ suc n - b = omega arith in
+      let q : suc n - 1 ≡ n = omega arith in
+      let w = h .0 in (
+        omega arith,
+        (λ z. ap (λ (y : ℕ). getD t y 0) (sym k) ∙ h .1 (omega arith)),
+        sub-number x r t p (suc n) (omega arith) f ∙ ap (λ (y : ℕ). substituting x r t (p + 2) y 0) q ∙ h .2 ∙ ap₂ (λ (y z : ℕ). substituting x r t y z 0) l m,
+      )
+
+  pub reached : (n p : ℕ) → Reached p n (nodesBefore x (nodesAt t p n))
+  reached zero p = reach-none p 0 (nodesBefore x (nodesAt t p 0)) (before-end x t p 0 refl) (λ h. absurd (not-suc-le-zero h))
+  reached (suc n) p =
+      let h : 0 < suc n = omega arith in
+      let q : suc n - 1 ≡ n = omega arith in
+      elim (ℕ-discrete (getD t (p + 1) 0) x) [
+        | yes e ↦ reach-none p (suc n) (nodesBefore x (nodesAt t p (suc n))) (before-hit x t p (suc n) h e) (λ _. e)
+        | no f ↦ reach-turn p n (nodesBefore x (nodesAt t p (suc n))) (nodesBefore x (nodesAt t (p + 2) n)) f (before-turn x t p (suc n) h f ∙ ap (λ (y : ℕ). suc (nodesBefore x (nodesAt t (p + 2) y))) q) (reached n (p + 2))
+      ]
+
 pub length-from : (x : ℕ) (r : Node) (l : Ty) (skip : ℕ) → length (substituteFrom x r l skip) ≡ length l
 length-from x r [] skip = refl
 length-from x r (n ∷ ns) zero = ap suc (length-from x r ns (cond (isNode 14 x n) 1 0))
 length-from x r (n ∷ ns) (suc skip) = ap suc (length-from x r ns (nodeParts n + skip))
+
+-- ---- a substitution in place: what a round leaves
+module _ (x : ℕ) (r : Node) where
+  abbrev pub Walked : List ℕ → ℕ → ℕ → List ℕ → ℕ → Type 0
+  Walked t₀ at n t i = (i ≤ n) × (i < n → getD t (at + 2 * i + 1) 0 ≡ x) × (substituting x r t₀ at n 0 ≡ substituting x r t (at + 2 * i) (n - i) 0)
+
+  pub walk-start : (t : List ℕ) (at n i : ℕ) → i ≡ nodesBefore x (nodesAt t at n) → Walked t at n t i
+  walk-start t at n i e = subst (λ (y : ℕ). Walked t at n t y) (sym e) (reached x r t n at)
+
+  pub before-within : (t : List ℕ) (p n b : ℕ) → b ≡ nodesBefore x (nodesAt t p n) → b ≤ n
+  before-within t p n b e = walk-start t p n b e .0
+
+  -- a node that has the name, with m − 1 that it hides, and b before the next
+  pub walk-turn : (t₀ : List ℕ) (at n : ℕ) (t t′ : List ℕ) (i m b : ℕ) → m ≤ n - i → i < n
+      → substituting x r t (at + 2 * i) (n - i) 0 ≡ substituting x r t′ (at + 2 * i + 2 * m) (n - i - m) 0
+      → b ≡ nodesBefore x (nodesAt t′ (at + 2 * (i + m)) (n - (i + m))) → Walked t₀ at n t i → Walked t₀ at n t′ (i + m + b)
+  walk-turn t₀ at n t t′ i m b k l s e w =
+      let p : ℕ = at + 2 * (i + m) in
+      let q : ℕ = n - (i + m) in
+      let h : Reached x r t′ p q b = subst (λ (y : ℕ). Reached x r t′ p q y) (sym e) (reached x r t′ q p) in
+      let u = h .0 in
+      let f : at + 2 * i + 2 * m ≡ p = omega arith in
+      let g : n - i - m ≡ q = omega arith in
+      let v : p + 2 * b ≡ at + 2 * (i + m + b) = omega arith in
+      let y : q - b ≡ n - (i + m + b) = omega arith in
+      let z : p + 2 * b + 1 ≡ at + 2 * (i + m + b) + 1 = omega arith in (
+        omega arith,
+        (λ j. ap (λ (a : ℕ). getD t′ a 0) (sym z) ∙ h .1 (omega arith)),
+        w .2 ∙ s ∙ ap₂ (λ (a c : ℕ). substituting x r t′ a c 0) f g ∙ h .2 ∙ ap₂ (λ (a c : ℕ). substituting x r t′ a c 0) v y,
+      )
 
 -- what stands in the buffer after a substitution
 pub substituted : (x : ℕ) (r : Node) (t t' : List ℕ) (at n : ℕ) → at + 2 * n ≤ length t → t' ≡ sets t at (words (substitute x r (nodesAt t at n))) → nodesAt t' at n ≡ substitute x r (nodesAt t at n)

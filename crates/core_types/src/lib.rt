@@ -1,14 +1,14 @@
 // Types on words: what the rules ask of them, and the two substitutions (worklist.rs).
 ghost use mathlib.Core.Path.{_≡_};
 ghost use Prim.Native.Nat.{ℕ, _+_, _*_, _-_, _≤_, _<_};
-ghost use lib.ListN.{length};
+ghost use lib.ListN.{length, getD};
 ghost use lib.Seq.{sets};
 ghost use Rattle.sizes.specs.Sizes.{mostNodes};
 ghost use Rattle.nodes.specs.Nodes.{node, nodeParts};
 ghost use Rattle.judgment.specs.Types.{isNode as nodeIs, first, occurs as occursIn, isMonotype, substitute as substituted};
 ghost use Rattle.judgment.specs.Levels.{isAbove, noneAbove};
 ghost use Rattle.nodes.specs.Nodes.{words, nodesAt};
-ghost use Rattle.core_types.specs.Walk.{substituting};
+ghost use Rattle.core_types.specs.Walk.{nodesBefore, substituting};
 use nodes::wide;
 
 // A node is of this kind and number.
@@ -119,25 +119,36 @@ pub fn first_part(src: &[u32], at: usize, n: usize) -> usize
     i
 }
 
-// One node of a substitution: the answer is how many types after it are left alone.
-fn substitute_node(t: &mut [u32], p: usize, name: u32, kind: u32, number: u32, skip: usize) -> usize
-    requires { ⌜ (p + 2 ≤ length (now t)) × (skip < 1099511627776000) ⌝ }
-    ensures { λ r. ⌜ (r ≤ skip + 4294967296) × ((left : ℕ) → 0 < left → substituting name (node kind number) (now (t .entry)) p left skip ≡ substituting name (node kind number) (now (t .exit)) (p + 2) (left - 1) r) ⌝ }
+// How many of the n nodes at word `at` of t stand before the first of this number.
+fn nodes_before(t: &[u32], at: usize, n: usize, number: u32) -> usize
+    requires { ⌜ at + 2 * n ≤ length (now t) ⌝ }
+    ensures { λ r. ⌜ r ≡ nodesBefore number (nodesAt (now (t .entry)) at n) ⌝ }
+{
+    let mut i = 0;
+    while i < n {
+        if t[at + 2 * i + 1] == number {
+            return i;
+        }
+        i += 1;
+    }
+    i
+}
+
+// A substitution at a node that has the name: the answer is how many nodes are done, with the body that a Forall hides.
+fn substitute_node(t: &mut [u32], p: usize, left: usize, kind: u32, number: u32) -> usize
+    requires { ⌜ (p + 2 * left ≤ length (now t)) × (0 < left) × (left ≤ mostNodes) ⌝ }
+    ensures { λ r. ⌜ (0 < r) × (r ≤ left) × ((name : ℕ) → getD (now (t .entry)) (p + 1) 0 ≡ name → substituting name (node kind number) (now (t .entry)) p left 0 ≡ substituting name (node kind number) (now (t .exit)) (p + 2 * r) (left - r) 0) ⌝ }
 {
     let k = t[p];
-    let v = t[p + 1];
-    if skip != 0 {
-        return skip - 1 + wide(node_parts(k, v));
-    }
-    if is_node(11, name, k, v) {
+    if k == 11 {
         t[p] = kind;
         t[p + 1] = number;
-        return 0;
-    }
-    if is_node(14, name, k, v) {
         return 1;
     }
-    0
+    if k == 14 {
+        return 1 + first_part(t, p + 2, left - 1);
+    }
+    1
 }
 
 // Puts a node for each free variable `name` of the n nodes at word `at`, in place. It leaves the body of a Forall of that name alone.
@@ -145,12 +156,9 @@ pub fn substitute_type(t: &mut [u32], at: usize, n: usize, name: u32, kind: u32,
     requires { ⌜ (at + 2 * n ≤ length (now t)) × (n ≤ mostNodes) ⌝ }
     ensures { λ _. ⌜ now (t .exit) ≡ sets (now (t .entry)) at (words (substituted name (node kind number) (nodesAt (now (t .entry)) at n))) ⌝ }
 {
-    let mut skip: usize = 0;
-    let mut p = at;
-    let mut left = n;
-    while 0 < left {
-        skip = substitute_node(t, p, name, kind, number, skip);
-        p += 2;
-        left -= 1;
+    let mut i = nodes_before(t, at, n, name);
+    while i < n {
+        i += substitute_node(t, at + 2 * i, n - i, kind, number);
+        i += nodes_before(t, at + 2 * i, n - i, name);
     }
 }
