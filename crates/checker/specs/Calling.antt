@@ -2,7 +2,7 @@
 use mathlib.Core.Path.{_≡_}
 use mathlib.Core.Bool.{true}
 use mathlib.Core.List.{List}
-use Prim.Native.Nat.{ℕ, _+_, _*_, _/_, _≤_}
+use Prim.Native.Nat.{ℕ, _*_, _/_, _≤_}
 use lib.ListN.{length}
 use lib.Seq.{sets}
 use Rattle.sizes.specs.Sizes.{lineLength, highestLimit, boardSize, bookSize, reportStride}
@@ -12,8 +12,8 @@ use Rattle.grammar.specs.Check.{lengthOk, checkNumber, checkLine}
 use Rattle.sheet.specs.Rows.{rows}
 use Rattle.judgment.specs.declared.Answer.{Answer}
 use Rattle.judgment.specs.Result.{Result, refusedAt, boardWords, bookWords, reportWords}
-use Rattle.inferring.specs.Inferring.{CaseRoom}
-use Rattle.stepping.specs.Stepping.{Read, Lent}
+use Rattle.inferring.specs.Inferring.{TypeFits}
+use Rattle.stepping.specs.Stepping.{Read, longest, Lent}
 
 -- up to so many lines a sheet is lent less room than the longest one
 abbrev pub tinyLines : ℕ
@@ -41,14 +41,20 @@ pub record PlanAsk (limit : ℕ) (d b k rep t l r w v : List ℕ) : Type 0 where
   pub report : length rep ≡ reportStride * limit
   pub lent : Lent limit d t l r w v
 
--- the same without room for types
-pub record ReadAsk (limit : ℕ) (d b k rep r w v : List ℕ) : Type 0 where
+-- the same without room
+pub record ReadAsk (limit : ℕ) (d b k rep : List ℕ) : Type 0 where
   pub plan : Read d
   pub limited : limit ≤ highestLimit
   pub board : length b ≡ boardSize
   pub book : length k ≡ bookSize
   pub report : length rep ≡ reportStride * limit
-  pub room : CaseRoom d r w v
+
+-- with room for types, and none for a Case
+pub record TypedAsk (limit : ℕ) (d b k rep t l : List ℕ) : Type 0 where
+  pub read : ReadAsk limit d b k rep
+  pub type : 2 * longest limit d ≤ length t
+  pub left : 2 * longest limit d ≤ length l
+  pub lines : TypeFits d l
 
 -- the same of a sheet that is still to be read, of a length that a sheet may have
 pub record RunAsk (limit : ℕ) (s b k rep : List ℕ) : Type 0 where
@@ -58,13 +64,10 @@ pub record RunAsk (limit : ℕ) (s b k rep : List ℕ) : Type 0 where
   pub book : length k ≡ bookSize
   pub report : length rep ≡ reportStride * limit
 
--- rows for its lines, and the room of a Case
-pub record RowsAsk (limit : ℕ) (s b k rep d r w v : List ℕ) : Type 0 where
+-- and rows for its lines
+pub record RowsAsk (limit : ℕ) (s b k rep d : List ℕ) : Type 0 where
   pub run : RunAsk limit s b k rep
   pub rows : length d ≡ 4 * (length s / lineLength)
-  pub right : 2 * (length s / lineLength) + 2 ≤ length r
-  pub frames : 6 * (length s / lineLength) + 12 ≤ length w
-  pub bound : 6 * (length s / lineLength) + 6 ≤ length v
 
 -- the answer and every word of the buffers
 pub record Ran (limit : ℕ) (o : Result) (b k rep : List ℕ) (a : Answer) : Type 0 where

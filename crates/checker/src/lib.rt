@@ -1,6 +1,6 @@
 // The run (worklist.rs: `solve`, `check_type`), from a sheet to the seven numbers.
 ghost use mathlib.Core.Path.{_≡_};
-ghost use mathlib.Core.Bool.{true};
+ghost use mathlib.Core.Bool.{true, false};
 ghost use mathlib.Core.List.{List};
 ghost use Prim.Native.Nat.{ℕ, _+_, _-_, _*_, _/_, _<_, _≤_};
 ghost use lib.ListN.{length};
@@ -16,9 +16,10 @@ ghost use Rattle.applying.specs.Applying.{envOn};
 ghost use Rattle.judgment.specs.Board.{finished};
 ghost use Rattle.judgment.specs.Levels.{ownLevels, firstCall, strictCall};
 ghost use Rattle.book.specs.Book.{levelsOf};
+ghost use Rattle.inferring.specs.Inferring.{hasCase};
 ghost use Rattle.stepping.specs.Stepping.{Standing, Lent};
 ghost use Rattle.ending.specs.Ending.{endOf};
-ghost use Rattle.checker.specs.Calling.{tinyLines, shortLines, middleLines, StartAsk, PlanAsk, ReadAsk, RunAsk, RowsAsk, Ran, Kept, ByCheck, FrontAsk, Fronted};
+ghost use Rattle.checker.specs.Calling.{tinyLines, shortLines, middleLines, StartAsk, PlanAsk, ReadAsk, TypedAsk, RunAsk, RowsAsk, Ran, Kept, ByCheck, FrontAsk, Fronted};
 ghost use Rattle.checker.specs.Answered.{Answered};
 use board::Board;
 use board::clear_board;
@@ -29,6 +30,7 @@ use ending::answer;
 use ending::report_end;
 use ending::takes_more;
 use grammar::Check;
+use inferring::has_case;
 use judgment::Answer;
 use nodes::clear_words;
 use operations::Counters;
@@ -158,7 +160,167 @@ fn check_plan(
     answer(o, is_plain(s))
 }
 
-// Lends the rules room for two types: of a sheet of fewer than USUAL_NODES lines, with a limit of at most as many nodes.
+// Lends no room for a Case: the sheet has none.
+fn case_none(
+    d: &[u64],
+    ceiling: u32,
+    limit: usize,
+    strict: bool,
+    board: &mut [u32],
+    book: &mut [u32],
+    report: &mut [u32],
+    t: &mut [u32],
+    l: &mut [u32],
+) -> Answer
+    requires { ⌜ TypedAsk limit (now d) (now board) (now book) (now report) (now t) (now l) × (hasCase (rows (now d)) ≡ false) ⌝ }
+    ensures { λ o. ⌜ Ran limit (judge (limitsFor (modeOf strict) limit) ceiling (rows (now (d .entry)))) (now (board .exit)) (now (book .exit)) (now (report .exit)) o ⌝ }
+{
+    let mut r = [0u32; 0];
+    let mut w = [0usize; 0];
+    let mut v = [0usize; 0];
+    check_plan(
+        d,
+        ceiling,
+        limit,
+        strict,
+        board,
+        book,
+        report,
+        t,
+        l,
+        &mut r,
+        &mut w,
+        &mut v,
+    )
+}
+
+// Lends room for a Case of a sheet of at most SHORT_LINES lines.
+fn case_short(
+    d: &[u64],
+    ceiling: u32,
+    limit: usize,
+    strict: bool,
+    board: &mut [u32],
+    book: &mut [u32],
+    report: &mut [u32],
+    t: &mut [u32],
+    l: &mut [u32],
+) -> Answer
+    requires { ⌜ TypedAsk limit (now d) (now board) (now book) (now report) (now t) (now l) × (length (rows (now d)) ≤ shortLines) ⌝ }
+    ensures { λ o. ⌜ Ran limit (judge (limitsFor (modeOf strict) limit) ceiling (rows (now (d .entry)))) (now (board .exit)) (now (book .exit)) (now (report .exit)) o ⌝ }
+{
+    let mut r = [0u32; 2 * SHORT_LINES + 2];
+    let mut w = [0usize; 6 * SHORT_LINES + 12];
+    let mut v = [0usize; 6 * SHORT_LINES + 6];
+    check_plan(
+        d,
+        ceiling,
+        limit,
+        strict,
+        board,
+        book,
+        report,
+        t,
+        l,
+        &mut r,
+        &mut w,
+        &mut v,
+    )
+}
+
+// The same of at most MIDDLE_LINES lines.
+fn case_middle(
+    d: &[u64],
+    ceiling: u32,
+    limit: usize,
+    strict: bool,
+    board: &mut [u32],
+    book: &mut [u32],
+    report: &mut [u32],
+    t: &mut [u32],
+    l: &mut [u32],
+) -> Answer
+    requires { ⌜ TypedAsk limit (now d) (now board) (now book) (now report) (now t) (now l) × (length (rows (now d)) ≤ middleLines) ⌝ }
+    ensures { λ o. ⌜ Ran limit (judge (limitsFor (modeOf strict) limit) ceiling (rows (now (d .entry)))) (now (board .exit)) (now (book .exit)) (now (report .exit)) o ⌝ }
+{
+    let mut r = [0u32; 2 * MIDDLE_LINES + 2];
+    let mut w = [0usize; 6 * MIDDLE_LINES + 12];
+    let mut v = [0usize; 6 * MIDDLE_LINES + 6];
+    check_plan(
+        d,
+        ceiling,
+        limit,
+        strict,
+        board,
+        book,
+        report,
+        t,
+        l,
+        &mut r,
+        &mut w,
+        &mut v,
+    )
+}
+
+// The same of any sheet.
+fn case_long(
+    d: &[u64],
+    ceiling: u32,
+    limit: usize,
+    strict: bool,
+    board: &mut [u32],
+    book: &mut [u32],
+    report: &mut [u32],
+    t: &mut [u32],
+    l: &mut [u32],
+) -> Answer
+    requires { ⌜ TypedAsk limit (now d) (now board) (now book) (now report) (now t) (now l) ⌝ }
+    ensures { λ o. ⌜ Ran limit (judge (limitsFor (modeOf strict) limit) ceiling (rows (now (d .entry)))) (now (board .exit)) (now (book .exit)) (now (report .exit)) o ⌝ }
+{
+    let mut r = [0u32; 2 * MOST_LINES + 2];
+    let mut w = [0usize; 6 * MOST_LINES + 12];
+    let mut v = [0usize; 6 * MOST_LINES + 6];
+    check_plan(
+        d,
+        ceiling,
+        limit,
+        strict,
+        board,
+        book,
+        report,
+        t,
+        l,
+        &mut r,
+        &mut w,
+        &mut v,
+    )
+}
+
+// The run of a sheet with a Case. Two functions call it, so it keeps a frame of its own: a sheet without a Case takes no stack for such room.
+fn run_case(
+    d: &[u64],
+    ceiling: u32,
+    limit: usize,
+    strict: bool,
+    board: &mut [u32],
+    book: &mut [u32],
+    report: &mut [u32],
+    t: &mut [u32],
+    l: &mut [u32],
+) -> Answer
+    requires { ⌜ TypedAsk limit (now d) (now board) (now book) (now report) (now t) (now l) ⌝ }
+    ensures { λ o. ⌜ Ran limit (judge (limitsFor (modeOf strict) limit) ceiling (rows (now (d .entry)))) (now (board .exit)) (now (book .exit)) (now (report .exit)) o ⌝ }
+{
+    if line_count(d) <= SHORT_LINES {
+        return case_short(d, ceiling, limit, strict, board, book, report, t, l);
+    }
+    if line_count(d) <= MIDDLE_LINES {
+        return case_middle(d, ceiling, limit, strict, board, book, report, t, l);
+    }
+    case_long(d, ceiling, limit, strict, board, book, report, t, l)
+}
+
+// Lends the rules room for two types, and for a Case where the sheet has one: of a sheet of fewer than USUAL_NODES lines, with a limit of at most as many nodes.
 fn run_usual(
     d: &[u64],
     ceiling: u32,
@@ -167,16 +329,26 @@ fn run_usual(
     board: &mut [u32],
     book: &mut [u32],
     report: &mut [u32],
-    r: &mut [u32],
-    w: &mut [usize],
-    v: &mut [usize],
 ) -> Answer
-    requires { ⌜ ReadAsk limit (now d) (now board) (now book) (now report) (now r) (now w) (now v) × (limit ≤ usualLimit) × (length (rows (now d)) < usualLimit) ⌝ }
+    requires { ⌜ ReadAsk limit (now d) (now board) (now book) (now report) × (limit ≤ usualLimit) × (length (rows (now d)) < usualLimit) ⌝ }
     ensures { λ o. ⌜ Ran limit (judge (limitsFor (modeOf strict) limit) ceiling (rows (now (d .entry)))) (now (board .exit)) (now (book .exit)) (now (report .exit)) o ⌝ }
 {
     let mut t = [0u32; 2 * USUAL_NODES];
     let mut l = [0u32; 2 * USUAL_NODES];
-    check_plan(
+    if has_case(d) {
+        return run_case(
+            d,
+            ceiling,
+            limit,
+            strict,
+            board,
+            book,
+            report,
+            &mut t,
+            &mut l,
+        );
+    }
+    case_none(
         d,
         ceiling,
         limit,
@@ -186,9 +358,6 @@ fn run_usual(
         report,
         &mut t,
         &mut l,
-        r,
-        w,
-        v,
     )
 }
 
@@ -201,16 +370,26 @@ fn run_any(
     board: &mut [u32],
     book: &mut [u32],
     report: &mut [u32],
-    r: &mut [u32],
-    w: &mut [usize],
-    v: &mut [usize],
 ) -> Answer
-    requires { ⌜ ReadAsk limit (now d) (now board) (now book) (now report) (now r) (now w) (now v) ⌝ }
+    requires { ⌜ ReadAsk limit (now d) (now board) (now book) (now report) ⌝ }
     ensures { λ o. ⌜ Ran limit (judge (limitsFor (modeOf strict) limit) ceiling (rows (now (d .entry)))) (now (board .exit)) (now (book .exit)) (now (report .exit)) o ⌝ }
 {
     let mut t = [0u32; TYPE_WORDS];
     let mut l = [0u32; TYPE_WORDS];
-    check_plan(
+    if has_case(d) {
+        return run_case(
+            d,
+            ceiling,
+            limit,
+            strict,
+            board,
+            book,
+            report,
+            &mut t,
+            &mut l,
+        );
+    }
+    case_none(
         d,
         ceiling,
         limit,
@@ -220,9 +399,6 @@ fn run_any(
         report,
         &mut t,
         &mut l,
-        r,
-        w,
-        v,
     )
 }
 
@@ -235,19 +411,16 @@ fn run_read(
     board: &mut [u32],
     book: &mut [u32],
     report: &mut [u32],
-    r: &mut [u32],
-    w: &mut [usize],
-    v: &mut [usize],
 ) -> Answer
-    requires { ⌜ ReadAsk limit (now d) (now board) (now book) (now report) (now r) (now w) (now v) ⌝ }
+    requires { ⌜ ReadAsk limit (now d) (now board) (now book) (now report) ⌝ }
     ensures { λ o. ⌜ Ran limit (judge (limitsFor (modeOf strict) limit) ceiling (rows (now (d .entry)))) (now (board .exit)) (now (book .exit)) (now (report .exit)) o ⌝ }
 {
     if line_count(d) < USUAL_NODES {
         if limit <= USUAL_NODES {
-            return run_usual(d, ceiling, limit, strict, board, book, report, r, w, v);
+            return run_usual(d, ceiling, limit, strict, board, book, report);
         }
     }
-    run_any(d, ceiling, limit, strict, board, book, report, r, w, v)
+    run_any(d, ceiling, limit, strict, board, book, report)
 }
 
 // A refusal before a run.
@@ -277,7 +450,7 @@ fn no_plan(s: &[u8]) -> Answer
     }
 }
 
-// Reads the sheet, and lends the rules its rows and their room. Only a sheet that is no plan is read again, for its refusal.
+// Reads the sheet, and lends the rules its rows. Only a sheet that is no plan is read again, for its refusal.
 fn run_rows(
     s: &[u8],
     ceiling: u32,
@@ -287,17 +460,14 @@ fn run_rows(
     book: &mut [u32],
     report: &mut [u32],
     d: &mut [u64],
-    r: &mut [u32],
-    w: &mut [usize],
-    v: &mut [usize],
 ) -> Answer
-    requires { ⌜ RowsAsk limit (now s) (now board) (now book) (now report) (now d) (now r) (now w) (now v) ⌝ }
+    requires { ⌜ RowsAsk limit (now s) (now board) (now book) (now report) (now d) ⌝ }
     ensures { λ o. ⌜ ByCheck (check (now (s .entry))) (Ran limit (judge (limitsFor (modeOf strict) limit) ceiling (triples (now (s .entry)))) (now (board .exit)) (now (book .exit)) (now (report .exit)) o) (Kept (check (now (s .entry))) (now (board .entry)) (now (book .entry)) (now (report .entry)) (now (board .exit)) (now (book .exit)) (now (report .exit)) o) ⌝ }
 {
     if !read_plan(d, s) {
         return no_plan(s);
     }
-    run_read(d, ceiling, limit, strict, board, book, report, r, w, v)
+    run_read(d, ceiling, limit, strict, board, book, report)
 }
 
 // A sheet of at most TINY_LINES lines. A room is cleared before it is lent, so it is no larger than the sheet asks.
@@ -314,9 +484,6 @@ fn run_tiny(
     ensures { λ o. ⌜ ByCheck (check (now (s .entry))) (Ran limit (judge (limitsFor (modeOf strict) limit) ceiling (triples (now (s .entry)))) (now (board .exit)) (now (book .exit)) (now (report .exit)) o) (Kept (check (now (s .entry))) (now (board .entry)) (now (book .entry)) (now (report .entry)) (now (board .exit)) (now (book .exit)) (now (report .exit)) o) ⌝ }
 {
     let mut d = [0u64; 4 * TINY_LINES];
-    let mut r = [0u32; 2 * TINY_LINES + 2];
-    let mut w = [0usize; 6 * TINY_LINES + 12];
-    let mut v = [0usize; 6 * TINY_LINES + 6];
     run_rows(
         s,
         ceiling,
@@ -326,9 +493,6 @@ fn run_tiny(
         book,
         report,
         &mut d[..4 * (s.len() / LINE_LENGTH)],
-        &mut r,
-        &mut w,
-        &mut v,
     )
 }
 
@@ -346,9 +510,6 @@ fn run_short(
     ensures { λ o. ⌜ ByCheck (check (now (s .entry))) (Ran limit (judge (limitsFor (modeOf strict) limit) ceiling (triples (now (s .entry)))) (now (board .exit)) (now (book .exit)) (now (report .exit)) o) (Kept (check (now (s .entry))) (now (board .entry)) (now (book .entry)) (now (report .entry)) (now (board .exit)) (now (book .exit)) (now (report .exit)) o) ⌝ }
 {
     let mut d = [0u64; 4 * SHORT_LINES];
-    let mut r = [0u32; 2 * SHORT_LINES + 2];
-    let mut w = [0usize; 6 * SHORT_LINES + 12];
-    let mut v = [0usize; 6 * SHORT_LINES + 6];
     run_rows(
         s,
         ceiling,
@@ -358,9 +519,6 @@ fn run_short(
         book,
         report,
         &mut d[..4 * (s.len() / LINE_LENGTH)],
-        &mut r,
-        &mut w,
-        &mut v,
     )
 }
 
@@ -378,9 +536,6 @@ fn run_middle(
     ensures { λ o. ⌜ ByCheck (check (now (s .entry))) (Ran limit (judge (limitsFor (modeOf strict) limit) ceiling (triples (now (s .entry)))) (now (board .exit)) (now (book .exit)) (now (report .exit)) o) (Kept (check (now (s .entry))) (now (board .entry)) (now (book .entry)) (now (report .entry)) (now (board .exit)) (now (book .exit)) (now (report .exit)) o) ⌝ }
 {
     let mut d = [0u64; 4 * MIDDLE_LINES];
-    let mut r = [0u32; 2 * MIDDLE_LINES + 2];
-    let mut w = [0usize; 6 * MIDDLE_LINES + 12];
-    let mut v = [0usize; 6 * MIDDLE_LINES + 6];
     run_rows(
         s,
         ceiling,
@@ -390,9 +545,6 @@ fn run_middle(
         book,
         report,
         &mut d[..4 * (s.len() / LINE_LENGTH)],
-        &mut r,
-        &mut w,
-        &mut v,
     )
 }
 
@@ -410,9 +562,6 @@ fn run_long(
     ensures { λ o. ⌜ ByCheck (check (now (s .entry))) (Ran limit (judge (limitsFor (modeOf strict) limit) ceiling (triples (now (s .entry)))) (now (board .exit)) (now (book .exit)) (now (report .exit)) o) (Kept (check (now (s .entry))) (now (board .entry)) (now (book .entry)) (now (report .entry)) (now (board .exit)) (now (book .exit)) (now (report .exit)) o) ⌝ }
 {
     let mut d = [0u64; 4 * MOST_LINES];
-    let mut r = [0u32; 2 * MOST_LINES + 2];
-    let mut w = [0usize; 6 * MOST_LINES + 12];
-    let mut v = [0usize; 6 * MOST_LINES + 6];
     run_rows(
         s,
         ceiling,
@@ -422,9 +571,6 @@ fn run_long(
         book,
         report,
         &mut d[..4 * (s.len() / LINE_LENGTH)],
-        &mut r,
-        &mut w,
-        &mut v,
     )
 }
 

@@ -1,10 +1,13 @@
 -- What the code of Inf asks, and what it leaves. Assumes nothing: these are definitions.
 use mathlib.Core.Path.{_≡_}
-use mathlib.Core.List.{List}
+use mathlib.Core.Bool.{Bool, true, false, _||_}
+use mathlib.Core.List.{List, [], _∷_}
 use Prim.Native.Nat.{ℕ, _+_, _*_, _≤_, _<_}
+use lib.Dec.{eqb}
 use lib.ListN.{length, getD}
 use Rattle.sizes.specs.Sizes.{mostLines}
 use Rattle.nodes.specs.Nodes.{nodesAt}
+use Rattle.spelling.specs.declared.Triple.{Triple}
 use Rattle.kinds.specs.Kinds.{aTerm}
 use Rattle.sheet.specs.Plan.{noTriple}
 use Rattle.sheet.specs.Rows.{rows, Ended}
@@ -40,6 +43,15 @@ pub record CaseRoom (s r w v : List ℕ) : Type 0 where
   pub right : 2 * length (rows s) + 2 ≤ length r
   pub frames : 6 * length (rows s) + 12 ≤ length w
   pub bound : 6 * length (rows s) + 6 ≤ length v
+
+-- one of the lines is that of a Case
+unfoldable pub hasCase : List Triple → Bool
+hasCase [] = false
+hasCase (t ∷ ts) = eqb (t .kind) 27 || hasCase ts
+
+-- that room, where the sheet has a Case: a sheet without one may lend none
+abbrev pub CaseLent : List ℕ → List ℕ → List ℕ → List ℕ → Type 0
+CaseLent s r w v = hasCase (rows s) ≡ true → CaseRoom s r w v
 
 -- the kind of a line
 abbrev pub kindAt : List ℕ → ℕ → ℕ

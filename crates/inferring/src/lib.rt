@@ -1,5 +1,5 @@
 // Inf (worklist.rs: `solve_inference`): a term by the kind of its first line, which is line `at`. A function a term reads its parts off the sheet and performs its rule.
-// The taken type is the tn nodes at the front of t; l, r, w and v are scratch, the last three for a Case alone.
+// The taken type is the tn nodes at the front of t; l, r, w and v are scratch, the last three for a Case alone: a sheet that has none may lend them empty.
 ghost use mathlib.Core.Path.{_≡_};
 ghost use mathlib.Core.List.{List};
 ghost use Prim.Native.Nat.{ℕ, _+_, _≤_, _<_};
@@ -14,7 +14,7 @@ ghost use Rattle.judgment.specs.Result.{Way};
 ghost use Rattle.board.specs.Board.{termAt};
 ghost use Rattle.operations.specs.State.{WellFormed, Does};
 ghost use Rattle.applying.specs.Applying.{envOn, VarsFit};
-ghost use Rattle.inferring.specs.Inferring.{TypeFits, InferAsk, CaseRoom, TermAsk, kindAt, Infers};
+ghost use Rattle.inferring.specs.Inferring.{TypeFits, InferAsk, CaseRoom, hasCase, CaseLent, TermAsk, kindAt, Infers};
 ghost use Rattle.inferring.specs.Rooms.{scratch, variableOut, lambdaOut, constructorOut, caseScratch, inferScratch};
 use applying::infer_variable;
 use arms::infer_case;
@@ -32,6 +32,7 @@ use operations::Run;
 use operations::refuse;
 use sheet::Found;
 use sheet::find_entry;
+use sheet::line_count;
 use sheet::part_line;
 use sheet::triple_at;
 
@@ -49,6 +50,22 @@ fn part_at(s: &[u64], at: usize, i: usize) -> u32
     ensures { λ r. ⌜ r ≡ partLine (rows (now (s .entry))) (at + 1) i ⌝ }
 {
     part_line(s, at + 1, i) as u32
+}
+
+// The sheet has a line of a Case. The loop goes on where it found one: the compiler takes several lines at once if there is no other way out.
+pub fn has_case(s: &[u64]) -> bool
+    ensures { λ r. ⌜ r ≡ hasCase (rows (now (s .entry))) ⌝ }
+{
+    let lines = line_count(s);
+    let mut found = false;
+    let mut i = 0;
+    while i < lines {
+        if triple_at(s, i).kind == 27 {
+            found = true;
+        }
+        i += 1;
+    }
+    found
 }
 
 // Var (name).
@@ -196,7 +213,7 @@ fn infer_other(
     w: &mut [usize],
     v: &mut [usize],
 ) -> Run
-    requires { ⌜ InferAsk (now board) c (now s) at (now t) tn (now l) × CaseRoom (now s) (now r) (now w) (now v) × (25 ≤ kindAt (now s) at) ⌝ }
+    requires { ⌜ InferAsk (now board) c (now s) at (now t) tn (now l) × CaseLent (now s) (now r) (now w) (now v) × (25 ≤ kindAt (now s) at) ⌝ }
     ensures { λ o. ⌜ Infers (now (board .entry)) c (now (s .entry)) at (now (t .entry)) tn (now (board .exit)) o × (scratch (now (l .exit)) (now (r .exit)) (now (w .exit)) (now (v .exit)) ≡ inferScratch (now (board .entry)) c (now (s .entry)) at (nodesAt (now (t .entry)) 0 tn) (scratch (now (l .entry)) (now (r .entry)) (now (w .entry)) (now (v .entry)))) ⌝ }
 {
     let kind = triple_at(s, at).kind;
@@ -231,7 +248,7 @@ fn infer_term(
     w: &mut [usize],
     v: &mut [usize],
 ) -> Run
-    requires { ⌜ InferAsk (now board) c (now s) at (now t) tn (now l) × CaseRoom (now s) (now r) (now w) (now v) ⌝ }
+    requires { ⌜ InferAsk (now board) c (now s) at (now t) tn (now l) × CaseLent (now s) (now r) (now w) (now v) ⌝ }
     ensures { λ o. ⌜ Infers (now (board .entry)) c (now (s .entry)) at (now (t .entry)) tn (now (board .exit)) o × (scratch (now (l .exit)) (now (r .exit)) (now (w .exit)) (now (v .exit)) ≡ inferScratch (now (board .entry)) c (now (s .entry)) at (nodesAt (now (t .entry)) 0 tn) (scratch (now (l .entry)) (now (r .entry)) (now (w .entry)) (now (v .entry)))) ⌝ }
 {
     let kind = triple_at(s, at).kind;
@@ -263,7 +280,7 @@ pub fn solve_inference(
     w: &mut [usize],
     v: &mut [usize],
 ) -> Run
-    requires { ⌜ InferAsk (now board) c (now s) line (now t) tn (now l) × CaseRoom (now s) (now r) (now w) (now v) ⌝ }
+    requires { ⌜ InferAsk (now board) c (now s) line (now t) tn (now l) × CaseLent (now s) (now r) (now w) (now v) ⌝ }
     ensures { λ o. ⌜ ((m : Way) (k rep : List ℕ) → WellFormed (now (board .entry)) k c → Does m (rows (now (s .entry))) (now (board .entry)) k rep c (inferBy (envOn (now (s .entry))) (nodesAt (now (t .entry)) 0 tn) (termView (termAt (rows (now (s .entry))) line))) (now (board .exit)) k rep o) × (scratch (now (l .exit)) (now (r .exit)) (now (w .exit)) (now (v .exit)) ≡ inferScratch (now (board .entry)) c (now (s .entry)) line (nodesAt (now (t .entry)) 0 tn) (scratch (now (l .entry)) (now (r .entry)) (now (w .entry)) (now (v .entry)))) ⌝ }
 {
     infer_term(board, c, s, wide(line), t, tn, l, r, w, v)

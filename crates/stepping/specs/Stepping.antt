@@ -30,7 +30,7 @@ use Rattle.operations.specs.State.{outcomeOf, WellFormed, going, performW, wayI
 use Rattle.stepping.specs.declared.Kept.{Kept}
 use Rattle.subtyping.specs.Subtyping.{Sound}
 use Rattle.applying.specs.Applying.{envOn}
-use Rattle.inferring.specs.Inferring.{TypeFits, CaseRoom}
+use Rattle.inferring.specs.Inferring.{TypeFits, CaseLent}
 use Rattle.stepping.specs.Rooms.{Room, judgedRoom}
 
 -- ---- what a run has beside its counters, and the run with these
@@ -52,12 +52,12 @@ pub record Read (d : List ℕ) : Type 0 where
 abbrev pub longest : ℕ → List ℕ → ℕ
 longest m s = max m (length (rows s))
 
--- the room that the rules are lent: for two types, and for a Case
+-- the room that the rules are lent: for two types, and for a Case where the sheet has one
 pub record Lent (m : ℕ) (s t l r w v : List ℕ) : Type 0 where
   pub type : 2 * longest m s ≤ length t
   pub left : 2 * longest m s ≤ length l
   pub lines : TypeFits s l
-  pub room : CaseRoom s r w v
+  pub room : CaseLent s r w v
 
 abbrev pub topEntry : List Triple → List ℕ → Top → Entry
 topEntry ls b o = entryOf ls (o .kind) (o .number) (nodesAt b (o .at) (o .left)) (nodesAt b (o .at + 2 * o .left) (o .right))

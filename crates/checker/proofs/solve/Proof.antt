@@ -27,10 +27,6 @@ solve-step-requires c κs =
     let y = q .type in
     let z = q .left in
     let z1 = q .lines in
-    let g = q .room in
-    let g0 = g .right in
-    let g1 = g .frames in
-    let g2 = g .bound in
     let m = f .2 in
     record {
       standing = h .0 .standing;
@@ -39,7 +35,16 @@ solve-step-requires c κs =
       counts = let u = c .before .before .before .before .before .before .before .before .before .before .before .before .before .before .before .before .before .before .before .before .fits .ceiling in omega arith;
       limit = p .2;
       report = omega arith;
-      lent = record { type = omega arith; left = omega arith; lines = omega arith; room = record { right = omega arith; frames = omega arith; bound = omega arith } };
+      lent = record {
+        type = omega arith;
+        left = omega arith;
+        lines = omega arith;
+        room = λ e.
+            (let g0 = q .room e .right in
+            let g1 = q .room e .frames in
+            let g2 = q .room e .bound in
+            record { right = omega arith; frames = omega arith; bound = omega arith });
+      };
     }
 
 loop-less : tie.Need-loop-less Inv-loop μ-loop

@@ -1,6 +1,8 @@
 use mathlib.Core.Path.{refl, _∙_}
 use Rattle.inferring.proofs.Views.{term-asks, last-kind}
 use denote.Ref.{now}
+use Rattle.sheet.specs.Rows.{rows}
+use Rattle.inferring.proofs.Cases.{case-here}
 use Rattle.inferring.specs.Rooms.{scratch}
 use Rattle.inferring.proofs.Rooms.{of-kind, of-left}
 use borrow.Author.Needs.{needs}
@@ -14,7 +16,9 @@ constructor-term-requires : tie.Need-constructor-term-requires
 constructor-term-requires c κs = (term-asks (c .before .before .before .before .before .before .before .before .before .before .before .before .pre .0) (c .before .before .before .before .triple-at .ensures) (c .before .before .if2 .taken), c .before .before .before .before .before .before .before .before .before .before .before .before .pre .0 .left)
 
 case-term-requires : tie.Need-case-term-requires
-case-term-requires c κs = (c .before .before .before .before .before .before .before .before .before .before .before .before .before .before .before .before .pre .0, c .before .before .before .before .before .before .before .before .before .before .before .before .before .before .before .before .pre .1, term-asks (c .before .before .before .before .before .before .before .before .before .before .before .before .before .before .before .before .pre .0) (c .before .before .before .before .before .before .before .before .triple-at .ensures) (c .before .before .before .before .before .if3 .taken) .kind)
+case-term-requires c κs =
+    let e = term-asks (c .before .before .before .before .before .before .before .before .before .before .before .before .before .before .before .before .pre .0) (c .before .before .before .before .before .before .before .before .triple-at .ensures) (c .before .before .before .before .before .if3 .taken) .kind in
+    (c .before .before .before .before .before .before .before .before .before .before .before .before .before .before .before .before .pre .0, c .before .before .before .before .before .before .before .before .before .before .before .before .before .before .before .before .pre .1 (case-here (rows (now (c .before .before .before .before .before .before .before .before .before .before .before .before .before .before .before .before .args .s))) (c .before .before .before .before .before .before .before .before .before .before .before .before .before .before .before .before .args .at) e), e)
 
 bin-op-term-requires : tie.Need-bin-op-term-requires
 bin-op-term-requires c κs = term-asks (c .before .before .before .before .before .before .before .before .before .before .before .before .before .pre .0) (c .before .before .before .before .before .triple-at .ensures) (c .before .if4 .taken)
