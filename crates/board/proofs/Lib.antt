@@ -1,3 +1,4 @@
 pub mod Stacks
+pub mod Laying
 pub mod Finds
 pub mod Terms

@@ -19,7 +19,7 @@ use Rattle.judgment.proofs.TypeLaws.{both}
 use Rattle.judgment.specs.Board.{upTo, Entry, tvar, var, sub, inf, chk, infApp, entryNodes, boardNodes, Limits, roomFor}
 use Rattle.judgment.specs.Result.{boardWords}
 use Rattle.board.specs.declared.Board.{Board}
-use Rattle.board.specs.Board.{entryOf, slotOf, word, size, nodesBelow, leftAt, entryAt, entriesOf, Stacked, fitting, laid, grown, topOf}
+use Rattle.board.specs.Board.{entryOf, slotOf, word, size, nodesBelow, leftAt, entryAt, entriesOf, Stacked, fitting, fittingThree, headed, laid, grown, topOf}
 
 -- the nodes of an entry are those of the two types that its words hold
 pub slot-nodes : (e : Entry) → entryNodes e ≡ length (slotOf e .left) + length (slotOf e .right)
@@ -112,23 +112,26 @@ length-laid w b k n t u =
     let s : List ℕ = k ∷ n ∷ length t ∷ length u ∷ [] in
     length-sets (sets w (boardStride * b .entries) s) (boardBase + 2 * b .nodes) (words (t ++ u)) ∙ length-sets w (boardStride * b .entries) s
 
--- what the code of `push` leaves: four words, and then the nodes of the two types
-pub laid-by : (w : List ℕ) (b : Board) (k n : ℕ) (l : List ℕ) (la ln : ℕ) (r : List ℕ) (ra rn : ℕ) (w₁ w₂ : List ℕ) → (let i = boardStride * b .entries in
-    w₁ ≡ sets (set (set (set (set w i k) (i + 1) n) (i + 2) ln) (i + 3) rn) (boardBase + 2 * b .nodes) (words (nodesAt l la ln))
+-- what the code of `lay` leaves: four words
+pub headed-by : (w : List ℕ) (b : Board) (k n ln rn : ℕ) → (let i = boardStride * b .entries in set (set (set (set w i k) (i + 1) n) (i + 2) ln) (i + 3) rn ≡ headed w b k n ln rn)
+headed-by w b k n ln rn = simp towards-suc
+
+-- what the code of `push` leaves: these, and then the nodes of the two types
+pub laid-by : (w : List ℕ) (b : Board) (k n : ℕ) (l : List ℕ) (la ln : ℕ) (r : List ℕ) (ra rn : ℕ) (w₀ w₁ w₂ : List ℕ)
+    → w₀ ≡ headed w b k n ln rn
+    → w₁ ≡ sets w₀ (boardBase + 2 * b .nodes) (words (nodesAt l la ln))
     → w₂ ≡ sets w₁ (boardBase + 2 * b .nodes + 2 * ln) (words (nodesAt r ra rn))
-    → w₂ ≡ laid w b k n (nodesAt l la ln) (nodesAt r ra rn))
+    → w₂ ≡ laid w b k n (nodesAt l la ln) (nodesAt r ra rn)
 unfolding laid
-laid-by w b k n l la ln r ra rn w₁ w₂ p q =
+laid-by w b k n l la ln r ra rn w₀ w₁ w₂ o p q =
     let t : Ty = nodesAt l la ln in
     let u : Ty = nodesAt r ra rn in
     let tl : length t ≡ ln = length-nodesAt l la ln in
     let ul : length u ≡ rn = length-nodesAt r ra rn in
-    let i : ℕ = boardStride * b .entries in
     let lo : ℕ = boardBase + 2 * b .nodes in
-    let v : List ℕ = sets w i (k ∷ n ∷ ln ∷ rn ∷ []) in
-    let four : set (set (set (set w i k) (i + 1) n) (i + 2) ln) (i + 3) rn ≡ v = simp towards-suc in
+    let v : List ℕ = headed w b k n ln rn in
     let e : lo + 2 * ln ≡ lo + length (words t) = omega (arith, length-words t) in
-    rw (tl, ul) (q ∙ rw (p, four, e) (sym (ap (sets v lo) (words-append t u) ∙ sets-append v lo (words t) (words u))))
+    rw (tl, ul) (q ∙ rw (p, o, e) (sym (ap (sets v lo) (words-append t u) ∙ sets-append v lo (words t) (words u))))
 
 module _ {w : List ℕ} {b : Board} (s : Stacked w b) (k n : ℕ) (t u : Ty) (few : b .entries < mostEntries) (fits : b .nodes + (length t + length u) ≤ mostNodes) where
   abbrev slot : List ℕ
@@ -214,6 +217,12 @@ pub fits-facts : (b : Board) (n : ℕ) → fitting b n ≡ true → (b .entries 
 fits-facts b n e =
     let q = both (ltb (b .entries) mostEntries) (leb (b .nodes + n) mostNodes) e in
     (ltb-true (b .entries) mostEntries (q .0), leb-true (b .nodes + n) mostNodes (q .1))
+
+pub three-facts : (b : Board) (n : ℕ) → fittingThree b n ≡ true → (b .entries + 3 ≤ mostEntries) × (b .nodes + n ≤ mostNodes)
+three-facts b n e =
+    let q = both (ltb (b .entries) (mostEntries - 2)) (leb (b .nodes + n) mostNodes) e in
+    let x = ltb-true (b .entries) (mostEntries - 2) (q .0) in
+    (omega arith, leb-true (b .nodes + n) mostNodes (q .1))
 
 -- ---- a pop
 module _ {w : List ℕ} {b : Board} (s : Stacked w b) (h : 0 < b .entries) where

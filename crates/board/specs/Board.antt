@@ -89,11 +89,24 @@ pub record Stacked (w : List ℕ) (b : Board) : Type 0 where
 abbrev pub fitting : Board → ℕ → Bool
 fitting b n = ltb (b .entries) mostEntries && leb (b .nodes + n) mostNodes
 
+-- three more entries, of n nodes together, pass neither limit
+abbrev pub fittingThree : Board → ℕ → Bool
+fittingThree b n = ltb (b .entries) (mostEntries - 2) && leb (b .nodes + n) mostNodes
+
+-- the words of the next entry itself
+abbrev pub headed : List ℕ → Board → ℕ → ℕ → ℕ → ℕ → List ℕ
+headed w b k n ln rn = sets w (boardStride * b .entries) (k ∷ n ∷ ln ∷ rn ∷ [])
+
 unfoldable pub laid : List ℕ → Board → ℕ → ℕ → Ty → Ty → List ℕ
-laid w b k n t u = sets (sets w (boardStride * b .entries) (k ∷ n ∷ length t ∷ length u ∷ [])) (boardBase + 2 * b .nodes) (words (t ++ u))
+laid w b k n t u = sets (headed w b k n (length t) (length u)) (boardBase + 2 * b .nodes) (words (t ++ u))
 
 abbrev pub grown : Board → ℕ → Board
 grown b n = record { entries = b .entries + 1; nodes = b .nodes + n }
+
+pub record LayAsk (w : List ℕ) (b : Board) (ln rn : ℕ) : Type 0 where
+  pub room : boardSize ≤ length w
+  pub few : b .entries < mostEntries
+  pub fits : b .nodes + (ln + rn) ≤ mostNodes
 
 pub record PushAsk (w : List ℕ) (b : Board) (l : List ℕ) (la ln : ℕ) (r : List ℕ) (ra rn : ℕ) : Type 0 where
   pub room : boardSize ≤ length w

@@ -9,7 +9,7 @@ ghost use Rattle.nodes.specs.Nodes.{nodesAt};
 ghost use Rattle.spelling.specs.declared.Triple.{Triple};
 ghost use Rattle.judgment.specs.Board.{hasTVar, before as isBefore};
 ghost use Rattle.judgment.specs.Result.{boardWords};
-ghost use Rattle.board.specs.Board.{entriesOf, Stacked, fitting, laid, grown, PushAsk, topOf, varPlace};
+ghost use Rattle.board.specs.Board.{entriesOf, Stacked, fitting, fittingThree, headed, laid, grown, LayAsk, PushAsk, topOf, varPlace};
 use core_types::is_node;
 use nodes::clear_words;
 use nodes::copy_nodes;
@@ -51,6 +51,18 @@ impl Board {
         }
         false
     }
+
+    // Three more entries, of n nodes together, pass neither limit.
+    pub fn fits_three(self, n: usize) -> bool
+        ensures { λ r. ⌜ r ≡ fittingThree self n ⌝ }
+    {
+        if self.entries < Board::ENTRIES - 2 {
+            if n <= Board::NODES {
+                return self.nodes <= Board::NODES - n;
+            }
+        }
+        false
+    }
 }
 
 // Where the nodes of a type stand.
@@ -74,6 +86,22 @@ pub struct Top {
     pub rest: Board,
 }
 
+// Counts an entry whose types, ln and rn nodes, stand already where those of the next entry do.
+pub fn lay(board: &mut [u32], b: Board, kind: u32, number: u32, ln: usize, rn: usize) -> Board
+    requires { ⌜ LayAsk (now board) b ln rn ⌝ }
+    ensures { λ p. ⌜ (now (board .exit) ≡ headed (now (board .entry)) b kind number ln rn) × (p ≡ grown b (ln + rn)) ⌝ }
+{
+    let slot = BOARD_STRIDE * b.entries;
+    board[slot] = kind;
+    board[slot + 1] = number;
+    board[slot + 2] = ln as u32;
+    board[slot + 3] = rn as u32;
+    Board {
+        entries: b.entries + 1,
+        nodes: b.nodes + (ln + rn),
+    }
+}
+
 // Lays an entry on the board whose types are ln nodes at word la of l and rn nodes at word ra of r.
 pub fn push(
     board: &mut [u32],
@@ -90,19 +118,12 @@ pub fn push(
     requires { ⌜ PushAsk (now board) b (now l) la ln (now r) ra rn ⌝ }
     ensures { λ p. ⌜ (now (board .exit) ≡ laid (now (board .entry)) b kind number (nodesAt (now (l .entry)) la ln) (nodesAt (now (r .entry)) ra rn)) × (p ≡ grown b (ln + rn)) ⌝ }
 {
-    let slot = BOARD_STRIDE * b.entries;
     let lo = BOARD_BASE + 2 * b.nodes;
     let mid = lo + 2 * ln;
-    board[slot] = kind;
-    board[slot + 1] = number;
-    board[slot + 2] = ln as u32;
-    board[slot + 3] = rn as u32;
+    let more = lay(board, b, kind, number, ln, rn);
     copy_nodes(board, lo, l, la, ln);
     copy_nodes(board, mid, r, ra, rn);
-    Board {
-        entries: b.entries + 1,
-        nodes: b.nodes + (ln + rn),
-    }
+    more
 }
 
 // Takes the newest entry. Its words stay until the next push.

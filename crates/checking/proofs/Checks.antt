@@ -19,7 +19,7 @@ use Rattle.judgment.specs.Rules.{Env, synthesize, checkBy}
 use Rattle.board.specs.Board.{termAt}
 use Rattle.board.proofs.Terms.{lineOf, bodyAt, term-head, part-at}
 use Rattle.operations.specs.declared.Run.{Run}
-use Rattle.checking.specs.Checking.{checkedType, checkedOut, CheckAsk}
+use Rattle.checking.specs.Checking.{copiedType, checkedType, checkedOut, CheckAsk}
 use Rattle.inference.specs.Inference.{lambdaOn}
 use Rattle.inference.proofs.Heads.{part-within, two-parts, first-lines, head-narrow}
 use Rattle.subtyping.specs.Subtyping.{shapeOf}
@@ -31,20 +31,20 @@ check-other E e t (isForall x b) f g = absurd (g refl)
 check-other E e t (isUnknown k) f g = refl
 check-other E e t isOther f g = refl
 
--- every word of the rooms, where the view says that they stay
-pub type-stays : (t : List ℕ) (u : ℕ) (v : View) → shapeOf v ≢ 3 → t ≡ checkedType t u v
-type-stays t u (isArrow a b) h = refl
-type-stays t u (isApp a b) h = refl
-type-stays t u (isForall x b) h = absurd (h refl)
-type-stays t u (isUnknown k) h = refl
-type-stays t u isOther h = refl
+-- every word of the rooms, where the view says no more than that the type is copied
+pub type-copied : (t : List ℕ) (c : Run) (T : Ty) (f : Option Lambda) (v : View) → shapeOf v ≢ 1 → shapeOf v ≢ 3 → copiedType t T ≡ checkedType t c T f v
+type-copied t c T f (isArrow a b) g h = absurd (g refl)
+type-copied t c T f (isApp a b) g h = refl
+type-copied t c T f (isForall x b) g h = absurd (h refl)
+type-copied t c T f (isUnknown k) g h = refl
+type-copied t c T f isOther g h = refl
 
-pub out-stays : (out : List ℕ) (f : Option Lambda) (v : View) → shapeOf v ≢ 1 → out ≡ checkedOut out f v
-out-stays out f (isArrow a b) h = absurd (h refl)
-out-stays out f (isApp a b) h = refl
-out-stays out f (isForall x b) h = refl
-out-stays out f (isUnknown k) h = refl
-out-stays out f isOther h = refl
+pub out-stays : (out : List ℕ) (c : Run) (T : Ty) (f : Option Lambda) (v : View) → shapeOf v ≢ 1 → out ≡ checkedOut out c T f v
+out-stays out c T f (isArrow a b) h = absurd (h refl)
+out-stays out c T f (isApp a b) h = refl
+out-stays out c T f (isForall x b) h = refl
+out-stays out c T f (isUnknown k) h = refl
+out-stays out c T f isOther h = refl
 
 module _ (s : List ℕ) (p : ℕ) (h : p < length (rows s)) where
   abbrev ls : List Triple
@@ -72,7 +72,7 @@ module _ (s : List ℕ) (p : ℕ) (h : p < length (rows s)) where
 pub head-is : (s : List ℕ) (line i : ℕ) (h : Triple) → i ≡ line → h ≡ getD (rows s) i noTriple → h ≡ lineOf (rows s) line
 head-is s line i h e q = q ∙ ap (lineOf (rows s)) e
 
-module _ {b : List ℕ} {c : Run} {s : List ℕ} {line : ℕ} {t : List ℕ} {tn : ℕ} {out : List ℕ} (a : CheckAsk b c s line t tn out) where
+module _ {b : List ℕ} {c : Run} {s : List ℕ} {line at tn : ℕ} {t out : List ℕ} (a : CheckAsk b c s line at tn t out) where
   abbrev L : List Triple
   L = rows s
 

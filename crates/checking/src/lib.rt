@@ -1,8 +1,9 @@
-// Chk (worklist.rs: `solve_checking`). The taken type is the tn nodes at the front of t, which is changed; out is room for a type of the sheet.
+// Chk (worklist.rs: `solve_checking`). The taken type is the tn nodes at word `at` of the board, past its entries; t is room for it, out for a type of the sheet.
 ghost use mathlib.Core.Path.{_≡_};
 ghost use mathlib.Core.List.{List};
-ghost use Prim.Native.Nat.{ℕ, _+_, _-_, _<_};
+ghost use Prim.Native.Nat.{ℕ, _+_, _-_, _≤_, _<_};
 ghost use Rattle.nodes.specs.Nodes.{nodesAt};
+ghost use Rattle.sizes.specs.Sizes.{mostLines, mostNodes};
 ghost use Rattle.sheet.specs.Rows.{rows};
 ghost use Rattle.judgment.specs.Types.{first, rest, view};
 ghost use Rattle.judgment.specs.Terms.{lambdaOf};
@@ -10,18 +11,34 @@ ghost use Rattle.judgment.specs.Rules.{Env, checkArrow, checkBy};
 ghost use Rattle.judgment.specs.Result.{Way};
 ghost use Rattle.board.specs.Board.{termAt};
 ghost use Rattle.operations.specs.State.{WellFormed, Does};
-ghost use Rattle.checking.specs.Checking.{checkedType, lambdaOut, checkedOut, CheckAsk};
+ghost use Rattle.checking.specs.Checking.{allFit, arrowType, arrowOut, checkedType, checkedOut, CheckAsk};
 use core_types::first_part;
 use inference::check_forall;
 use inference::check_lambda;
+use inference::check_lambda_here;
 use inference::synthesize;
+use nodes::copy_nodes;
 use nodes::wide;
 use operations::Run;
+use operations::is_going;
 use sheet::part_line;
 use sheet::triple_at;
 use subtyping::ARROW;
 use subtyping::FORALL;
 use subtyping::shape;
+
+// All that a Lambda whose type has an nodes pushes against an Arrow of tn nodes fits on the board.
+fn all_fit(c: Run, an: usize, tn: usize) -> bool
+    requires { ⌜ (an ≤ mostLines) × (tn ≤ mostNodes) × (0 < tn) ⌝ }
+    ensures { λ r. ⌜ r ≡ allFit c an tn ⌝ }
+{
+    let halt = c.halt;
+    let b = c.counters.board;
+    if is_going(halt) {
+        return b.fits_three(2 * an + (tn - 1));
+    }
+    false
+}
 
 // An Arrow: a Lambda takes its parts, any other term is synthesized.
 fn check_arrow(
@@ -29,26 +46,32 @@ fn check_arrow(
     c: Run,
     s: &[u64],
     line: u32,
-    t: &[u32],
+    at: usize,
     tn: usize,
+    t: &mut [u32],
     out: &mut [u32],
 ) -> Run
-    requires { ⌜ CheckAsk (now board) c (now s) line (now t) tn (now out) × (0 < tn) ⌝ }
-    ensures { λ r. ⌜ ((w : Way) (E : Env) (k rep : List ℕ) → WellFormed (now (board .entry)) k c → Does w (rows (now (s .entry))) (now (board .entry)) k rep c (checkArrow E (termAt (rows (now (s .entry))) line) (nodesAt (now (t .entry)) 0 tn) (first (nodesAt (now (t .entry)) 2 (tn - 1))) (rest (nodesAt (now (t .entry)) 2 (tn - 1))) (lambdaOf (termAt (rows (now (s .entry))) line))) (now (board .exit)) k rep r) × (now (out .exit) ≡ lambdaOut (now (out .entry)) (lambdaOf (termAt (rows (now (s .entry))) line))) ⌝ }
+    requires { ⌜ CheckAsk (now board) c (now s) line at tn (now t) (now out) × (0 < tn) ⌝ }
+    ensures { λ r. ⌜ ((w : Way) (E : Env) (k rep : List ℕ) → WellFormed (now (board .entry)) k c → Does w (rows (now (s .entry))) (now (board .entry)) k rep c (checkArrow E (termAt (rows (now (s .entry))) line) (nodesAt (now (board .entry)) at tn) (first (nodesAt (now (board .entry)) (at + 2) (tn - 1))) (rest (nodesAt (now (board .entry)) (at + 2) (tn - 1))) (lambdaOf (termAt (rows (now (s .entry))) line))) (now (board .exit)) k rep r) × (now (t .exit) ≡ arrowType (now (t .entry)) c (nodesAt (now (board .entry)) at tn) (lambdaOf (termAt (rows (now (s .entry))) line))) × (now (out .exit) ≡ arrowOut (now (out .entry)) c (nodesAt (now (board .entry)) at tn) (lambdaOf (termAt (rows (now (s .entry))) line))) ⌝ }
 {
-    let at = wide(line);
-    let head = triple_at(s, at);
+    let row = wide(line);
+    let head = triple_at(s, row);
     if head.kind == 23 {
         let name = head.value as u32;
-        let start = at + 1;
+        let start = row + 1;
         let body = part_line(s, start, 1);
         let n = body - start;
         let parts = tn - 1;
-        let m = first_part(t, 2, parts);
+        let m = first_part(board, at + 2, parts);
         let more = parts - m;
         let next = body as u32;
+        if all_fit(c, n, tn) {
+            return check_lambda_here(board, c, s, name, start, n, next, m, more);
+        }
+        copy_nodes(t, 0, board, at, tn);
         return check_lambda(board, c, s, name, start, n, next, out, t, 2, m, more);
     }
+    copy_nodes(t, 0, board, at, tn);
     synthesize(board, c, line, t, tn)
 }
 
@@ -59,17 +82,19 @@ pub fn solve_checking(
     c: Run,
     s: &[u64],
     line: u32,
-    t: &mut [u32],
+    at: usize,
     tn: usize,
+    t: &mut [u32],
     out: &mut [u32],
 ) -> Run
-    requires { ⌜ WellFormed (now board) (now book) c × CheckAsk (now board) c (now s) line (now t) tn (now out) ⌝ }
-    ensures { λ r. ⌜ ((w : Way) (E : Env) (rep : List ℕ) → Does w (rows (now (s .entry))) (now (board .entry)) (now (book .entry)) rep c (checkBy E (termAt (rows (now (s .entry))) line) (nodesAt (now (t .entry)) 0 tn) (view (nodesAt (now (t .entry)) 0 tn))) (now (board .exit)) (now (book .exit)) rep r) × (now (t .exit) ≡ checkedType (now (t .entry)) (c .counters .fresh) (view (nodesAt (now (t .entry)) 0 tn))) × (now (out .exit) ≡ checkedOut (now (out .entry)) (lambdaOf (termAt (rows (now (s .entry))) line)) (view (nodesAt (now (t .entry)) 0 tn))) ⌝ }
+    requires { ⌜ WellFormed (now board) (now book) c × CheckAsk (now board) c (now s) line at tn (now t) (now out) ⌝ }
+    ensures { λ r. ⌜ ((w : Way) (E : Env) (rep : List ℕ) → Does w (rows (now (s .entry))) (now (board .entry)) (now (book .entry)) rep c (checkBy E (termAt (rows (now (s .entry))) line) (nodesAt (now (board .entry)) at tn) (view (nodesAt (now (board .entry)) at tn))) (now (board .exit)) (now (book .exit)) rep r) × (now (t .exit) ≡ checkedType (now (t .entry)) c (nodesAt (now (board .entry)) at tn) (lambdaOf (termAt (rows (now (s .entry))) line)) (view (nodesAt (now (board .entry)) at tn))) × (now (out .exit) ≡ checkedOut (now (out .entry)) c (nodesAt (now (board .entry)) at tn) (lambdaOf (termAt (rows (now (s .entry))) line)) (view (nodesAt (now (board .entry)) at tn))) ⌝ }
 {
-    let k = shape(t, 0, tn);
+    let k = shape(board, at, tn);
     if k == ARROW {
-        return check_arrow(board, c, s, line, t, tn, out);
+        return check_arrow(board, c, s, line, at, tn, t, out);
     }
+    copy_nodes(t, 0, board, at, tn);
     if k == FORALL {
         let name = t[1];
         let n = tn - 1;

@@ -2,7 +2,7 @@
 use mathlib.Core.Path.{_≡_, refl, sym, ap, _∙_, subst}
 use mathlib.Core.Logic.{_≢_}
 use mathlib.Core.List.{List, _∷_}
-use Prim.Native.Nat.{ℕ, _+_, _-_, _≤_, _<_}
+use Prim.Native.Nat.{ℕ, zero, suc, _+_, _-_, _≤_, _<_}
 use native.Mathlib.Omega.{arith}
 use lib.ListN.{length, take, drop, length-drop}
 use Rattle.nodes.proofs.PartLaws.{length-take}
@@ -32,6 +32,10 @@ pub two-parts : (t : Triple) → t .kind ≡ 23 → partsOf t ≡ 2
 unfolding partsOf rowOf findRow table
 two-parts t e = rw e
 
+some-lines : (x n : ℕ) (l : List Triple) → IsPart x (take n l) → 0 < n
+some-lines x zero l h = absurd h
+some-lines x (suc n) l h = omega arith
+
 module _ (s : List ℕ) (p : ℕ) (h : p < length (rows s)) where
   abbrev ls : List Triple
   ls = rows s
@@ -50,6 +54,12 @@ module _ (s : List ℕ) (p : ℕ) (h : p < length (rows s)) where
     pub head-narrow : lineOf ls p .kind ≢ 22 → lineOf ls p .value < 4294967296
     head-narrow f = term-narrow (lineOf ls p) (head-ok .0) f
 
+    type-ok : lineOf ls p .kind ≡ 23 → IsPart aType (take (partLine ls (p + 1) 1 - (p + 1)) (drop (p + 1) ls))
+    type-ok e = subst (IsPart aType) (first-lines e) (lambda-parts (lineOf ls p) (bodyAt ls p) head-ok e .0)
+
+    pub lines-some : lineOf ls p .kind ≡ 23 → 0 < partLine ls (p + 1) 1 - (p + 1)
+    lines-some e = some-lines aType (partLine ls (p + 1) 1 - (p + 1)) (drop (p + 1) ls) (type-ok e)
+
     pub lines-asks : lineOf ls p .kind ≡ 23 → LinesAsk s (p + 1) (partLine ls (p + 1) 1 - (p + 1))
     lines-asks e =
         let w = part-within ls (p + 1) 1 (omega arith) in
@@ -57,5 +67,5 @@ module _ (s : List ℕ) (p : ℕ) (h : p < length (rows s)) where
         let w1 = w .1 in
         record {
           within = omega arith;
-          narrow = type-narrow (take (partLine ls (p + 1) 1 - (p + 1)) (drop (p + 1) ls)) (subst (IsPart aType) (first-lines e) (lambda-parts (lineOf ls p) (bodyAt ls p) head-ok e .0));
+          narrow = type-narrow (take (partLine ls (p + 1) 1 - (p + 1)) (drop (p + 1) ls)) (type-ok e);
         }

@@ -1,3 +1,4 @@
 pub mod Keeps
 pub mod Written
 pub mod Heads
+pub mod Here

@@ -20,9 +20,11 @@ ghost use Rattle.judgment.specs.Rules.{Env, freshUnknown, inferBy, synthesize a
 ghost use Rattle.judgment.specs.Result.{Way};
 ghost use Rattle.board.specs.Board.{termAt, Stacked};
 ghost use Rattle.operations.specs.State.{Bookable, WellFormed, Does, PerformsOnBoard, Scoped};
-ghost use Rattle.inference.specs.Inference.{typeOn, lambdaOn, LinesAsk, Open};
+ghost use Rattle.inference.specs.Inference.{typeOn, lambdaOn, LinesAsk, nextAt, HereAsk, Open};
+use board::lay;
 use core_types::substitute_type;
 use judgment::TypeError;
+use nodes::move_up;
 use operations::Run;
 use operations::fresh_evar;
 use operations::fresh_part;
@@ -36,6 +38,7 @@ use operations::push_var;
 use operations::refuse;
 use operations::solve_evar;
 use sheet::copy_type;
+use sizes::BOARD_BASE;
 
 // A fresh unknown, c.counters.fresh, and its TVar.
 fn fresh_unknown(board: &mut [u32], c: Run) -> Run
@@ -217,6 +220,45 @@ pub fn check_lambda(
     let c1 = push_sub(board, c, out, 0, n, t, a, an);
     let c2 = push_var(board, c1, name, out, 0, n);
     push_chk(board, c2, body, t, b, bn)
+}
+
+// The same where the Arrow, its parts m and bn nodes, was the last type on the board, and all entries fit: its parts are moved up to where they stand in these.
+pub fn check_lambda_here(
+    board: &mut [u32],
+    c: Run,
+    s: &[u64],
+    name: u32,
+    first: usize,
+    n: usize,
+    body: u32,
+    m: usize,
+    bn: usize,
+) -> Run
+    requires { ⌜ HereAsk (now board) c (now s) first n m bn ⌝ }
+    ensures { λ r. ⌜ ((w : Way) (E : Env) (e : Term) (T : Ty) (k rep : List ℕ) → WellFormed (now (board .entry)) k c → Does w (rows (now (s .entry))) (now (board .entry)) k rep c (checkArrow E e T (nodesAt (now (board .entry)) (nextAt c + 2) m) (nodesAt (now (board .entry)) (nextAt c + 2 + 2 * m) bn) (some (lambdaOn (now (s .entry)) name first n body))) (now (board .exit)) k rep r) ⌝ }
+{
+    let mut counters = c.counters;
+    let b = counters.board;
+    let at = BOARD_BASE + 2 * b.nodes;
+    let mid = at + 2 * n;
+    let again = mid + 2 * m;
+    let rest = again + 2 * n;
+    let from = at + 2 + 2 * m;
+    move_up(board, rest, from, bn);
+    move_up(board, mid, at + 2, m);
+    copy_type(board, at, s, first, n);
+    copy_type(board, again, s, first, n);
+    let b1 = lay(board, b, 3, 0, n, m);
+    let b2 = lay(board, b1, 2, name, n, 0);
+    let b3 = lay(board, b2, 5, body, bn, 0);
+    counters.board = b3;
+    let book = c.book;
+    let halt = c.halt;
+    Run {
+        counters,
+        book,
+        halt,
+    }
 }
 
 // A term checked against a Forall of `name` over the n nodes at word `at` of t: a fresh universal is put for the name, in place.

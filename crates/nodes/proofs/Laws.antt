@@ -5,10 +5,10 @@ use mathlib.Core.Bool.{Bool, true, false}
 use mathlib.Core.List.{List, [], _∷_, _++_, append-assoc}
 use Prim.Native.Nat.{ℕ, zero, suc, _+_, _*_, _-_, _≤_, _<_}
 use native.Mathlib.Nat.{add-zero, add-suc, suc-add, not-suc-le-zero}
-use native.Mathlib.Numerals.{add-one, add-two}
+use native.Mathlib.Numerals.{add-one, add-two, towards-suc}
 use native.Mathlib.Omega.{arith}
 use lib.ListN.{length, getD, set, take, drop, length-set, length-append}
-use lib.Seq.{sets, length-sets, getD-set-same, getD-set-other}
+use lib.Seq.{sets, length-sets, getD-set-same, getD-set-other, set-comm}
 use lib.Dec.{leb}
 use borrow.Author.Tests.{leb-true, leb-false, le-leb, lt-leb}
 use Rattle.nodes.specs.Nodes.{Node, node, words, nodesAt, zeros}
@@ -200,3 +200,85 @@ move-step l from i e h =
     let b : getD (set e (2 * i) (getD l (from + 2 * i) 0)) (from + 2 * i + 1) 0 ≡ getD l (from + 2 * i + 1) 0 =
     getD-set-other e (2 * i) (from + 2 * i + 1) (getD l (from + 2 * i) 0) 0 (omega arith) ∙ read (from + 2 * i + 1) (omega arith) in
     rw (a, b) (ap (λ (x : ℕ). set (set e x (getD l (from + 2 * i) 0)) (x + 1) (getD l (from + 2 * i + 1) 0)) (sym z) ∙ copy-step l l 0 from i e h)
+
+-- ---- stores in another order
+set-past : (l : List ℕ) (i a j : ℕ) (ws : List ℕ) → i < j → set (sets l j ws) i a ≡ sets (set l i a) j ws
+set-past l i a j [] h = refl
+set-past l i a j (b ∷ ws) h =
+    set-past (set l j b) i a (suc j) ws (omega arith) ∙ ap (λ (r : List ℕ). sets r (suc j) ws) (set-comm l j i b a (λ e. (let d : j ≡ i = e in omega arith)))
+
+-- a run of stores and one above it
+pub sets-swap : (l : List ℕ) (i : ℕ) (vs : List ℕ) (j : ℕ) (ws : List ℕ) → i + length vs ≤ j → sets (sets l j ws) i vs ≡ sets (sets l i vs) j ws
+sets-swap l i [] j ws h = refl
+sets-swap l i (a ∷ vs) j ws h =
+    let h' : i + suc (length vs) ≤ j = h in
+    ap (λ (r : List ℕ). sets r (suc i) vs) (set-past l i a j ws (omega arith)) ∙ sets-swap (set l i a) (suc i) vs j ws (omega arith)
+
+-- the nodes of t stored just below those of u
+pub sets-below : (l : List ℕ) (i : ℕ) (t : List Node) (j : ℕ) (u : List Node) → i + 2 * length t ≡ j → sets (sets l j (words u)) i (words t) ≡ sets l i (words (t ++ u))
+sets-below l i t j u e =
+    let f : i + length (words t) ≡ j = ap (λ (x : ℕ). i + x) (length-words t) ∙ e in
+    let g : i + length (words t) ≤ j = omega arith in
+    sets-swap l i (words t) j (words u) g
+    ∙ ap (λ (k : ℕ). sets (sets l i (words t)) k (words u)) (sym f)
+    ∙ sym (sets-append l i (words t) (words u))
+    ∙ ap (sets l i) (sym (words-append t u))
+
+-- m more nodes moved up below the k that are moved
+up-turn : (l : List ℕ) (to from i m k : ℕ) (e : List ℕ) → from ≤ to → e ≡ sets l (to + 2 * (i + m)) (words (nodesAt l (from + 2 * (i + m)) k))
+    → sets e (to + 2 * i) (words (nodesAt e (from + 2 * i) m)) ≡ sets l (to + 2 * i) (words (nodesAt l (from + 2 * i) (m + k)))
+up-turn l to from i m k e h q =
+    let t : List Node = nodesAt l (from + 2 * i) m in
+    let u : List Node = nodesAt l (from + 2 * (i + m)) k in
+    let z : length t ≡ m = length-nodesAt l (from + 2 * i) m in
+    let d : to + 2 * i + 2 * length t ≡ to + 2 * (i + m) = omega arith in
+    let f : from + 2 * (i + m) ≡ from + 2 * i + 2 * m = omega arith in
+    let r : nodesAt (sets l (to + 2 * (i + m)) (words u)) (from + 2 * i) m ≡ t = nodesAt-below l (to + 2 * (i + m)) (words u) (from + 2 * i) m (omega arith) in
+    ap (λ (x : List ℕ). sets x (to + 2 * i) (words (nodesAt x (from + 2 * i) m))) q
+    ∙ ap (λ (x : List Node). sets (sets l (to + 2 * (i + m)) (words u)) (to + 2 * i) (words x)) r
+    ∙ sets-below l (to + 2 * i) t (to + 2 * (i + m)) u d
+    ∙ ap (λ (x : List Node). sets l (to + 2 * i) (words x))
+    (ap (λ (x : ℕ). t ++ nodesAt l x k) f ∙ sym (nodesAt-append l (from + 2 * i) m k))
+
+-- a turn of the loops that move n nodes up, by m
+pub up-step : (l : List ℕ) (to from n i m : ℕ) (e : List ℕ) → from ≤ to → m ≤ i → i ≤ n → e ≡ sets l (to + 2 * i) (words (nodesAt l (from + 2 * i) (n - i)))
+    → sets e (to + 2 * (i - m)) (words (nodesAt e (from + 2 * (i - m)) m)) ≡ sets l (to + 2 * (i - m)) (words (nodesAt l (from + 2 * (i - m)) (n - (i - m))))
+up-step l to from n i m e h b c q =
+    let x : i ≡ i - m + m = omega arith in
+    let y : m + (n - i) ≡ n - (i - m) = omega arith in
+    up-turn l to from (i - m) m (n - i) e h (q ∙ ap (λ (j : ℕ). sets l (to + 2 * j) (words (nodesAt l (from + 2 * j) (n - i)))) x)
+    ∙ ap (λ (j : ℕ). sets l (to + 2 * (i - m)) (words (nodesAt l (from + 2 * (i - m)) j))) y
+
+-- no turn was made yet, and the last one was
+pub none-up : (l : List ℕ) (i j n : ℕ) → l ≡ sets l i (words (nodesAt l j (n - n)))
+unfolding words nodesAt
+none-up l i j n =
+    let e : n - n ≡ 0 = omega arith in
+    ap (λ (k : ℕ). sets l i (words (nodesAt l j k))) (sym e)
+
+pub up-done : (l : List ℕ) (to from n : ℕ) (e : List ℕ) → e ≡ sets l (to + 2 * 0) (words (nodesAt l (from + 2 * 0) (n - 0))) → e ≡ sets l to (words (nodesAt l from n))
+up-done l to from n e q =
+    let x : to + 2 * 0 ≡ to = omega arith in
+    let y : from + 2 * 0 ≡ from = omega arith in
+    let z : n - 0 ≡ n = omega arith in
+    q ∙ rw (x, y, z)
+
+-- the nodes that were not moved by the turns are moved at once
+pub up-rest : (l : List ℕ) (to from n m : ℕ) (e e' : List ℕ) → from ≤ to → m ≤ n → e ≡ sets l (to + 2 * m) (words (nodesAt l (from + 2 * m) (n - m)))
+    → e' ≡ sets e to (words (nodesAt e from m)) → e' ≡ sets l to (words (nodesAt l from n))
+up-rest l to from n m e e' h b q p =
+    let x : to + 2 * (m - m) ≡ to = omega arith in
+    let y : from + 2 * (m - m) ≡ from = omega arith in
+    let z : n - (m - m) ≡ n = omega arith in
+    let w : m ≤ m = omega arith in
+    p ∙ ap₂ (λ (i j : ℕ). sets e i (words (nodesAt e j m))) (sym x) (sym y) ∙ up-step l to from n m m e h w b q ∙ rw (x, y, z)
+
+pub one-node : (l : List ℕ) (to from : ℕ) → set (set l to (getD l from 0)) (to + 1) (getD l (from + 1) 0) ≡ sets l to (words (nodesAt l from 1))
+unfolding words nodesAt
+one-node l to from = ap (λ (k : ℕ). set (set l to (getD l from 0)) k (getD l (from + 1) 0)) (add-one to)
+
+pub four-nodes : (l : List ℕ) (to from : ℕ)
+    → set (set (set (set (set (set (set (set l to (getD l from 0)) (to + 1) (getD l (from + 1) 0)) (to + 2) (getD l (from + 2) 0)) (to + 3) (getD l (from + 3) 0)) (to + 4) (getD l (from + 4) 0)) (to + 5) (getD l (from + 5) 0)) (to + 6) (getD l (from + 6) 0)) (to + 7) (getD l (from + 7) 0)
+    ≡ sets l to (words (nodesAt l from 4))
+unfolding words nodesAt
+four-nodes l to from = simp towards-suc

@@ -35,6 +35,61 @@ pub fn move_to_front(t: &mut [u32], from: usize, n: usize)
     }
 }
 
+// Copies the four nodes at word `from` to word `to`. All are read before one is written, so they are moved as wide words.
+fn move_four(t: &mut [u32], to: usize, from: usize)
+    requires { ⌜ (from + 8 ≤ length (now t)) × (to + 8 ≤ length (now t)) ⌝ }
+    ensures { λ _. ⌜ now (t .exit) ≡ sets (now (t .entry)) to (words (nodesAt (now (t .entry)) from 4)) ⌝ }
+{
+    let k1 = t[from];
+    let v1 = t[from + 1];
+    let k2 = t[from + 2];
+    let v2 = t[from + 3];
+    let k3 = t[from + 4];
+    let v3 = t[from + 5];
+    let k4 = t[from + 6];
+    let v4 = t[from + 7];
+    t[to] = k1;
+    t[to + 1] = v1;
+    t[to + 2] = k2;
+    t[to + 3] = v2;
+    t[to + 4] = k3;
+    t[to + 5] = v3;
+    t[to + 6] = k4;
+    t[to + 7] = v4;
+}
+
+// Moves the n nodes at word `from` up to word `to`, one by one, the last first.
+fn move_each(t: &mut [u32], to: usize, from: usize, n: usize)
+    requires { ⌜ (from ≤ to) × (to + 2 * n ≤ length (now t)) ⌝ }
+    ensures { λ _. ⌜ now (t .exit) ≡ sets (now (t .entry)) to (words (nodesAt (now (t .entry)) from n)) ⌝ }
+{
+    let mut i = n;
+    while 0 < i {
+        i -= 1;
+        let s = from + 2 * i;
+        let d = to + 2 * i;
+        let kind = t[s];
+        let number = t[s + 1];
+        t[d] = kind;
+        t[d + 1] = number;
+    }
+}
+
+// The same by fours, as far as they go.
+pub fn move_up(t: &mut [u32], to: usize, from: usize, n: usize)
+    requires { ⌜ (from ≤ to) × (to + 2 * n ≤ length (now t)) ⌝ }
+    ensures { λ _. ⌜ now (t .exit) ≡ sets (now (t .entry)) to (words (nodesAt (now (t .entry)) from n)) ⌝ }
+{
+    let mut left = n;
+    while 4 <= left {
+        left -= 4;
+        let d = to + 2 * left;
+        let s = from + 2 * left;
+        move_four(t, d, s);
+    }
+    move_each(t, to, from, left);
+}
+
 // Puts 0 into n words from word `at` on.
 pub fn clear_words(dst: &mut [u32], at: usize, n: usize)
     requires { ⌜ at + n ≤ length (now dst) ⌝ }

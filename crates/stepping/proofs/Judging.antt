@@ -137,8 +137,8 @@ module _ {m : ℕ} {s b k rep : List ℕ} {c : Run} {o : Top} {t l r w v : List 
         vars = vars-fit;
       }
 
-  pub check-asks : o .kind ≡ 5 → (t' : List ℕ) → length t' ≡ length t → CheckAsk b c s (o .number) t' (o .left) l
-  check-asks e t' q =
+  pub check-asks : o .kind ≡ 5 → CheckAsk b c s (o .number) (o .at) (o .left) t l
+  check-asks e =
       let h = subst (EntrySound (c .counters .fresh)) (is-chk ls (o .number) _ _ (o .kind) e) (a .entry) in
       let n = read-few (a .plan) in
       let g = a .lent .lines in
@@ -149,8 +149,10 @@ module _ {m : ℕ} {s b k rep : List ℕ} {c : Run} {o : Top} {t l r w v : List 
         stands = part-stands aTerm ls (o .number) h;
         few = n;
         term = h;
-        within = let x = copy-asks (chk-short e) .0 in omega arith;
+        place = a .place;
+        within = copy-asks (chk-short e) .1;
         short = let x = a .few in omega arith;
+        type = let x = copy-asks (chk-short e) .0 in omega arith;
         room = omega arith;
       }
 
@@ -169,7 +171,7 @@ module _ {m : ℕ} {s b k rep : List ℕ} {c : Run} {o : Top} {t l r w v : List 
   unfolding judgedRoom
   other-room e f g h = rw (ne-eqb (o .kind) 3 e, ne-eqb (o .kind) 4 f, ne-eqb (o .kind) 5 g, ne-eqb (o .kind) 6 h) refl
 
-  -- the rule of an Inf or a Chk on a copy of the taken type is that of the entry
+  -- the rule of an Inf on a copy of the taken type is that of the entry
   module _ {t' : List ℕ} (e : t' ≡ sets t 0 (words (nodesAt b (o .at) (o .left)))) where
     same-type : o .left ≤ longest m s → nodesAt t' 0 (o .left) ≡ nodesAt b (o .at) (o .left)
     same-type h = copied t (nodesAt b (o .at) (o .left)) (o .left) (length-nodesAt b (o .at) (o .left)) (let x = copy-asks h .0 in omega arith) e
@@ -182,12 +184,11 @@ module _ {m : ℕ} {s b k rep : List ℕ} {c : Run} {o : Top} {t l r w v : List 
     unfolding judgedRoom
     inferred-room h q = rw h (ap₂ (λ (y : List ℕ) (z : Scratch). record { report = rep; type = y; scratch = z }) e (q ∙ ap (λ (X : Ty). inferScratch b c s (o .number) X (scratch l r w v)) (same-type (inf-short h))))
 
-    pub checked-room : o .kind ≡ 5 → {t″ l' : List ℕ} → t″ ≡ checkedType t' (c .counters .fresh) (view (nodesAt t' 0 (o .left))) → l' ≡ checkedOut l (lambdaOf (termAt ls (o .number))) (view (nodesAt t' 0 (o .left)))
-        → room rep t″ l' r w v ≡ judgedRoom m s b k c o (room rep t l r w v)
-    unfolding judgedRoom
-    checked-room h p q = rw h (ap₂ (λ (y z : List ℕ). room rep y z r w v)
-        (p ∙ ap₂ (λ (y : List ℕ) (X : Ty). checkedType y (c .counters .fresh) (view X)) e (same-type (chk-short h)))
-        (q ∙ ap (λ (X : Ty). checkedOut l (lambdaOf (termAt ls (o .number))) (view X)) (same-type (chk-short h))))
+  -- the rule of a Chk
+  pub checked-room : o .kind ≡ 5 → {t' l' : List ℕ} → (let T = nodesAt b (o .at) (o .left) in let f = lambdaOf (termAt ls (o .number)) in
+      t' ≡ checkedType t c T f (view T) → l' ≡ checkedOut l c T f (view T) → room rep t' l' r w v ≡ judgedRoom m s b k c o (room rep t l r w v))
+  unfolding judgedRoom
+  checked-room h p q = rw h (ap₂ (λ (y z : List ℕ). room rep y z r w v) p q)
 
-    pub checked : (E : Env) {x : Way} {b' k' rep' : List ℕ} {q : Run} → o .kind ≡ 5 → Does x ls b k rep c (checkBy E (termAt ls (o .number)) (nodesAt t' 0 (o .left)) (view (nodesAt t' 0 (o .left)))) b' k' rep' q → Does x ls b k rep c (rule E (topEntry ls b o)) b' k' rep' q
-    checked E h = does-as (λ _. ap (λ (X : Ty). checkBy E (termAt ls (o .number)) X (view X)) (same-type (chk-short h)) ∙ ap (rule E) (sym (is-chk ls (o .number) _ _ (o .kind) h)))
+  pub checked : (E : Env) {x : Way} {b' k' rep' : List ℕ} {q : Run} → o .kind ≡ 5 → Does x ls b k rep c (checkBy E (termAt ls (o .number)) (nodesAt b (o .at) (o .left)) (view (nodesAt b (o .at) (o .left)))) b' k' rep' q → Does x ls b k rep c (rule E (topEntry ls b o)) b' k' rep' q
+  checked E h = does-as (λ _. ap (rule E) (sym (is-chk ls (o .number) _ _ (o .kind) h)))

@@ -1,11 +1,11 @@
 -- One step in words is one step of the definition's run. Assumes nothing.
-use mathlib.Core.Path.{_≡_, ap, _∙_, subst}
+use mathlib.Core.Path.{_≡_, refl, ap, _∙_, subst}
 use mathlib.Core.List.{List, [], _∷_}
 use Prim.Native.Nat.{ℕ, _+_, _*_, _-_, _≤_, _<_}
 use native.Mathlib.Nat.{le-max-left}
 use native.Mathlib.Omega.{arith}
 use lib.ListN.{length}
-use Rattle.sizes.specs.Sizes.{mostNodes}
+use Rattle.sizes.specs.Sizes.{mostNodes, boardBase}
 use Rattle.nodes.specs.Lists.{All}
 use Rattle.spelling.specs.declared.Triple.{Triple}
 use Rattle.sheet.specs.Rows.{rows}
@@ -33,6 +33,10 @@ use Rattle.stepping.proofs.Reaching.{entry-sound, solutions-sound, stan
 top-few : {b : List ℕ} {d : Board} → Stacked b d → 0 < d .entries → topOf b d .left + topOf b d .right ≤ mostNodes
 unfolding topOf
 top-few h l = let x = top-size h l in let y = h .fewNodes in omega arith
+
+top-place : (b : List ℕ) (d : Board) → topOf b d .at ≡ boardBase + 2 * topOf b d .rest .nodes
+unfolding topOf
+top-place b d = refl
 
 module _ {m : ℕ} {s b k rep : List ℕ} {c : Run} {t l r w v : List ℕ} (a : StepAsk m s b k rep c t l r w v) (strict : Bool) (o : Top) (e : o ≡ topOf b (c .counters .board)) where
   abbrev ls : List Triple
@@ -62,6 +66,7 @@ module _ {m : ℕ} {s b k rep : List ℕ} {c : Run} {t l r w v : List ℕ} (a : 
       record {
         plan = a .standing .plan;
         formed = formed-next;
+        place = rw e (top-place b (c .counters .board));
         within = rw e (top-within st (a .more));
         few = rw e (top-few st (a .more));
         limit = a .limit;

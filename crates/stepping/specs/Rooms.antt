@@ -45,18 +45,17 @@ module _ (m : ℕ) (s b k : List ℕ) (c : Run) (o : Top) where
   appRoom x = withReport x (appReport (x .report) c (writeOut (sols k) leftType) (writeOut (sols k) rightType) m)
 
   -- the taken type is copied to the front
-  abbrev pub takenType : Room → List ℕ
-  takenType x = sets (x .type) 0 (words leftType)
-
   abbrev pub infRoom : Room → Room
-  infRoom x = record { report = x .report; type = takenType x; scratch = inferScratch b c s (o .number) leftType (x .scratch) }
+  infRoom x = record { report = x .report; type = sets (x .type) 0 (words leftType); scratch = inferScratch b c s (o .number) leftType (x .scratch) }
 
   abbrev pub chkRoom : Room → Room
-  chkRoom x = record {
-    report = x .report;
-    type = checkedType (takenType x) (c .counters .fresh) (view leftType);
-    scratch = withLeft (x .scratch) (checkedOut (x .scratch .left) (lambdaOf (termAt (rows s) (o .number))) (view leftType));
-  }
+  chkRoom x =
+      let f = lambdaOf (termAt (rows s) (o .number)) in
+      record {
+        report = x .report;
+        type = checkedType (x .type) c leftType f (view leftType);
+        scratch = withLeft (x .scratch) (checkedOut (x .scratch .left) c leftType f (view leftType));
+      }
 
   -- a TVar or a Var leaves it
   unfoldable pub judgedRoom : Room → Room

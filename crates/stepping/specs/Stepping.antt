@@ -29,6 +29,7 @@ use Rattle.operations.specs.declared.Run.{Run}
 use Rattle.operations.specs.State.{outcomeOf, WellFormed, going, performW, wayIn}
 use Rattle.stepping.specs.declared.Kept.{Kept}
 use Rattle.subtyping.specs.Subtyping.{Sound}
+use Rattle.inference.specs.Inference.{nextAt}
 use Rattle.applying.specs.Applying.{envOn}
 use Rattle.inferring.specs.Inferring.{TypeFits, CaseLent}
 use Rattle.stepping.specs.Rooms.{Room, judgedRoom}
@@ -75,6 +76,7 @@ EntrySound n (infApp f e t) = Sound n f × Sound n t
 pub record JudgeAsk (m : ℕ) (s b k rep : List ℕ) (c : Run) (o : Top) (t l r w v : List ℕ) : Type 0 where
   pub plan : Read s
   pub formed : WellFormed b k c
+  pub place : o .at ≡ nextAt c
   pub within : o .at + 2 * (o .left + o .right) ≤ boardSize
   pub few : o .left + o .right ≤ mostNodes
   pub limit : m ≤ mostNodes

@@ -62,8 +62,7 @@ fn solve_judgment(
         return solve_inference(board, c, s, line, t, n, l, r, w, v);
     }
     if kind == 5 {
-        copy_nodes(t, 0, board, at, n);
-        return solve_checking(board, book, c, s, line, t, n, l);
+        return solve_checking(board, book, c, s, line, at, n, t, l);
     }
     if kind == 6 {
         return solve_inf_app(board, book, report, c, line, at, n, o.right, limit);

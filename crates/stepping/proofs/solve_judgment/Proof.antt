@@ -7,7 +7,7 @@ use Rattle.judgment.specs.Rules.{rule}
 use Rattle.operations.specs.State.{wayIn}
 use Rattle.operations.proofs.Then.{does-as, done-does, way-scoped}
 use Rattle.applying.specs.Applying.{envOn}
-use Rattle.stepping.proofs.Judging.{is-sub, is-app, is-other, subtype-asks, app-asks, infer-asks, check-asks, inf-short, chk-short, copy-asks, sub-room, app-room, other-room, inferred, inferred-room, checked, checked-room}
+use Rattle.stepping.proofs.Judging.{is-sub, is-app, is-other, subtype-asks, app-asks, infer-asks, check-asks, inf-short, copy-asks, sub-room, app-room, other-room, inferred, inferred-room, checked, checked-room}
 use borrow.Author.Needs.{needs}
 use Rattle.stepping.proofs.solve_judgment.Statement.{statement}
 use Rattle.stepping.proofs.solve_judgment.Tie as tie
@@ -38,18 +38,13 @@ returns-2 c =
     let E = envOn (now (c .before .before .before .before .before .before .before .before .before .before .before .before .before .before .before .before .before .before .before .before .before .before .before .before .before .before .before .before .before .before .before .before .before .args .s)) in
     (inferred (c .before .before .before .before .before .before .before .before .before .before .before .before .before .before .before .before .before .before .before .before .before .before .before .before .before .before .before .before .before .before .before .before .before .pre) (c .before .before .before .before .before .before .before .before .before .before .before .before .before .before .before .before .before .before .before .copy-nodes .ensures) E (c .before .before .before .before .before .before .before .before .before .before .before .before .before .before .before .before .before .before .before .before .before .before .if2 .taken) (c .before .before .before .before .before .before .before .before .before .before .solve-inference .ensures .0 _ _ _ (c .before .before .before .before .before .before .before .before .before .before .before .before .before .before .before .before .before .before .before .before .before .before .before .before .before .before .before .before .before .before .before .before .before .pre .formed)), inferred-room (c .before .before .before .before .before .before .before .before .before .before .before .before .before .before .before .before .before .before .before .before .before .before .before .before .before .before .before .before .before .before .before .before .before .pre) (c .before .before .before .before .before .before .before .before .before .before .before .before .before .before .before .before .before .before .before .copy-nodes .ensures) (c .before .before .before .before .before .before .before .before .before .before .before .before .before .before .before .before .before .before .before .before .before .before .if2 .taken) (c .before .before .before .before .before .before .before .before .before .before .solve-inference .ensures .1))
 
-copy-nodes-requires-2 : tie.Need-copy-nodes-requires-2
-copy-nodes-requires-2 c κs =
-    let p = c .before .before .before .before .before .before .before .before .before .before .before .before .before .before .pre in
-    copy-asks p (chk-short p (c .before .before .if3 .taken))
-
 solve-checking-requires : tie.Need-solve-checking-requires
-solve-checking-requires c κs = (c .before .before .before .before .before .before .before .before .before .before .before .before .before .before .before .before .before .before .before .before .before .pre .formed, check-asks (c .before .before .before .before .before .before .before .before .before .before .before .before .before .before .before .before .before .before .before .before .before .pre) (c .before .before .before .before .before .before .before .before .before .if3 .taken) _ (c .before .before .before .before .before .before .copy-nodes2 .kept .0))
+solve-checking-requires c κs = (c .before .before .before .before .before .before .before .before .before .before .before .before .before .before .before .before .pre .formed, check-asks (c .before .before .before .before .before .before .before .before .before .before .before .before .before .before .before .before .pre) (c .before .before .before .before .if3 .taken))
 
 returns-3 : tie.Need-returns-3
 returns-3 c =
-    let E = envOn (now (c .before .before .before .before .before .before .before .before .before .before .before .before .before .before .before .before .before .before .before .before .before .before .before .before .before .before .before .before .before .before .args .s)) in
-    (checked (c .before .before .before .before .before .before .before .before .before .before .before .before .before .before .before .before .before .before .before .before .before .before .before .before .before .before .before .before .before .before .pre) (c .before .before .before .before .before .before .before .before .before .before .before .before .before .before .before .copy-nodes2 .ensures) E (c .before .before .before .before .before .before .before .before .before .before .before .before .before .before .before .before .before .before .if3 .taken) (c .before .before .before .before .before .before .before .before .solve-checking .ensures .0 _ E _), checked-room (c .before .before .before .before .before .before .before .before .before .before .before .before .before .before .before .before .before .before .before .before .before .before .before .before .before .before .before .before .before .before .pre) (c .before .before .before .before .before .before .before .before .before .before .before .before .before .before .before .copy-nodes2 .ensures) (c .before .before .before .before .before .before .before .before .before .before .before .before .before .before .before .before .before .before .if3 .taken) (c .before .before .before .before .before .before .before .before .solve-checking .ensures .1) (c .before .before .before .before .before .before .before .before .solve-checking .ensures .2))
+    let E = envOn (now (c .before .before .before .before .before .before .before .before .before .before .before .before .before .before .before .before .before .before .before .before .before .before .before .before .before .args .s)) in
+    (checked (c .before .before .before .before .before .before .before .before .before .before .before .before .before .before .before .before .before .before .before .before .before .before .before .before .before .pre) E (c .before .before .before .before .before .before .before .before .before .before .before .before .before .if3 .taken) (c .before .before .before .before .before .before .before .before .solve-checking .ensures .0 _ E _), checked-room (c .before .before .before .before .before .before .before .before .before .before .before .before .before .before .before .before .before .before .before .before .before .before .before .before .before .pre) (c .before .before .before .before .before .before .before .before .before .before .before .before .before .if3 .taken) (c .before .before .before .before .before .before .before .before .solve-checking .ensures .1) (c .before .before .before .before .before .before .before .before .solve-checking .ensures .2))
 
 solve-inf-app-requires : tie.Need-solve-inf-app-requires
 solve-inf-app-requires c κs = app-asks (c .before .before .before .before .before .before .before .before .before .before .before .before .before .before .before .before .pre) (c .before .before .before .if4 .taken)
@@ -76,4 +71,4 @@ returns-5 c =
 
 pub solve-judgment-spec : {M : Type 1} → statement M
 solve-judgment-spec =
-    tie.close (tie.spec solve-subtype-requires (λ c. search needs) (λ c. search needs) (λ c. search needs) returns copy-nodes-requires solve-inference-requires (λ c. search needs) (λ c. search needs) (λ c. search needs) (λ c. search needs) (λ c. search needs) (λ c. search needs) returns-2 copy-nodes-requires-2 solve-checking-requires (λ c. search needs) (λ c. search needs) (λ c. search needs) (λ c. search needs) returns-3 solve-inf-app-requires (λ c. search needs) (λ c. search needs) (λ c. search needs) returns-4 returns-5)
+    tie.close (tie.spec solve-subtype-requires (λ c. search needs) (λ c. search needs) (λ c. search needs) returns copy-nodes-requires solve-inference-requires (λ c. search needs) (λ c. search needs) (λ c. search needs) (λ c. search needs) (λ c. search needs) (λ c. search needs) returns-2 solve-checking-requires (λ c. search needs) (λ c. search needs) (λ c. search needs) (λ c. search needs) returns-3 solve-inf-app-requires (λ c. search needs) (λ c. search needs) (λ c. search needs) returns-4 returns-5)
