@@ -15,32 +15,32 @@ use Rattle.sheet.specs.Plan.{noTriple, partLine, nodesOf, Narrow}
 use Rattle.sheet.specs.Rows.{rows}
 use Rattle.judgment.specs.Types.{View, isArrow, isApp, isForall, isUnknown, isOther}
 use Rattle.judgment.specs.Terms.{Term, part, Lambda, lambdaOf}
-use Rattle.judgment.specs.Rules.{Env, synthesize, checkBy}
+use Rattle.judgment.specs.Rules.{Env, synthesize, checkBy, checkArrow}
 use Rattle.board.specs.Board.{termAt}
 use Rattle.board.proofs.Terms.{lineOf, bodyAt, term-head, part-at}
 use Rattle.operations.specs.declared.Run.{Run}
-use Rattle.checking.specs.Checking.{copiedType, checkedType, checkedOut, CheckAsk}
+use Rattle.checking.specs.Checking.{copiedType, checkedType, checkedOut, CheckAsk, arrowType, arrowOut}
 use Rattle.inference.specs.Inference.{lambdaOn}
 use Rattle.inference.proofs.Heads.{part-within, two-parts, first-lines, head-narrow}
 use Rattle.subtyping.specs.Subtyping.{shapeOf}
 
-pub check-other : (E : Env) (e : Term) (t : Ty) (v : View) → shapeOf v ≢ 1 → shapeOf v ≢ 3 → synthesize E e t ≡ checkBy E e t v
-check-other E e t (isArrow a b) f g = absurd (f refl)
+pub check-other : (E : Env) (e : Term) (t : Ty) (v : View) → (shapeOf v ≡ 1 → lambdaOf e ≡ none) → shapeOf v ≢ 3 → synthesize E e t ≡ checkBy E e t v
+check-other E e t (isArrow a b) f g = ap (checkArrow E e t a b) (sym (f refl))
 check-other E e t (isApp a b) f g = refl
 check-other E e t (isForall x b) f g = absurd (g refl)
 check-other E e t (isUnknown k) f g = refl
 check-other E e t isOther f g = refl
 
 -- every word of the rooms, where the view says no more than that the type is copied
-pub type-copied : (t : List ℕ) (c : Run) (T : Ty) (f : Option Lambda) (v : View) → shapeOf v ≢ 1 → shapeOf v ≢ 3 → copiedType t T ≡ checkedType t c T f v
-type-copied t c T f (isArrow a b) g h = absurd (g refl)
+pub type-copied : (t : List ℕ) (c : Run) (T : Ty) (f : Option Lambda) (v : View) → (shapeOf v ≡ 1 → f ≡ none) → shapeOf v ≢ 3 → copiedType t T ≡ checkedType t c T f v
+type-copied t c T f (isArrow a b) g h = ap (arrowType t c T) (sym (g refl))
 type-copied t c T f (isApp a b) g h = refl
 type-copied t c T f (isForall x b) g h = absurd (h refl)
 type-copied t c T f (isUnknown k) g h = refl
 type-copied t c T f isOther g h = refl
 
-pub out-stays : (out : List ℕ) (c : Run) (T : Ty) (f : Option Lambda) (v : View) → shapeOf v ≢ 1 → out ≡ checkedOut out c T f v
-out-stays out c T f (isArrow a b) h = absurd (h refl)
+pub out-stays : (out : List ℕ) (c : Run) (T : Ty) (f : Option Lambda) (v : View) → (shapeOf v ≡ 1 → f ≡ none) → out ≡ checkedOut out c T f v
+out-stays out c T f (isArrow a b) h = ap (arrowOut out c T) (sym (h refl))
 out-stays out c T f (isApp a b) h = refl
 out-stays out c T f (isForall x b) h = refl
 out-stays out c T f (isUnknown k) h = refl

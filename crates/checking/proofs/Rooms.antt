@@ -1,13 +1,15 @@
 -- Chk by the taken type on the board and in the room that it is copied to: the rule, and what the rooms hold after. Assumes nothing.
 use mathlib.Core.Path.{_≡_, sym, ap, ap₂, _∙_}
 use mathlib.Core.Logic.{_≢_}
-use mathlib.Core.Bool.{Bool, true, false, cond}
+use mathlib.Core.Bool.{Bool, true, false, cond, _&&_}
 use mathlib.Core.Option.{Option, none, some}
 use mathlib.Core.List.{List}
 use Prim.Native.Nat.{ℕ, _+_, _*_, _-_, _≤_, _<_}
 use native.Mathlib.Omega.{arith}
 use lib.ListN.{length, getD, take, drop}
 use lib.Seq.{sets, length-sets}
+use lib.Dec.{eqb}
+use borrow.Author.Tests.{eq-eqb, eqb-true, eqb-false}
 use Rattle.sizes.specs.Sizes.{mostLines, mostNodes}
 use Rattle.nodes.specs.Nodes.{node, Ty, words, nodesAt}
 use Rattle.nodes.proofs.Laws.{length-nodesAt, take-nodesAt, drop-nodesAt}
@@ -84,24 +86,25 @@ module _ {b : List ℕ} {c : Run} {s : List ℕ} {line at tn : ℕ} {t out : Lis
       ap (checkedOut out c T f) (sym forall-is),
     )
 
-  -- ---- neither an Arrow nor a Forall
-  module _ {t' : List ℕ} (q : t' ≡ copiedType t T) (g : shapeOf (view T) ≢ 1) (h : shapeOf (view T) ≢ 3) where
+  -- ---- no Forall, and a Lambda against no Arrow
+  module _ {t' : List ℕ} (q : t' ≡ copiedType t T) (g : shapeOf (view T) ≡ 1 → f ≡ none) (h : shapeOf (view T) ≢ 3) where
     pub plain-rule : (E : Env) → synthesize E (termAt L line) (nodesAt t' 0 tn) ≡ checkBy E (termAt L line) T (view T)
     plain-rule E = ap (synthesize E (termAt L line)) (copied-whole q) ∙ check-other E (termAt L line) T (view T) g h
 
     pub plain-rooms : (t' ≡ checkedType t c T f (view T)) × (out ≡ checkedOut out c T f (view T))
     plain-rooms = (q ∙ type-copied t c T f (view T) g h, out-stays out c T f (view T) g)
 
-  -- ---- an Arrow, and no Lambda
-  module _ {h : Triple} (e : h ≡ lineOf L line) (k : h .kind ≢ 23) where
-    none-is : f ≡ none
-    none-is = no-lambda s line (a .stands) (λ z. k (ap (λ (x : Triple). x .kind) e ∙ z))
+  -- what the code asks before a Lambda takes an Arrow's parts
+  module _ {b' : Bool} {k : ℕ} (p : b' ≡ (eqb k 1 && eqb (lineOf L line .kind) 23)) (e : k ≡ shapeOf (view T)) where
+    pub takes : b' ≡ true → (shapeOf (view T) ≡ 1) × (lineOf L line .kind ≡ 23)
+    takes h =
+        let y = both (eqb k 1) (eqb (lineOf L line .kind) 23) (sym p ∙ h) in
+        (sym e ∙ eqb-true k 1 (y .0), eqb-true (lineOf L line .kind) 23 (y .1))
 
-    pub other-rule : (E : Env) {t' : List ℕ} → t' ≡ copiedType t T → synthesize E (termAt L line) (nodesAt t' 0 tn) ≡ checkArrow E (termAt L line) T (first parts) (rest parts) f
-    other-rule E q = ap (synthesize E (termAt L line)) (copied-whole q) ∙ ap (checkArrow E (termAt L line) T (first parts) (rest parts)) (sym none-is)
-
-    pub other-rooms : {t' : List ℕ} → t' ≡ copiedType t T → (t' ≡ arrowType t c T f) × (out ≡ arrowOut out c T f)
-    other-rooms q = (q ∙ ap (arrowType t c T) (sym none-is), ap (arrowOut out c T) (sym none-is))
+    pub takes-none : b' ≡ false → shapeOf (view T) ≡ 1 → f ≡ none
+    takes-none h z =
+        let y : eqb (lineOf L line .kind) 23 ≡ false = sym (ap (λ (x : Bool). x && eqb (lineOf L line .kind) 23) (eq-eqb k 1 (e ∙ z))) ∙ sym p ∙ h in
+        no-lambda s line (a .stands) (eqb-false (lineOf L line .kind) 23 y)
 
   -- ---- an Arrow, and a Lambda as the code reads it
   module _ {i pl : ℕ} {h : Triple} (w : i ≡ line) (e : h ≡ lineOf L line) (q : pl ≡ partLine L (i + 1) 1) (k : h .kind ≡ 23) where
