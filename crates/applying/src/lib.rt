@@ -1,4 +1,6 @@
 // InfApp and Var (worklist.rs: `solve_inf_app`, and `solve_inference` of a Var).
+#![tactic(auto)]
+
 ghost use Rattle.std.specs.Prelude.{◌≡◌, List, ℕ, ◌+◌, ◌*◌, ◌≤◌, length, Bool};
 ghost use Rattle.std.proofs.Math.Option.{none, some};
 ghost use Rattle.nodes.specs.Nodes.{nodes_at, Ty};

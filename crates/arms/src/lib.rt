@@ -1,4 +1,6 @@
 // A Case (worklist.rs: `solve_inference` for a Case): its scrutinee, and of each arm the pattern, its variables, its body.
+#![tactic(auto)]
+
 ghost use Rattle.std.specs.Prelude.{◌≡◌, List, ℕ, ◌+◌, ◌*◌, ◌<◌};
 ghost use Rattle.nodes.specs.Nodes.{nodes_at};
 ghost use Rattle.sheet.specs.Rows.{rows, Ended};
@@ -42,7 +44,7 @@ fn push_vars(board: &mut [u32], c: Run, s: &[u64], v: &[usize], n: usize, l: &mu
 }
 
 // The run, and the line after the arm.
-#[derive(Drop)]
+#[derive(Clone, Copy)]
 pub struct Arm {
     pub run: Run,
     pub next: usize,

@@ -1,4 +1,6 @@
 // The board (worklist.rs, `Worklist`): entries and their types as words of a lent buffer, newest last.
+#![tactic(auto)]
+
 ghost use Rattle.std.specs.Prelude.{◌≡◌, List, ◌+◌, ◌*◌, ◌≤◌, ◌<◌, length};
 ghost use Rattle.std.proofs.lemmas.List.Edits.{sets};
 ghost use Rattle.sizes.specs.Sizes.{most_entries, board_size};
@@ -13,7 +15,7 @@ use nodes::{clear_words, copy_nodes, wide};
 use sizes::{BOARD_BASE, BOARD_SIZE, BOARD_STRIDE, MOST_ENTRIES, MOST_NODES};
 
 // How many entries stand on the board, and how many nodes their types have.
-#[derive(Drop)]
+#[derive(Clone, Copy)]
 pub struct Board {
     pub entries: usize,
     pub nodes: usize,
@@ -59,20 +61,20 @@ impl Board {
 }
 
 // Where the nodes of a type stand.
-#[derive(Drop)]
+#[derive(Clone, Copy)]
 pub struct Place {
     pub start: usize,
     pub count: usize,
 }
 
-#[derive(Drop)]
+#[derive(Clone, Copy)]
 pub enum Found {
     At(Place),
     Nothing,
 }
 
 // The newest entry: what it is, the word at which its types stand one after the other, their nodes, and the board without it.
-#[derive(Drop)]
+#[derive(Clone, Copy)]
 pub struct Top {
     pub kind: u32,
     pub number: u32,

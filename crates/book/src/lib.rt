@@ -1,4 +1,6 @@
 // The solution book (worklist.rs, `solved_evars`): the solutions of unknowns as words of a lent buffer, and what follows them: writing out (`zonk`) and comparing.
+#![tactic(auto)]
+
 ghost use Rattle.std.specs.Prelude.{◌≡◌, ◌≢◌, [], ◌+◌, ◌*◌, ◌≤◌, ◌<◌, length};
 ghost use Rattle.std.proofs.lemmas.List.Edits.{sets};
 ghost use Rattle.sizes.specs.Sizes.{most_numbers, book_size};
@@ -15,7 +17,7 @@ use nodes::{clear_words, copy_nodes, wide};
 use sizes::{BOOK_BASE, BOOK_SIZE, BOOK_STRIDE, MOST_NODES, MOST_NUMBERS};
 
 // How many nodes the solutions have.
-#[derive(Drop)]
+#[derive(Clone, Copy)]
 pub struct Book {
     pub nodes: usize,
 }
@@ -43,26 +45,26 @@ impl Book {
 }
 
 // Where the nodes of a solution stand.
-#[derive(Drop)]
+#[derive(Clone, Copy)]
 pub struct Place {
     pub start: usize,
     pub count: usize,
 }
 
-#[derive(Drop)]
+#[derive(Clone, Copy)]
 pub enum Found {
     At(Place),
     Nothing,
 }
 
-#[derive(Drop)]
+#[derive(Clone, Copy)]
 pub enum Wrote {
     Fits(usize),
     Over,
 }
 
 // What is still to be compared: the words at which the two sides go on, how many types from there, and how many nodes these may have when written out.
-#[derive(Drop)]
+#[derive(Clone, Copy)]
 pub struct Rest {
     pub left: usize,
     pub right: usize,
@@ -84,7 +86,7 @@ impl Rest {
 }
 
 // What a comparison has met: the same nodes up to what is still to be compared, a node that differs, or more nodes than the budget and none that differs.
-#[derive(Drop)]
+#[derive(Clone, Copy)]
 pub enum Met {
     Same(Rest),
     Differ,

@@ -1,4 +1,6 @@
 // The run (worklist.rs: `solve`, `check_type`), from a sheet to the seven numbers.
+#![tactic(auto)]
+
 ghost use Rattle.std.specs.Prelude.{◌≡◌, true, false, List, ℕ, ◌+◌, ◌-◌, ◌*◌, ◌/◌, ◌<◌, ◌≤◌, length};
 ghost use Rattle.sizes.specs.Sizes.{line_length, most_nodes, usual_limit, highest_limit};
 ghost use Rattle.grammar.specs.Check.{length_ok, check, check_number, check_line};

@@ -1,4 +1,6 @@
 // Chk (worklist.rs: `solve_checking`). The taken type is the tn nodes at word `at` of the board, past its entries; t is room for it, out for a type of the sheet.
+#![tactic(auto)]
+
 ghost use Rattle.std.specs.Prelude.{◌≡◌, ◌&&◌, List, ℕ, ◌+◌, ◌-◌, ◌≤◌, ◌<◌, eqb, get_or};
 ghost use Rattle.nodes.specs.Nodes.{nodes_at};
 ghost use Rattle.sizes.specs.Sizes.{most_lines, most_nodes};

@@ -1,4 +1,6 @@
 // Numbers as text, right-justified with spaces: a field, a line of a sheet, the seven numbers of an answer.
+#![tactic(auto)]
+
 ghost use Rattle.std.specs.Prelude.{◌≡◌, ◌+◌, ◌≤◌, length};
 ghost use Rattle.std.proofs.lemmas.List.Edits.{sets};
 ghost use Rattle.sizes.specs.Sizes.{line_length};

@@ -1,4 +1,6 @@
 // A data constructor's type, opened: a fresh unknown for each quantifier at its front (worklist.rs: `instantiate_constructor_type`), and the rule for a Constructor.
+#![tactic(auto)]
+
 ghost use Rattle.std.specs.Prelude.{◌≡◌, ℕ, ◌+◌, ◌*◌, ◌≤◌, ◌<◌, length, take, drop};
 ghost use Rattle.std.proofs.Math.Option.{some};
 ghost use Rattle.std.proofs.lemmas.List.Edits.{sets};
@@ -53,7 +55,7 @@ fn front_count(s: &[u64], first: usize, n: usize) -> usize
 }
 
 // The run, and how many quantifiers stand in front of the type that is left.
-#[derive(Drop)]
+#[derive(Clone, Copy)]
 pub struct Opened {
     pub run: Run,
     pub names: usize,
@@ -76,7 +78,7 @@ pub fn instantiate_constructor_type(
 }
 
 // A node's two words.
-#[derive(Drop)]
+#[derive(Clone, Copy)]
 pub struct NodeWords {
     pub kind: u32,
     pub number: u32,

@@ -1,4 +1,6 @@
 // A plan as people write it, made a sheet, or a sentence about the first line that is wrong.
+#![tactic(auto)]
+
 ghost use Rattle.std.specs.Prelude.{◌≡◌, ◌≤◌, length, take, leb};
 ghost use Rattle.sizes.specs.Sizes.{most_lines};
 ghost use Rattle.listing.specs.Listing.{state, Roomy, fed};
@@ -15,7 +17,7 @@ use spelling::Triple;
 use writing::{triple_at, write_sheet};
 
 // What is wrong with a line of the input.
-#[derive(Drop)]
+#[derive(Clone, Copy)]
 pub enum Wrong {
     // As the scan says.
     NotNumber,
@@ -32,7 +34,7 @@ pub enum Wrong {
     Lacking,
 }
 
-#[derive(Drop)]
+#[derive(Clone, Copy)]
 pub enum Outcome {
     // The bytes of the sheet.
     Sheet(usize),
@@ -43,14 +45,14 @@ pub enum Outcome {
 }
 
 // The scan after a block, and whether more is to be read.
-#[derive(Drop)]
+#[derive(Clone, Copy)]
 enum Block {
     More(Scan),
     Last(Scan),
     Failed,
 }
 
-#[derive(Drop)]
+#[derive(Clone, Copy)]
 enum Listed {
     Whole(Scan),
     Unread,

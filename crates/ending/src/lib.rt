@@ -1,4 +1,6 @@
 // The end of a run: whether more is taken, and what is read off a run where no more is.
+#![tactic(auto)]
+
 ghost use Rattle.std.specs.Prelude.{◌≡◌, cond, List, ℕ};
 ghost use Rattle.judgment.specs.Result.{end_number, end_details};
 ghost use Rattle.operations.specs.State.{reported};

@@ -1,4 +1,6 @@
 // The C interface. A `&[u8]` is a pointer and a length, a `&mut u32` a pointer.
+#![tactic(auto)]
+
 ghost use Rattle.std.specs.Prelude.{◌≡◌, ℕ, ◌*◌, length};
 ghost use Rattle.sizes.specs.Sizes.{usual_limit, board_size, book_size, report_stride};
 ghost use Rattle.grammar.specs.Check.{check, check_number, check_line};

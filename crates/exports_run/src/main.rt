@@ -1,5 +1,7 @@
 // Calls each function of the C interface from one that knows nothing of its arguments, so that a function there which asked something
 // of them could not be called; each says what the one that it calls says. Then shows what they give of sizes and of the first plan.
+#![tactic(auto)]
+
 ghost use Rattle.std.specs.Prelude.{◌≡◌, ℕ, ◌*◌, length};
 ghost use Rattle.sizes.specs.Sizes.{usual_limit, board_size, book_size, report_stride};
 ghost use Rattle.grammar.specs.Check.{check, check_number, check_line};

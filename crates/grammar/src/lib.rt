@@ -1,4 +1,6 @@
 // The grammar of a plan: readers of types, terms, arms and patterns.
+#![tactic(auto)]
+
 ghost use Rattle.std.specs.Prelude.{◌≡◌, [], ◌∷◌, ◌+◌, ◌*◌, ◌-◌, ◌/◌, ◌≤◌, ◌<◌, length, replicate};
 ghost use Rattle.sizes.specs.Sizes.{line_length};
 ghost use Rattle.spelling.specs.declared.Line.TheVariants.{Spelt};
@@ -12,7 +14,7 @@ use sizes::LINE_LENGTH;
 use spelling::{Line, Triple, line_at};
 
 // Where reading goes on, counted from 0; or the line, counted from 1, that can't continue a plan.
-#[derive(Drop)]
+#[derive(Clone, Copy)]
 pub enum Got {
     Next(usize),
     Refused(usize),
@@ -186,7 +188,7 @@ fn read_part(s: &[u8], at: usize, t: Triple, sort: u64) -> Got
 }
 
 // What a line says where an entry of kind 1 or 2, or the expected type, is due.
-#[derive(Drop)]
+#[derive(Clone, Copy)]
 pub enum Declared {
     Named { kind: u64, name: u64 },
     Expected,
@@ -287,7 +289,7 @@ pub fn sub_term(s: &[u8], at: usize) -> &[u8]
 }
 
 // What a byte string is: a plan, or refused. `check_number` and `check_line` give document 01's number and line.
-#[derive(Drop)]
+#[derive(Clone, Copy)]
 pub enum Check {
     Plan,
     // 3: length 0, over 58,000 or no multiple of 29.

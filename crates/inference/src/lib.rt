@@ -1,5 +1,7 @@
 // Inf, Chk and InfApp: each function is one rule (worklist.rs: `solve_inference`, `solve_checking`, `solve_inf_app`). The taken entry's type is the tn nodes at the
 // front of t; a term is its first line on the sheet.
+#![tactic(auto)]
+
 ghost use Rattle.std.specs.Prelude.{◌≡◌, List, ◌⊎◌, cond, ℕ, ◌+◌, ◌*◌, ◌≤◌, leb, length};
 ghost use Rattle.std.proofs.Math.Option.{some};
 ghost use Rattle.std.proofs.lemmas.List.Edits.{sets};

@@ -1,5 +1,7 @@
 // Inf (worklist.rs: `solve_inference`): a term by the kind of its first line, which is line `at`. A function a term reads its parts off the sheet and performs its rule.
 // The taken type is the tn nodes at the front of t; l, r, w and v are scratch, the last three for a Case alone: a sheet that has none may lend them empty.
+#![tactic(auto)]
+
 ghost use Rattle.std.specs.Prelude.{◌≡◌, List, ℕ, ◌+◌, ◌≤◌, ◌<◌, length, get_or};
 ghost use Rattle.sizes.specs.Sizes.{most_lines};
 ghost use Rattle.nodes.specs.Nodes.{nodes_at};

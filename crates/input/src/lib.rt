@@ -1,11 +1,13 @@
 // Input into a buffer, a read that failed told apart from the end of the input.
+#![tactic(auto)]
+
 ghost use Rattle.std.specs.Prelude.{◌≤◌, length};
 ghost use Rattle.input.specs.Filled.{Filled};
 
 use libc::STDIN_FILENO;
 
 // Where the bytes in a buffer end, or that a read failed.
-#[derive(Drop)]
+#[derive(Clone, Copy)]
 pub enum Got {
     To(usize),
     Failed,

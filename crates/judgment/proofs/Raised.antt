@@ -111,6 +111,8 @@ module _ (L : Levels → Limits) (u : Limit) (higher : (v : Levels) (k : ℕ) �
 
 -- ---- a plan
 long-number : (e : End) → LongEnd e → end_number e ≡ 23
+long-number accepted h = elim h [ ]
+long-number ceiling h = elim h [ ]
 long-number (refused_by r ts) h = ap error_number h
 
 long-result : (plain : Bool) (v : Levels) (R : Run) → LongEnd (end R) → (result_of plain v R).answer.number ≡ 23

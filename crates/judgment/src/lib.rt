@@ -1,9 +1,11 @@
 // The result (errors.rs): why a run is refused, as document 01's number and details. The judgment rules are definitions, in specs/.
+#![tactic(auto)]
+
 ghost use Rattle.std.specs.Prelude.{◌≡◌};
 ghost use Rattle.judgment.specs.Result.{error_number, error_details};
 
 // The errors that worklist.rs raises, the limits, and the strict call's scope. A type is here by its number of nodes; its nodes go into the report.
-#[derive(Drop)]
+#[derive(Clone, Copy)]
 pub enum TypeError {
     UnboundVariable(u32),
     UnboundDataConstructor(u32),
@@ -23,7 +25,7 @@ pub enum TypeError {
 }
 
 // The seven numbers.
-#[derive(Drop)]
+#[derive(Clone, Copy)]
 pub struct Answer {
     pub number: u32,
     pub line: u32,
@@ -34,7 +36,7 @@ pub struct Answer {
     pub plain: u32,
 }
 
-#[derive(Drop)]
+#[derive(Clone, Copy)]
 pub struct Details(pub u32, pub u32);
 
 pub fn error_number(e: TypeError) -> u32

@@ -1,4 +1,6 @@
 // The table by kind: which sort of part a line begins, what its fields hold, and which parts follow it (core.rs).
+#![tactic(auto)]
+
 ghost use Rattle.std.specs.Prelude.{◌≡◌, ℕ, ◌<◌, ◌≤◌};
 ghost use Rattle.kinds.specs.Kinds.{row_in, row_of, most_count, value_ok, count_ok, fields_ok, is_leaf, begins as begins_with, head_of, Tabled};
 
@@ -35,7 +37,7 @@ const OPERATOR: u64 = 3;
 const USED: u64 = 1;
 
 // What the table says of a kind.
-#[derive(Drop)]
+#[derive(Clone, Copy)]
 pub struct Row {
     // The sort of part that a line of this kind begins.
     pub sort: u64,
@@ -189,7 +191,7 @@ pub fn fields_ok(word: u32, t: Triple) -> bool
 }
 
 // What must follow a line: types, then terms, then count times each.
-#[derive(Drop)]
+#[derive(Clone, Copy)]
 pub enum Head {
     Parts {
         types: u64,

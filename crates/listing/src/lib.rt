@@ -1,6 +1,8 @@
 // A plan as people write it: a triple a line, its kind, value and count with blanks between. Lines of blanks only, and
 // lines whose first byte that is no blank is #, are passed over. It is read byte by byte, since a comment may be of any
 // length.
+#![tactic(auto)]
+
 ghost use Rattle.std.specs.Prelude.{◌≡◌, ℕ, ◌<◌, List};
 ghost use Rattle.sizes.specs.Sizes.{triple_words};
 ghost use Rattle.listing.specs.Listing.{state, started, Roomy, fine, failed, counted, on_next_line, blank, empty, commented, field_byte, word_of, signed, number_end, field_end, field_ended, line_closed, line_ended, comment_byte, stepped, fed, ended};
@@ -10,7 +12,7 @@ use spelling::{Field, byte_step};
 use std::num::{wrapping_add_u64, wrapping_sub_u64};
 
 // What is wrong with a line.
-#[derive(Drop)]
+#[derive(Clone, Copy)]
 pub enum Fault {
     Fine,
     // A field that is no number in signed 64 bits.
@@ -23,7 +25,7 @@ pub enum Fault {
 }
 
 // How far a plan is read.
-#[derive(Drop)]
+#[derive(Clone, Copy)]
 pub struct Scan {
     // The line, counted from 1.
     pub line: u64,
@@ -38,7 +40,7 @@ pub struct Scan {
 }
 
 // What the end of a field gives.
-#[derive(Drop)]
+#[derive(Clone, Copy)]
 enum End {
     Nothing,
     Word(u64),

@@ -1,4 +1,6 @@
 // Types as nodes of two words: a kind, and a name, number or count (core.rs, `CoreType`).
+#![tactic(auto)]
+
 ghost use Rattle.std.specs.Prelude.{◌≡◌, ◌+◌, ◌*◌, ◌≤◌, length};
 ghost use Rattle.std.proofs.lemmas.List.Edits.{sets};
 ghost use Rattle.nodes.specs.Nodes.{words, nodes_at, zeros};

@@ -1,5 +1,7 @@
 // The operations that the rules are made of (worklist.rs: `fresh_evar`, `push`, `solve_evar`, `zonk`, an error returned). A run that was refused stays as it is, so a
 // rule is straight-line code in the Rust's order.
+#![tactic(auto)]
+
 ghost use Rattle.std.specs.Prelude.{◌≡◌, [], ◌+◌, ◌*◌, ◌≤◌, ◌<◌, length};
 ghost use Rattle.nodes.specs.Nodes.{node, nodes_at};
 ghost use Rattle.judgment.specs.Solutions.{write_out};
@@ -14,7 +16,7 @@ use book::{Book, Wrote, level, lower, set_level, write_out};
 use judgment::{TypeError, error_details, error_number};
 
 // Why a run was refused: the number of the error and its two details. The number 0 is none.
-#[derive(Drop)]
+#[derive(Clone, Copy)]
 pub struct Halt {
     pub number: u32,
     pub first: u32,
@@ -34,7 +36,7 @@ impl Halt {
 }
 
 // The counters of a run: entries taken, fresh numbers, the board's entries and their nodes. A step is lent them.
-#[derive(Drop)]
+#[derive(Clone, Copy)]
 pub struct Counters {
     pub taken: u32,
     pub fresh: u32,
@@ -42,7 +44,7 @@ pub struct Counters {
 }
 
 // What the rules hand on: the counters, the nodes of the book, and the refusal.
-#[derive(Drop)]
+#[derive(Clone, Copy)]
 pub struct Run {
     pub counters: Counters,
     pub book: Book,
@@ -50,7 +52,7 @@ pub struct Run {
 }
 
 // A type written out: the run after it, and its nodes.
-#[derive(Drop)]
+#[derive(Clone, Copy)]
 pub struct Zonked {
     pub run: Run,
     pub nodes: usize,

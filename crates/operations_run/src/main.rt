@@ -1,4 +1,6 @@
 // The operations of the rules on real buffers, and the longest chain that a book holds, followed: what stands in them afterwards is written out, word by word.
+#![tactic(auto)]
+
 ghost use Rattle.std.specs.Prelude.{◌≡◌, Bool, List, [], ◌∷◌, ℕ, ◌*◌, ◌≤◌, ◌<◌, length};
 ghost use Rattle.spelling.specs.declared.Triple.{Triple};
 ghost use Rattle.sizes.specs.Sizes.{most_nodes, most_numbers, usual_limit, board_size, book_size, usual_report};

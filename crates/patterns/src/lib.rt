@@ -1,4 +1,6 @@
 // Patterns, line by line (worklist.rs: `check_pattern`). Types are references; nodes are made only for a Sub.
+#![tactic(auto)]
+
 ghost use Rattle.std.specs.Prelude.{◌≡◌, List, ℕ, ◌+◌, ◌*◌, ◌≤◌, ◌<◌, length, get_or};
 ghost use Rattle.sizes.specs.Sizes.{most_nodes};
 ghost use Rattle.spelling.specs.declared.Triple.{Triple};
@@ -30,7 +32,7 @@ fn check_arity(c: Run, arity: usize, count: usize) -> Run
 }
 
 // The run, how many nodes the constructor's opened type has, and how many parameters.
-#[derive(Drop)]
+#[derive(Clone, Copy)]
 pub struct Parts {
     pub run: Run,
     pub nodes: usize,
@@ -79,7 +81,7 @@ fn add_frame(w: &mut [usize], n: usize, r: TypeRef, arity: usize) -> usize
     n
 }
 
-#[derive(Drop)]
+#[derive(Clone, Copy)]
 pub struct Named {
     pub run: Run,
     pub depth: usize,
@@ -126,7 +128,7 @@ fn constructor_line(
 }
 
 // The run, how many frames are left, and how many names are bound.
-#[derive(Drop)]
+#[derive(Clone, Copy)]
 pub struct Lined {
     pub run: Run,
     pub depth: usize,
@@ -180,7 +182,7 @@ fn pattern_line(
 }
 
 // The run, and how many rows of the table are bindings.
-#[derive(Drop)]
+#[derive(Clone, Copy)]
 pub struct Checked {
     pub run: Run,
     pub bound: usize,

@@ -1,4 +1,6 @@
 // Reads a sheet on standard input, and writes out what is told of it: its seven numbers.
+#![tactic(auto)]
+
 use columns::ANSWER_BYTES;
 use input::Got;
 use io::write_all;

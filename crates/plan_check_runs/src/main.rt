@@ -1,4 +1,6 @@
 // What `plan_check` tells of each file that an argument names, a line for each: the name, and the seven numbers.
+#![tactic(auto)]
+
 ghost use Rattle.std.specs.Prelude.{◌≡◌, length};
 ghost use Rattle.telling.specs.Told.{ToldOf};
 

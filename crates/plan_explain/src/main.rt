@@ -1,4 +1,6 @@
 // Reads a sheet on standard input, checks its plan with the ceiling 10,000 and the limit 1,024, and says in words what came out.
+#![tactic(auto)]
+
 ghost use Rattle.std.specs.Prelude.{◌≡◌, ◌≤◌, length};
 ghost use Rattle.sizes.specs.Sizes.{usual_report};
 ghost use Rattle.plan_explain.specs.Told.{Told, ToldOf};

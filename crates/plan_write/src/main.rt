@@ -1,5 +1,7 @@
 // Reads a plan as people write it on standard input, and writes its sheet to standard output, or to standard error what
 // is wrong with it.
+#![tactic(auto)]
+
 use drafting::draft_out;
 use libc::{STDERR_FILENO, STDIN_FILENO, STDOUT_FILENO};
 use sizes::{MOST_LINES, PLAN_WORDS, SHEET_BYTES};

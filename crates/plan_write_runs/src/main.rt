@@ -1,5 +1,7 @@
 // What `plan_write` writes for each file that an argument names, below the name: the sheet or the sentence, both on
 // standard output.
+#![tactic(auto)]
+
 use drafting::draft_out;
 use io::write_all;
 use libc::STDOUT_FILENO;

@@ -1,5 +1,7 @@
 // The sheet reader of document 01: a record of the borrowed sheet and its next line, thin, over plain functions; and refusals 3, 4 and 5.
 // Whoever has a sheet and a line number calls `next_of_sheet` or `term_of_sheet`, whose contracts say nothing of the record.
+#![tactic(auto)]
+
 ghost use Rattle.std.specs.Prelude.{◌≡◌, ◌+◌, ◌<◌, ◌^◌};
 ghost use Rattle.spelling.specs.Spelling.{line_at, lines_of, first_misspelt};
 ghost use Rattle.grammar.specs.Grammar.{sub_term};
@@ -9,7 +11,7 @@ use grammar::{Check, Got, read_sheet, sub_term};
 use sizes::{LINE_LENGTH, SHEET_BYTES};
 use spelling::{Line, line_at};
 
-#[derive(Drop)]
+#[derive(Clone, Copy)]
 pub struct Reader<'a> {
     pub sheet: &'a [u8],
     // The next line, counted from 0.
@@ -39,7 +41,7 @@ pub fn line<'a>(r: Reader<'a>) -> Line
 }
 
 // What its next line says, and the reader at the line after.
-#[derive(Drop)]
+#[derive(Clone, Copy)]
 pub struct Step<'a> {
     pub line: Line,
     pub reader: Reader<'a>,
@@ -63,7 +65,7 @@ pub fn term<'a>(r: Reader<'a>) -> &'a [u8]
 }
 
 // What a line of a sheet says, and the line that the reader is at then.
-#[derive(Drop)]
+#[derive(Clone, Copy)]
 pub struct Lined {
     pub line: Line,
     pub next: usize,

@@ -1,4 +1,6 @@
 // Types by reference: a part of a constructor's type on the sheet, its quantifiers opened from a fresh number on.
+#![tactic(auto)]
+
 ghost use Rattle.std.specs.Prelude.{◌≡◌, ◌+◌, ◌*◌, ◌-◌, ◌≤◌, ◌<◌, length, take, drop};
 ghost use Rattle.nodes.specs.Nodes.{nodes_at};
 ghost use Rattle.nodes.specs.Parts.{Whole};
@@ -14,7 +16,7 @@ use sheet::{part_line, triple_at};
 use spelling::Triple;
 
 // `count` nodes from node `at` on of the type of so many lines from line `first` on, the unknowns from `base` on put for its quantifiers. Of no lines: the unknown `base`.
-#[derive(Drop)]
+#[derive(Clone, Copy)]
 pub struct TypeRef {
     pub first: usize,
     pub lines: usize,
@@ -33,7 +35,7 @@ fn is_arrow(t: Triple) -> bool
 }
 
 // How many Arrows stand at the front of a type, and at which of its nodes the result starts.
-#[derive(Drop)]
+#[derive(Clone, Copy)]
 pub struct Ending {
     pub arity: usize,
     pub start: usize,
@@ -73,7 +75,7 @@ pub fn instance(out: &mut [u32], s: &[u64], r: TypeRef)
 }
 
 // How many nodes the first parameter has, and whether others follow it.
-#[derive(Drop)]
+#[derive(Clone, Copy)]
 pub struct Split {
     pub count: usize,
     pub more: bool,

@@ -1,5 +1,7 @@
 // Replays recorded calls from standard input against the checker, and counts the answers that differ.
 // A record is a line of decimal numbers, a space between two: specs/Recorded.antt has its format.
+#![tactic(auto)]
+
 ghost use Rattle.std.specs.Prelude.{◌≡◌, ℕ, ◌+◌, ◌-◌, ◌*◌, ◌<◌, ◌≤◌, true, false, List, length, take, drop};
 ghost use Rattle.std.proofs.lemmas.List.Edits.{sets};
 ghost use Rattle.sizes.specs.Sizes.{line_length, most_nodes, usual_report};
@@ -46,26 +48,26 @@ const SHEET_ROOM: usize = LINE_LENGTH * (MOST_LINES + 2);
 const LIMIT_ROOM: usize = 1025;
 
 // A number's sign and magnitude, and where the next one starts.
-#[derive(Drop)]
+#[derive(Clone, Copy)]
 enum Token {
     Number(bool, u64, usize),
     Bad,
 }
 
-#[derive(Drop)]
+#[derive(Clone, Copy)]
 enum Word {
     Here(u32, usize),
     Bad,
 }
 
 // A number within a bound.
-#[derive(Drop)]
+#[derive(Clone, Copy)]
 enum Size {
     Here(usize, usize),
     Bad,
 }
 
-#[derive(Drop)]
+#[derive(Clone, Copy)]
 enum Next {
     At(usize),
     Bad,
@@ -422,7 +424,7 @@ fn read_answer(line: &[u8], at: usize, want: &mut [u32], limit: u32) -> Next
 }
 
 // Whether the call is the strict one, whether the record is raw, and where the next number starts.
-#[derive(Drop)]
+#[derive(Clone, Copy)]
 enum Call {
     Here(bool, bool, usize),
     Bad,
@@ -445,7 +447,7 @@ fn call_at(line: &[u8], at: usize) -> Call
 }
 
 // The limit on written-out types, and how many words of each buffer are lent.
-#[derive(Drop)]
+#[derive(Clone, Copy)]
 struct Loan {
     limit: u32,
     board: usize,
@@ -453,7 +455,7 @@ struct Loan {
     report: usize,
 }
 
-#[derive(Drop)]
+#[derive(Clone, Copy)]
 enum Lent {
     Here(Loan, usize),
     Bad,
@@ -500,7 +502,7 @@ fn loan_at(line: &[u8], at: usize, raw: bool) -> Lent
 }
 
 // What a call is told but for its sheet, and how many bytes that has.
-#[derive(Drop)]
+#[derive(Clone, Copy)]
 struct Plan {
     strict: bool,
     ceiling: u32,
@@ -508,7 +510,7 @@ struct Plan {
     bytes: usize,
 }
 
-#[derive(Drop)]
+#[derive(Clone, Copy)]
 enum Read {
     Here(Plan),
     Bad,
@@ -601,7 +603,7 @@ fn is_wanted(seven: &[u32], board: &[u32], book: &[u32], report: &[u32], want: &
     }
 }
 
-#[derive(Drop)]
+#[derive(Clone, Copy)]
 enum Verdict {
     Same,
     Differs,
@@ -701,7 +703,7 @@ fn replay_record(
     }
 }
 
-#[derive(Drop)]
+#[derive(Clone, Copy)]
 struct Counts {
     plans: u64,
     same: u64,
@@ -805,14 +807,14 @@ fn move_to_front(text: &mut [u8], from: usize, n: usize)
 }
 
 // The bytes that are unread, and whether the input goes on after them.
-#[derive(Drop)]
+#[derive(Clone, Copy)]
 struct Unread {
     at: usize,
     end: usize,
     more: bool,
 }
 
-#[derive(Drop)]
+#[derive(Clone, Copy)]
 enum Step {
     // Where a line starts and ends, and what is unread after it.
     Line(usize, usize, Unread),

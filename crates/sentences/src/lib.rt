@@ -1,4 +1,6 @@
 // A sentence or two for an answer: what it means, in words.
+#![tactic(auto)]
+
 ghost use Rattle.std.specs.Prelude.{cond, ◌++◌, ◌≤◌, eqb, length};
 ghost use Rattle.wording.specs.Texts.{bytes, number_text, name_text, Wrote};
 ghost use Rattle.sentences.specs.Explained.{counts, accepted, ceiling_too_high, buffer_too_short, bad_length, misspelt, unfit, unbound_variable, unbound_constructor, not_function, arity, subtyping, unification, instantiation, intrinsic_arity, unknown_intrinsic, ceiling_reached, board_full, type_too_long, no_fresh_number, solutions_full, out_of_scope, limit_out_of_range, other_number, of_call, of_limit, of_plan, explained};

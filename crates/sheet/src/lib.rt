@@ -1,6 +1,8 @@
 // The plan on a sheet: its lines, where a part starts, its entries, where its expected type and its term start, the plain mark.
 // A sheet is read once into rows, and the rules read those. A function that looks for a part's end asks for rows that have their ends, as `read_plan` gives them; the others take any words. What
 // they mean as a plan is for a sheet that is one.
+#![tactic(auto)]
+
 ghost use Rattle.std.specs.Prelude.{◌≡◌, true, not, cond, ◌&&◌, ◌||◌, List, [], ◌∷◌, ℕ, ◌+◌, ◌*◌, ◌-◌, ◌/◌, ◌%◌, ◌≤◌, ◌<◌, length, get_or, set, take, drop, replicate};
 ghost use Rattle.std.proofs.lemmas.List.Edits.{sets};
 ghost use Rattle.sizes.specs.Sizes.{line_length, most_lines};
@@ -171,7 +173,7 @@ fn sort_at(d: &[u64], words: &[u32; 44], i: usize) -> u64
 }
 
 // Where the parts that follow a line end, and whether the line fits in front of them.
-#[derive(Drop)]
+#[derive(Clone, Copy)]
 pub struct Walked {
     pub line: usize,
     pub fits: bool,
@@ -376,7 +378,7 @@ pub fn read_plan(d: &mut [u64], s: &[u8]) -> bool
 }
 
 // Where the type of an entry stands: its first line, and how many lines it has.
-#[derive(Drop)]
+#[derive(Clone, Copy)]
 pub enum Found {
     At { line: usize, count: usize },
     Nothing,
@@ -635,7 +637,7 @@ fn entries_end(s: &[u64]) -> usize
 }
 
 // The lines at which the expected type and the term start.
-#[derive(Drop)]
+#[derive(Clone, Copy)]
 pub struct Places {
     pub expected: usize,
     pub term: usize,

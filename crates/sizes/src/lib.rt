@@ -1,5 +1,7 @@
 // The limits and the sizes of sheet and buffers; specs/Sizes.antt has definitions of the same names.
 
+#![tactic(auto)]
+
 // Lines of a sheet, and the bytes of one and of all.
 pub const MOST_LINES: usize = 2000;
 

@@ -1,4 +1,6 @@
 // How a sheet's lines are spelt: fields of decimal numbers, lines of 29 bytes.
+#![tactic(auto)]
+
 ghost use Rattle.std.specs.Prelude.{◌≡◌, false, ◌&&◌, ◌+◌, ◌*◌, ◌-◌, ◌/◌, ◌≤◌, ◌<◌, eqb, length};
 ghost use Rattle.spelling.specs.Spelling.{digit_step, other_step, step, field_from, blank, spaces_from, unsigned, magnitude, minus, sign_ok, line_of, line_at};
 ghost use Rattle.spelling.specs.Few.{plain, roomy, short_field, few_at};
@@ -6,7 +8,7 @@ ghost use Rattle.spelling.specs.Few.{plain, roomy, short_field, few_at};
 use sizes::LINE_LENGTH;
 
 // What the bytes of a field read so far spell.
-#[derive(Drop)]
+#[derive(Clone, Copy)]
 pub enum Field {
     // Spaces only.
     Blank,
@@ -19,7 +21,7 @@ pub enum Field {
 }
 
 // What a line says: its kind, its value as a sign and a magnitude, and its count.
-#[derive(Drop)]
+#[derive(Clone, Copy)]
 pub struct Triple {
     pub kind: u64,
     pub negative: bool,
@@ -27,7 +29,7 @@ pub struct Triple {
     pub count: u64,
 }
 
-#[derive(Drop)]
+#[derive(Clone, Copy)]
 pub enum Line {
     Spelt(Triple),
     Misspelt,

@@ -1,4 +1,6 @@
 // One step of a run (worklist.rs: `solve_judgment`, and what `solve` does with an entry that it takes), its counters lent.
+#![tactic(auto)]
+
 ghost use Rattle.std.specs.Prelude.{◌≡◌};
 ghost use Rattle.sheet.specs.Rows.{rows};
 ghost use Rattle.judgment.specs.Rules.{rule};
@@ -17,7 +19,7 @@ use operations::{Counters, Halt, Run};
 use subtyping::solve_subtype;
 
 // What a run has beside its counters, the nodes that it writes out at most, and whether the strict call began it.
-#[derive(Drop)]
+#[derive(Clone, Copy)]
 struct Kept {
     book: Book,
     halt: Halt,
@@ -25,7 +27,7 @@ struct Kept {
     strict: bool,
 }
 
-#[derive(Drop)]
+#[derive(Clone, Copy)]
 struct Stepped {
     counters: Counters,
     kept: Kept,

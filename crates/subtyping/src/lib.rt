@@ -1,4 +1,6 @@
 // Sub and the instantiations (worklist.rs: `solve_subtype`, `instantiate_left`, `instantiate_right`). The two sides are compared while solutions are followed; sides that differ are written out to the report, left and then right.
+#![tactic(auto)]
+
 ghost use Rattle.std.specs.Prelude.{◌≡◌, ◌≢◌, true, List, ℕ, ◌+◌, ◌*◌, ◌-◌, ◌≤◌, ◌<◌, length, get_or};
 ghost use Rattle.nodes.specs.Nodes.{node, nodes_at};
 ghost use Rattle.spelling.specs.declared.Triple.{Triple};

@@ -1,4 +1,6 @@
 // Tables of references to types: the stack of frames, and the bindings of a pattern.
+#![tactic(auto)]
+
 ghost use Rattle.std.specs.Prelude.{◌≡◌, List, ◌++◌, ◌+◌, ◌*◌, ◌-◌, ◌≤◌, ◌<◌, length};
 ghost use Rattle.std.proofs.lemmas.List.Edits.{sets};
 ghost use Rattle.nodes.specs.Nodes.{Ty};
@@ -95,7 +97,7 @@ pub fn insert(w: &mut [usize], n: usize, name: usize, r: TypeRef) -> usize
 }
 
 // The type that the next pattern must have, and how many frames are left.
-#[derive(Drop)]
+#[derive(Clone, Copy)]
 pub struct Upcoming {
     pub want: TypeRef,
     pub depth: usize,

@@ -1,4 +1,6 @@
 // What is told of a sheet: the seven numbers of its plan, checked with the ceiling 10,000 and the limit 1,024, as 43 bytes of text.
+#![tactic(auto)]
+
 ghost use Rattle.std.specs.Prelude.{◌≡◌, length};
 ghost use Rattle.telling.specs.Told.{Told, ToldOf};
 

@@ -1,4 +1,6 @@
 // Names, numbers and types as text, written into a buffer one after another.
+#![tactic(auto)]
+
 ghost use Rattle.std.specs.Prelude.{◌≡◌, cond, [], ◌∷◌, ◌+◌, ◌*◌, ◌≤◌, ◌<◌, length};
 ghost use Rattle.wording.specs.Texts.{bytes, digits, least, number_text, name_text, Wrote};
 ghost use Rattle.wording.specs.Spelt.{separator, weak, in_parentheses, quantifier, leaf, product, parts, bare, type, type_text, reported, Reached};
@@ -8,7 +10,7 @@ use nodes::wide;
 use spelling::Field;
 
 // Where a type stands in another one.
-#[derive(Drop)]
+#[derive(Clone, Copy)]
 pub enum Place {
     // By itself, or the body of a Forall.
     Alone,
@@ -24,7 +26,7 @@ pub enum Place {
 }
 
 // The next byte to write, and the next node to read.
-#[derive(Drop)]
+#[derive(Clone, Copy)]
 pub struct Spot {
     pub at: usize,
     pub node: usize,

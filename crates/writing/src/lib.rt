@@ -1,4 +1,6 @@
 // A plan held as triples, written as a sheet. The grammar's reader decides whether it is one.
+#![tactic(auto)]
+
 ghost use Rattle.std.specs.Prelude.{◌≡◌, true, map, ◌+◌, ◌*◌, ◌/◌, ◌≤◌, length};
 ghost use Rattle.std.proofs.lemmas.List.Edits.{sets};
 ghost use Rattle.sizes.specs.Sizes.{line_length, sheet_bytes, triple_words};
