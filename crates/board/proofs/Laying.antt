@@ -62,8 +62,8 @@ module _ (w : List ℕ) (b : Board) (k₁ n₁ k₂ n₂ k₃ n₃ : ℕ) (A B C
       ∙ ap (λ (x : List ℕ). headed x b₁ k₂ n₂ (length A) 0) (head-last v₂ b k₁ n₁ (length A) (length B) end (words C) (omega arith) (omega arith))) in
       ap (λ (x : List ℕ). laid (laid x b₁ k₂ n₂ A []) b₂ k₃ n₃ C []) l₁ ∙ ap (λ (x : List ℕ). laid x b₂ k₃ n₃ C []) l₂ ∙ l₃
 
-  in_order : (mid : ℕ) → lo + 2 * length A ≡ mid → sets (sets (sets (sets w end (words C)) mid (words B)) lo (words A)) again (words A) ≡ in_order
-  in_order mid e =
+  laid_in_order : (mid : ℕ) → lo + 2 * length A ≡ mid → sets (sets (sets (sets w end (words C)) mid (words B)) lo (words A)) again (words A) ≡ in_order
+  laid_in_order mid e =
       let AB : Ty = A ++ B in
       let la = length-append A B in
       let lw = length-words AB in
@@ -72,4 +72,4 @@ module _ (w : List ℕ) (b : Board) (k₁ n₁ k₂ n₂ k₃ n₃ : ℕ) (A B C
       ∙ sets-swap (sets w lo (words AB)) again (words A) end (words C) (omega arith)
 
   pub three-laid : (mid : ℕ) → lo + 2 * length A ≡ mid → heads (sets (sets (sets (sets w end (words C)) mid (words B)) lo (words A)) again (words A)) ≡ laid (laid (laid w b k₁ n₁ A B) b₁ k₂ n₂ A []) b₂ k₃ n₃ C []
-  three-laid mid e = ap heads (in_order mid e) ∙ sym laid-three
+  three-laid mid e = ap heads (laid_in_order mid e) ∙ sym laid-three

@@ -5,7 +5,7 @@ use Prim.Native.Nat.{ℕ, zero, suc, ◌-◌, ◌≤◌}
 use native.Mathlib.Omega.{arith}
 use lib.ListN.{length, take}
 use lib.Seq.{length-take-le}
-use borrow.Rule.Slice.PartMut.{mid_of, put_mid, same_len_mid, take_put}
+use borrow.Rule.Slice.PartMut.{mid_of, mid_len, put_mid, same_len_mid, take_put}
 use Rattle.input.specs.declared.Got.{Got}
 use Rattle.input.specs.declared.Got.TheVariants.{To, Failed}
 use Rattle.input.specs.Filled.{Ends, Filled}
@@ -24,6 +24,9 @@ module _ {at n : ℕ} {r : Got} {l m : List ℕ} (e : r ≡ To n) (f : Filled at
   read_length = sym (length-take-le n m read-within)
 
 -- ---- the bytes before its start
+pub mid-long : (at : ℕ) (l : List ℕ) → at ≤ length l → length (mid_of at (length l - at) l) ≡ length l - at
+mid-long at l h = mid_len at (length l) l (omega arith)
+
 -- a reading into the bytes from `at` on, which leaves d there
 pub part_filled : (at : ℕ) (r : Got) (l d : List ℕ) → at ≤ length l → length d ≡ length (mid_of at (length l - at) l) → Ends at r (length l) → Filled at r l (put_mid at (length l - at) l d)
 part_filled at r l d h e n = record { ends = n; bytes = same_len_mid at (length l - at) l d e; kept = take_put at (length l - at) l d h }

@@ -4,7 +4,7 @@
 ghost use Rattle.std.specs.Prelude.{◌≤◌, length};
 ghost use Rattle.input.specs.Filled.{Filled};
 
-use libc::STDIN_FILENO;
+use std::io::Read;
 
 // Where the bytes in a buffer end, or that a read failed.
 #[derive(Clone, Copy)]
@@ -14,26 +14,24 @@ pub enum Got {
 }
 
 // One read into the bytes from `at` on; none come at the end of the input.
-fn read_from(fd: i32, buf: &mut [u8], at: usize) -> Got
+fn read_from<R: Read>(reader: &mut R, buf: &mut [u8], at: usize) -> Got
     requires { at ≤ length buf.old }
     ensures { Filled at result buf.old buf.new }
 {
-    let part = &mut buf[at..];
-    let got = libc::read(fd, part);
-    if got < 0 {
-        return Got::Failed;
+    match reader.read(&mut buf[at..]) {
+        Ok(n) => Got::To(at + n),
+        Err(_) => Got::Failed,
     }
-    Got::To(at + io::count(got, part))
 }
 
 // Reads into the bytes from `at` on, until the buffer is full, the input ends or a read fails.
-pub fn fill_from(fd: i32, buf: &mut [u8], at: usize) -> Got
+pub fn fill_from<R: Read>(reader: &mut R, buf: &mut [u8], at: usize) -> Got
     requires { at ≤ length buf.old }
     ensures { Filled at result buf.old buf.new }
 {
     let mut end = at;
     while end < buf.len() {
-        let Got::To(n) = read_from(fd, buf, end) else {
+        let Got::To(n) = read_from(reader, buf, end) else {
             return Got::Failed;
         };
         if n == end {
@@ -45,9 +43,10 @@ pub fn fill_from(fd: i32, buf: &mut [u8], at: usize) -> Got
 }
 
 // The same from standard input.
-pub fn fill(buf: &mut [u8], at: usize) -> Got
+pub fn fill(rt: &HostRuntime, buf: &mut [u8], at: usize) -> Got
     requires { at ≤ length buf.old }
     ensures { Filled at result buf.old buf.new }
 {
-    fill_from(STDIN_FILENO, buf, at)
+    let mut stdin = rt.stdin();
+    fill_from(&mut stdin, buf, at)
 }

@@ -1,11 +1,11 @@
 -- Laws of `take_parts`, `drop_parts` and `Whole`, for any number of parts that an element may have. Assumes nothing.
-use mathlib.Core.Path.{◌≡◌, refl, sym, ap, ◌∙◌}
+use mathlib.Core.Path.{◌≡◌, refl, ap}
 use mathlib.Core.List.{List, [], ◌∷◌, ◌++◌}
-use Prim.Native.Nat.{ℕ, zero, suc, ◌+◌, ◌-◌, ◌≤◌, ◌<◌}
-use native.Mathlib.Nat.{add-zero, zero-add}
+use Prim.Native.Nat.{ℕ, zero, suc, ◌+◌, ◌-◌, ◌≤◌}
+use native.Mathlib.Nat.{zero-add}
 use native.Mathlib.Omega.{arith}
 use lib.ListN.{length, take, drop}
-use Rattle.nodes.specs.Parts.{take_parts, drop_parts, Whole}
+use Rattle.nodes.specs.Parts.{take_parts, drop_parts}
 
 module _ {A : Type 0} (parts : A → ℕ) where
   pub take_none : (xs : List A) → take_parts parts xs 0 ≡ []

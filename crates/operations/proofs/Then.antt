@@ -270,13 +270,13 @@ pub pair-plain : (d : ℕ) → d ≢ 18 → (x y : ℕ) → All (λ n. kind n �
 pair-plain d h x y = (h, (λ e. omega arith, (λ e. omega arith, tt)))
 
 -- and what has none is in scope of either call
-none_above : (m : ℕ) (t : Ty) → All (λ n. kind n ≢ 18) t → none_above m t ≡ true
+none_above-by : (m : ℕ) (t : Ty) → All (λ n. kind n ≢ 18) t → none_above m t ≡ true
 unfolding none_above
-none_above m [] h = refl
-none_above m (n ∷ t) h = rw (ne_eqb (kind n) 18 h.0) (none_above m t h.1)
+none_above-by m [] h = refl
+none_above-by m (n ∷ t) h = rw (ne_eqb (kind n) 18 h.0) (none_above-by m t h.1)
 
 pub way-scoped : (strict : Bool) (m : ℕ) (k : List ℕ) → Scoped (way_in strict m k)
-way-scoped true m k x t h = none_above (levels_of k x) t h
+way-scoped true m k x t h = none_above-by (levels_of k x) t h
 way-scoped false m k x t h = refl
 
 -- ---- the report

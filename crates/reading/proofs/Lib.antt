@@ -1,3 +1,0 @@
-pub mod Question
-pub mod Asked
-pub mod OfSheet

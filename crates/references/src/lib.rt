@@ -8,7 +8,7 @@ ghost use Rattle.nodes.specs.Lists.{All};
 ghost use Rattle.kinds.specs.Kinds.{parts_of};
 ghost use Rattle.sheet.specs.Plan.{line_node, nodes_of};
 ghost use Rattle.sheet.specs.Rows.{rows, Ended};
-ghost use Rattle.references.specs.Signatures.{arrow_head, result, ending_of};
+ghost use Rattle.references.specs.Signatures.{arrow_head, result as result_part, ending_of};
 ghost use Rattle.references.specs.References.{type_of, instance_out, TypeLine, Good, Frame, Halved};
 
 use constructors::apply_type_substitutions;
@@ -26,7 +26,7 @@ pub struct TypeRef {
 }
 
 fn is_arrow(t: Triple) -> bool
-    ensures* { λ r. ⌜ r ≡ arrow_head (line_node t) ⌝ }
+    ensures { result ≡ arrow_head (line_node t) }
 {
     if t.kind == 13 {
         return t.value == 0;
@@ -44,7 +44,7 @@ pub struct Ending {
 // Counts the parameters of the type of n lines from line `first` on, and finds its result.
 pub fn signature(s: &[u64], first: usize, n: usize) -> Ending
     requires { Ended s.now × (first + n ≤ length (rows s.now)) × All TypeLine (take n (drop first (rows s.now))) × Whole parts_of (take n (drop first (rows s.now))) 1 }
-    ensures* { λ r. ⌜ (r.start ≤ n) × (nodes_of (take (n - r.start) (drop (first + r.start) (rows s.now))) ≡ result n (nodes_of (take n (drop first (rows s.now))))) × (r ≡ ending_of n (nodes_of (take n (drop first (rows s.now))))) ⌝ }
+    ensures { (result.start ≤ n) × (nodes_of (take (n - result.start) (drop (first + result.start) (rows s.now))) ≡ result_part n (nodes_of (take n (drop first (rows s.now))))) × (result ≡ ending_of n (nodes_of (take n (drop first (rows s.now))))) }
 {
     let mut arity = 0;
     let mut i = 0;
@@ -63,7 +63,7 @@ pub fn signature(s: &[u64], first: usize, n: usize) -> Ending
 // Writes the type that is meant to the front of `out`.
 pub fn instance(out: &mut [u32], s: &[u64], r: TypeRef)
     requires { Good (rows s.now) r × Ended s.now × (2 * r.count ≤ length out.old) }
-    ensures* { λ _. ⌜ (nodes_at out.new 0 r.count ≡ type_of (rows s.now) r) × (out.new ≡ instance_out (rows s.now) r out.old) ⌝ }
+    ensures { (nodes_at out.new 0 r.count ≡ type_of (rows s.now) r) × (out.new ≡ instance_out (rows s.now) r out.old) }
 {
     let base = r.base as u32;
     if r.lines == 0 {
@@ -84,7 +84,7 @@ pub struct Split {
 // Takes apart the parameters that a reference stands for.
 pub fn split_frame(s: &[u64], r: TypeRef) -> Split
     requires { Frame (rows s.now) r × (0 < r.lines) × Ended s.now }
-    ensures* { λ h. ⌜ Halved (rows s.now) r h ⌝ }
+    ensures { Halved (rows s.now) r result }
 {
     let first = r.first + r.at + 1;
     let end = part_line(s, first, 1);

@@ -2,5 +2,3 @@ pub mod Reading
 pub mod Reaching
 pub mod Judging
 pub mod Stepping
-pub mod Walking
-pub mod Lending

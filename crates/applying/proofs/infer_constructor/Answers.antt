@@ -1,0 +1,23 @@
+use mathlib.Core.Path.{ap, ◌∙◌}
+use mathlib.Core.Option.{none}
+use Rattle.nodes.specs.Nodes.{nodes_at}
+use Rattle.sheet.specs.Rows.{rows}
+use Rattle.judgment.specs.Rules.{variable}
+use Rattle.operations.proofs.Then.{does-as}
+use Rattle.applying.specs.Applying.{env_on, found_out}
+use Rattle.applying.proofs.Entries.{entry-asks, entry-is}
+use Rattle.applying.proofs.infer_constructor.Goals as goal
+
+pub push_entry-requires : goal.push_entry-requires
+push_entry-requires c = entry-asks 1 c.args.name c.args.s.now c.find_entry.ensures c.requires c.in-At.is
+
+pub returns-in-At : goal.returns-in-At
+returns-in-At c = let a = c.args in
+    let e = entry-is 1 a.name a.s.now c.find_entry.ensures c.in-At.is in
+    (λ w k rep f. does-as (λ _. ap (variable (env_on a.s.now) a.name (nodes_at a.t.now 0 a.tn) none none) e) (c.push_entry.ensures.0 w k rep f), c.push_entry.ensures.1 ∙ ap (found_out a.out.now) e)
+
+pub returns-in-Nothing : goal.returns-in-Nothing
+unfolding nodes_at
+returns-in-Nothing c = let a = c.args in
+    let e = entry-is 1 a.name a.s.now c.find_entry.ensures c.in-Nothing.is in
+    (λ w k rep f. does-as (λ _. ap (variable (env_on a.s.now) a.name (nodes_at a.t.now 0 a.tn) none none) e) (c.refuse.ensures.1 w (rows a.s.now) _ k rep f), ap (found_out a.out.now) e)

@@ -1,0 +1,9 @@
+use mathlib.Core.Path.{sym, ap, ◌∙◌}
+use mathlib.Core.List.{List}
+use Prim.Native.Nat.{ℕ}
+use lib.Seq.{sets}
+use Rattle.book.proofs.Words.{no-solutions}
+use Rattle.book.proofs.clear_book.Goals as goal
+
+pub returns : goal.returns
+returns c = c.clear_words.ensures ∙ ap (λ (l : List ℕ). sets c.args.book.now 0 l) (sym no-solutions)

@@ -1,0 +1,21 @@
+use native.Mathlib.Omega.{arith}
+use Rattle.nodes.specs.Nodes.{nodes_at}
+use Rattle.operations.proofs.Then.{push-then}
+use Rattle.inference.proofs.Keeps.{unknown-then, sub-keeps, tvar-keeps}
+use borrow.Author.Rules.{rules}
+use Rattle.inference.proofs.infer_type_lambda.Goals as goal
+
+pub push_tvar-c3-requires : goal.push_tvar-c3-requires
+push_tvar-c3-requires c = (sub-keeps c.fresh_unknown-c1.ensures.0 c.push_sub-c2.ensures, omega arith)
+
+pub push_inf-requires : goal.push_inf-requires
+push_inf-requires c = (tvar-keeps (omega arith) (sub-keeps c.fresh_unknown-c1.ensures.0 c.push_sub-c2.ensures) c.push_tvar-c3.ensures, search rules)
+
+pub returns : goal.returns
+unfolding nodes_at
+returns c = λ E w ls k rep f.
+    let D1 = c.fresh_unknown-c1.ensures.1 w ls k rep f in
+    let D2 = c.push_sub-c2.ensures.2 w ls k rep D1.kept in
+    let D3 = c.push_tvar-c3.ensures.2 w ls k rep D2.kept in
+    let D4 = c.push_inf.ensures.2 w ls k rep D3.kept in
+    unknown-then D1 (push-then D2 (push-then D3 D4))

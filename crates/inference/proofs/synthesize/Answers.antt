@@ -1,0 +1,16 @@
+use Rattle.nodes.specs.Nodes.{nodes_at}
+use Rattle.operations.proofs.Then.{push-then}
+use Rattle.inference.proofs.Keeps.{unknown-then, sub-keeps}
+use borrow.Author.Rules.{rules}
+use Rattle.inference.proofs.synthesize.Goals as goal
+
+pub push_inf-requires : goal.push_inf-requires
+push_inf-requires c = (sub-keeps c.fresh_unknown-c1.ensures.0 c.push_sub-c2.ensures, search rules)
+
+pub returns : goal.returns
+unfolding nodes_at
+returns c = λ E w ls k rep f.
+    let D1 = c.fresh_unknown-c1.ensures.1 w ls k rep f in
+    let D2 = c.push_sub-c2.ensures.2 w ls k rep D1.kept in
+    let D3 = c.push_inf.ensures.2 w ls k rep D2.kept in
+    unknown-then D1 (push-then D2 D3)

@@ -1,0 +1,12 @@
+use mathlib.Core.Path.{refl}
+use Rattle.board.specs.Board.{entry_of, term_at}
+use Rattle.operations.proofs.Entries.{two-types}
+use Rattle.operations.proofs.push_inf_app.Goals as goal
+
+pub push-requires : goal.push-requires
+unfolding entry_of term_at
+push-requires c = let p = c.requires in two-types 6 _ (λ ls t u. refl) p.0 p.1 p.2
+
+pub returns : goal.returns
+unfolding entry_of
+returns c = c.push.ensures

@@ -1,0 +1,6 @@
+use mathlib.Core.Path.{sym}
+use Rattle.sheet.proofs.RowLaws.{length-rows}
+use Rattle.sheet.proofs.line_count.Goals as goal
+
+pub returns : goal.returns
+returns c = sym (length-rows _)

@@ -1,0 +1,6 @@
+use mathlib.Core.Path.{refl}
+use native.Mathlib.Nat.{mod-lt}
+use Rattle.sheet.proofs.slot_of.Goals as goal
+
+pub returns : goal.returns
+returns c = (refl, mod-lt c.args.name c.requires)

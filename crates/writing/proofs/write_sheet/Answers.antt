@@ -1,0 +1,9 @@
+use mathlib.Core.Path.{refl, sym, ◌∙◌}
+use Rattle.writing.proofs.Sheets.{gives-3}
+use Rattle.writing.proofs.write_sheet.Goals as goal
+
+pub write_plan-requires : goal.write_plan-requires
+write_plan-requires c = (sym c.are_words.ensures ∙ c.if-are_words.true, refl)
+
+pub returns : goal.returns
+returns c = gives-3 _ _ _ (sym c.are_words.ensures ∙ c.if-are_words.false) c.told.ensures
