@@ -8,12 +8,12 @@ ghost use Rattle.writing.specs.Writing.{Written};
 ghost use Rattle.drafting.specs.Drafting.{below, diagnosis, tells_triple, whole, outcome, Scans, BlockOf, ListedOf, Drafted, Within};
 
 use input::{Got, fill_from};
-use io::{print_decimal, write_all};
 use judgment::Answer;
 use kinds::{NOTHING, fields_ok, table_words, unpacked, word_in};
 use listing::{Fault, Scan, feed, finish, is_fine, start};
 use sizes::{LINE_LENGTH, MOST_LINES, PLAN_WORDS, SHEET_BYTES, TRIPLE_WORDS};
 use spelling::Triple;
+use std::io::Read;
 use writing::{triple_at, write_sheet};
 
 // What is wrong with a line of the input.
@@ -159,8 +159,8 @@ fn scan_block(
     Block::Last(next)
 }
 
-fn read_block(
-    fd: i32,
+fn read_block<R: Read>(
+    reader: &mut R,
     scan: Scan,
     block: &mut [u8],
     words: &mut [u64; PLAN_WORDS],
@@ -169,15 +169,15 @@ fn read_block(
     requires { Roomy scan }
     ensures { BlockOf (state scan words.old lines.old) block.new result words.new lines.new }
 {
-    let Got::To(n) = fill_from(fd, block, 0) else {
+    let Got::To(n) = fill_from(reader, block, 0) else {
         return Block::Failed;
     };
     scan_block(scan, block, n, words, lines)
 }
 
 // The loop counts its turns down, from more than any input has blocks, since nothing says that the input ends.
-fn read_plan(
-    fd: i32,
+fn read_plan<R: Read>(
+    reader: &mut R,
     block: &mut [u8],
     words: &mut [u64; PLAN_WORDS],
     lines: &mut [u64; MOST_LINES],
@@ -187,7 +187,7 @@ fn read_plan(
     let mut scan = start();
     let mut turns = u64::MAX;
     while turns > 0 {
-        match read_block(fd, scan, block, words, lines) {
+        match read_block(reader, scan, block, words, lines) {
             Block::More(next) => {
                 scan = next;
                 turns -= 1;
@@ -207,9 +207,9 @@ fn write_front(words: &[u64], end: usize, sheet: &mut [u8]) -> Answer
     write_sheet(&words[..end], sheet)
 }
 
-// The plan on fd, made a sheet at the front of `sheet`, or what is wrong with it.
-pub fn draft(
-    fd: i32,
+// The plan that is read, made a sheet at the front of `sheet`, or what is wrong with it.
+pub fn draft<R: Read>(
+    reader: &mut R,
     block: &mut [u8],
     words: &mut [u64; PLAN_WORDS],
     lines: &mut [u64; MOST_LINES],
@@ -217,76 +217,79 @@ pub fn draft(
 ) -> Outcome
     ensures { Drafted words.old lines.old sheet.old words.new lines.new sheet.new result }
 {
-    let Listed::Whole(scan) = read_plan(fd, block, words, lines) else {
+    let Listed::Whole(scan) = read_plan(reader, block, words, lines) else {
         return Outcome::NotRead;
     };
     let answer = write_front(words, TRIPLE_WORDS * scan.triples, sheet);
     outcome_of(scan, words, lines, answer)
 }
 
-fn say_wrong(fd: i32, wrong: Wrong) -> bool {
+fn say_wrong<E: Print>(err: &E, wrong: Wrong) -> bool {
     match wrong {
-        Wrong::NotNumber => write_all(
-            fd,
-            b": something here is no number from -9223372036854775808 to 9223372036854775807 in plain digits.\n",
-        ),
-        Wrong::TooFew => write_all(
-            fd,
-            b": a triple is three numbers, kind, value and count, and here are fewer.\n",
-        ),
-        Wrong::TooMany => write_all(
-            fd,
-            b": a triple is three numbers, kind, value and count, and here are more.\n",
-        ),
-        Wrong::TooLong => write_all(
-            fd,
-            b": a plan has at most 2000 triples, and here is another.\n",
-        ),
-        Wrong::NoKind => write_all(fd, b": there is no such kind.\n"),
-        Wrong::Negative => write_all(fd, b": only a value of kind 22 may be negative.\n"),
-        Wrong::OutOfRange => write_all(
-            fd,
-            b": the value or the count is out of range for this kind.\n",
-        ),
-        Wrong::Misplaced => write_all(fd, b": the plan can't go on with this triple.\n"),
-        Wrong::Lacking => write_all(fd, b": after this triple the plan lacks another.\n"),
+        Wrong::NotNumber => err
+            .write_all(
+                b": something here is no number from -9223372036854775808 to 9223372036854775807 in plain digits.\n",
+            )
+            .is_ok(),
+        Wrong::TooFew => err
+            .write_all(b": a triple is three numbers, kind, value and count, and here are fewer.\n")
+            .is_ok(),
+        Wrong::TooMany => err
+            .write_all(b": a triple is three numbers, kind, value and count, and here are more.\n")
+            .is_ok(),
+        Wrong::TooLong => err
+            .write_all(b": a plan has at most 2000 triples, and here is another.\n")
+            .is_ok(),
+        Wrong::NoKind => err.write_all(b": there is no such kind.\n").is_ok(),
+        Wrong::Negative => err
+            .write_all(b": only a value of kind 22 may be negative.\n")
+            .is_ok(),
+        Wrong::OutOfRange => err
+            .write_all(b": the value or the count is out of range for this kind.\n")
+            .is_ok(),
+        Wrong::Misplaced => err
+            .write_all(b": the plan can't go on with this triple.\n")
+            .is_ok(),
+        Wrong::Lacking => err
+            .write_all(b": after this triple the plan lacks another.\n")
+            .is_ok(),
     }
 }
 
-fn say_at(fd: i32, line: u64, wrong: Wrong) {
-    let _name = write_all(fd, b"plan_write: line ");
-    let _line = print_decimal(fd, line);
-    let _wrong = say_wrong(fd, wrong);
+fn say_at<E: Print>(err: &E, line: u64, wrong: Wrong) {
+    let _name = err.write_all(b"plan_write: line ");
+    let _line = err.print(line);
+    let _wrong = say_wrong(err, wrong);
 }
 
-fn put_sheet(sheet: &[u8], bytes: usize, out: i32, err: i32)
+fn put_sheet<O: Print, E: Print>(sheet: &[u8], bytes: usize, out: &O, err: &E)
     requires { bytes ≤ length sheet.now }
 {
-    if !write_all(out, &sheet[..bytes]) {
-        let _told = write_all(err, b"plan_write: the sheet was not written.\n");
+    if out.write_all(&sheet[..bytes]).is_err() {
+        let _told = err.write_all(b"plan_write: the sheet was not written.\n");
     }
 }
 
-fn put_outcome(outcome: Outcome, sheet: &[u8], out: i32, err: i32)
+fn put_outcome<O: Print, E: Print>(outcome: Outcome, sheet: &[u8], out: &O, err: &E)
     requires { Within outcome (length sheet.now) }
 {
     match outcome {
         Outcome::Sheet(bytes) => put_sheet(sheet, bytes, out, err),
         Outcome::NotRead => {
-            let _told = write_all(err, b"plan_write: standard input was not read.\n");
+            let _told = err.write_all(b"plan_write: standard input was not read.\n");
         }
         Outcome::NoTriple => {
-            let _told = write_all(err, b"plan_write: no triple on standard input.\n");
+            let _told = err.write_all(b"plan_write: no triple on standard input.\n");
         }
         Outcome::At(line, wrong) => say_at(err, line, wrong),
     }
 }
 
 // The same, with the sheet written to `out` or a sentence to `err`.
-pub fn draft_out(
-    fd: i32,
-    out: i32,
-    err: i32,
+pub fn draft_out<R: Read, O: Print, E: Print>(
+    reader: &mut R,
+    out: &O,
+    err: &E,
     block: &mut [u8],
     words: &mut [u64; PLAN_WORDS],
     lines: &mut [u64; MOST_LINES],
@@ -294,7 +297,7 @@ pub fn draft_out(
 ) -> Outcome
     ensures { Drafted words.old lines.old sheet.old words.new lines.new sheet.new result }
 {
-    let outcome = draft(fd, block, words, lines, sheet);
+    let outcome = draft(reader, block, words, lines, sheet);
     put_outcome(outcome, sheet, out, err);
     outcome
 }

@@ -1,4 +1,4 @@
-// The C interface. A `&[u8]` is a pointer and a length, a `&mut u32` a pointer.
+// The functions of the C interface, which `exports_c` exports. A `&[u8]` is a pointer and a length there, a `&mut u32` a pointer.
 #![tactic(auto)]
 
 ghost use Rattle.std.specs.Prelude.{◌≡◌, ℕ, ◌*◌, length};
@@ -21,8 +21,7 @@ use sizes::{
 use writing::write_sheet;
 
 // Document 01's number of a sheet, 0, 3, 4 or 5, and its line.
-#[unsafe(no_mangle)]
-pub extern "C" fn kirvoghus_read_sheet(sheet: &[u8], line: &mut u32) -> u32
+pub fn kirvoghus_read_sheet(sheet: &[u8], line: &mut u32) -> u32
     ensures { (result ≡ check_number (check sheet.now)) × (line.new ≡ check_line (check sheet.now)) }
 {
     match check_sheet(sheet) {
@@ -47,8 +46,7 @@ pub extern "C" fn kirvoghus_read_sheet(sheet: &[u8], line: &mut u32) -> u32
 
 // How many bytes the term has that starts at a line, which are numbered from 1: they stand from byte 29 (line - 1) on. 0 if no whole
 // term starts there, and for more bytes than a sheet has: the readers call themselves, and their depth goes with the lines.
-#[unsafe(no_mangle)]
-pub extern "C" fn kirvoghus_term_bytes(sheet: &[u8], line: u32) -> usize
+pub fn kirvoghus_term_bytes(sheet: &[u8], line: u32) -> usize
     ensures { result ≡ length (term_on sheet.now line) }
 {
     if SHEET_BYTES < sheet.len() {
@@ -71,8 +69,7 @@ fn seven(a: Answer) -> [u32; 7]
 }
 
 // The checker's entry call. `result` gets the seven numbers; the answer is the first of them.
-#[unsafe(no_mangle)]
-pub extern "C" fn kirvoghus_check_type(
+pub fn kirvoghus_check_type(
     sheet: &[u8],
     ceiling: u32,
     limit: u32,
@@ -89,8 +86,7 @@ pub extern "C" fn kirvoghus_check_type(
 }
 
 // The strict call, which takes and gives the same.
-#[unsafe(no_mangle)]
-pub extern "C" fn kirvoghus_check_type_strict(
+pub fn kirvoghus_check_type_strict(
     sheet: &[u8],
     ceiling: u32,
     limit: u32,
@@ -107,8 +103,7 @@ pub extern "C" fn kirvoghus_check_type_strict(
 }
 
 // A plan's triples written as a sheet at the front of `out`. `result` and the answer as above.
-#[unsafe(no_mangle)]
-pub extern "C" fn kirvoghus_write_sheet(triples: &[u64], out: &mut [u8], res: &mut [u32; 7]) -> u32
+pub fn kirvoghus_write_sheet(triples: &[u64], out: &mut [u8], res: &mut [u32; 7]) -> u32
     ensures { GivenSheet triples.now out.old result res.new out.new }
 {
     let a = write_sheet(triples, out);
@@ -117,72 +112,63 @@ pub extern "C" fn kirvoghus_write_sheet(triples: &[u64], out: &mut [u8], res: &m
 }
 
 // The number of this interface, for a caller to compare with the one that it was written for.
-#[unsafe(no_mangle)]
-pub extern "C" fn kirvoghus_version() -> u32
+pub fn kirvoghus_version() -> u32
     ensures { result ≡ version }
 {
     6
 }
 
 // The words of the board: so many are written by a run, and a call takes no fewer.
-#[unsafe(no_mangle)]
-pub extern "C" fn kirvoghus_board_words() -> usize
+pub fn kirvoghus_board_words() -> usize
     ensures { (result ≡ length board_words) × ((limit : ℕ) → Least limit result book_size (report_stride * limit)) }
 {
     BOARD_SIZE
 }
 
 // The words of the book, the same.
-#[unsafe(no_mangle)]
-pub extern "C" fn kirvoghus_book_words() -> usize
+pub fn kirvoghus_book_words() -> usize
     ensures { ((σ : Solutions) (v : Levels) (n : ℕ) → result ≡ length (book_words σ v n)) × ((limit : ℕ) → Least limit board_size result (report_stride * limit)) }
 {
     BOOK_SIZE
 }
 
 // The words of the report, the same, for a limit.
-#[unsafe(no_mangle)]
-pub extern "C" fn kirvoghus_report_words(limit: u32) -> usize
+pub fn kirvoghus_report_words(limit: u32) -> usize
     ensures { ((t : Ty) → result ≡ length (report_words limit t)) × Least limit board_size book_size result }
 {
     REPORT_STRIDE * (limit as usize)
 }
 
 // The highest ceiling that a call takes.
-#[unsafe(no_mangle)]
-pub extern "C" fn kirvoghus_ceiling() -> u32
+pub fn kirvoghus_ceiling() -> u32
     ensures { Highest result }
 {
     HIGHEST_CEILING
 }
 
 // The highest limit that a call takes; the lowest is 1.
-#[unsafe(no_mangle)]
-pub extern "C" fn kirvoghus_limit_most() -> u32
+pub fn kirvoghus_limit_most() -> u32
     ensures { HighestLimit result }
 {
     HIGHEST_LIMIT as u32
 }
 
 // Document 01's limit, which the programs pick.
-#[unsafe(no_mangle)]
-pub extern "C" fn kirvoghus_limit() -> u32
+pub fn kirvoghus_limit() -> u32
     ensures { result ≡ usual_limit }
 {
     USUAL_LIMIT
 }
 
 // The bytes of the longest sheet.
-#[unsafe(no_mangle)]
-pub extern "C" fn kirvoghus_sheet_bytes() -> usize
+pub fn kirvoghus_sheet_bytes() -> usize
     ensures { Longest result }
 {
     SHEET_BYTES
 }
 
 // The bytes of a sheet's line, with its LF.
-#[unsafe(no_mangle)]
-pub extern "C" fn kirvoghus_line_bytes() -> usize
+pub fn kirvoghus_line_bytes() -> usize
     ensures { OneLine result }
 {
     LINE_LENGTH

@@ -17,8 +17,6 @@ use exports::{
     kirvoghus_read_sheet, kirvoghus_report_words, kirvoghus_sheet_bytes, kirvoghus_term_bytes,
     kirvoghus_version,
 };
-use io::{print_decimal, write_all};
-use libc::STDOUT_FILENO;
 use sizes::{BOARD_SIZE, BOOK_SIZE, USUAL_REPORT};
 
 fn read_sheet(sheet: &[u8], line: &mut u32) -> u32
@@ -115,55 +113,61 @@ fn line_bytes() -> usize
     kirvoghus_line_bytes()
 }
 
-fn show(label: &[u8], n: u64) {
-    let _label = write_all(STDOUT_FILENO, label);
-    let _number = print_decimal(STDOUT_FILENO, n);
-    let _end = write_all(STDOUT_FILENO, b"\n");
+fn show(rt: &HostRuntime, label: &[u8], n: u64) {
+    let _label = rt.write_all(label);
+    let _number = rt.print(n);
+    let _end = rt.write_all(b"\n");
 }
 
-fn show_sizes() {
-    show(b"version ", version() as u64);
-    show(b"board words ", board_words() as u64);
-    show(b"book words ", book_words() as u64);
-    show(b"report words, limit 1: ", report_words(1) as u64);
-    show(b"ceiling ", ceiling() as u64);
-    show(b"highest limit ", limit_most() as u64);
-    show(b"limit ", limit() as u64);
-    show(b"sheet bytes ", sheet_bytes() as u64);
-    show(b"line bytes ", line_bytes() as u64);
+fn show_sizes(rt: &HostRuntime) {
+    show(rt, b"version ", version() as u64);
+    show(rt, b"board words ", board_words() as u64);
+    show(rt, b"book words ", book_words() as u64);
+    show(rt, b"report words, limit 1: ", report_words(1) as u64);
+    show(rt, b"ceiling ", ceiling() as u64);
+    show(rt, b"highest limit ", limit_most() as u64);
+    show(rt, b"limit ", limit() as u64);
+    show(rt, b"sheet bytes ", sheet_bytes() as u64);
+    show(rt, b"line bytes ", line_bytes() as u64);
 }
 
-fn show_reading(sheet: &[u8]) {
+fn show_reading(rt: &HostRuntime, sheet: &[u8]) {
     let mut line = 9;
-    show(b"read ", read_sheet(sheet, &mut line) as u64);
-    show(b"its line ", line as u64);
-    show(b"term on line 0: ", term_bytes(sheet, 0) as u64);
-    show(b"term on line 1: ", term_bytes(sheet, 1) as u64);
-    show(b"term on line 4: ", term_bytes(sheet, 4) as u64);
-    show(b"term on line 5: ", term_bytes(sheet, 5) as u64);
+    show(rt, b"read ", read_sheet(sheet, &mut line) as u64);
+    show(rt, b"its line ", line as u64);
+    show(rt, b"term on line 0: ", term_bytes(sheet, 0) as u64);
+    show(rt, b"term on line 1: ", term_bytes(sheet, 1) as u64);
+    show(rt, b"term on line 4: ", term_bytes(sheet, 4) as u64);
+    show(rt, b"term on line 5: ", term_bytes(sheet, 5) as u64);
 }
 
 fn taken(seven: &[u32; 7]) -> u32 {
     seven[2]
 }
 
-fn show_calls(sheet: &[u8], board: &mut [u32], book: &mut [u32], report: &mut [u32]) {
+fn show_calls(
+    rt: &HostRuntime,
+    sheet: &[u8],
+    board: &mut [u32],
+    book: &mut [u32],
+    report: &mut [u32],
+) {
     let mut seven = [9; 7];
     let number = check_type(sheet, 4, 1024, board, book, report, &mut seven);
-    show(b"check, ceiling 4: ", number as u64);
-    show(b"taken ", taken(&seven) as u64);
+    show(rt, b"check, ceiling 4: ", number as u64);
+    show(rt, b"taken ", taken(&seven) as u64);
     let strict = check_type_strict(sheet, 5, 1024, board, book, report, &mut seven);
-    show(b"strict check, ceiling 5: ", strict as u64);
-    show(b"taken ", taken(&seven) as u64);
+    show(rt, b"strict check, ceiling 5: ", strict as u64);
+    show(rt, b"taken ", taken(&seven) as u64);
 }
 
-fn main() {
+fn main(rt: HostRuntime) {
     let sheet =
         b"  3                   0    0\n 12                   1    0\n  4                   0    0\n 22                   7    0\n";
     let mut board = [0u32; BOARD_SIZE];
     let mut book = [0u32; BOOK_SIZE];
     let mut report = [0u32; USUAL_REPORT];
-    show_sizes();
-    show_reading(sheet);
-    show_calls(sheet, &mut board, &mut book, &mut report);
+    show_sizes(&rt);
+    show_reading(&rt, sheet);
+    show_calls(&rt, sheet, &mut board, &mut book, &mut report);
 }

@@ -16,7 +16,7 @@ use Rattle.grammar.specs.declared.Got.TheVariants.{Next, Refused}
 use mathlib.Core.Bool.{Bool, true, false, cond}
 use Rattle.grammar.specs.declared.Declared.{Declared}
 use Rattle.grammar.specs.declared.Declared.TheVariants.{Named, Expected, Not}
-use Rattle.grammar.specs.Grammar.{Item, part, entries, in_order, declared_by, arms, repeated, following, fits, parts_due, head_in, ok, due, read_at}
+use Rattle.grammar.specs.Grammar.{Item, part, entries, in_order, declared_by, arms, repeated, following, fits, head_in, ok, due, read_at}
 use Rattle.kinds.specs.Kinds.{a_type, a_term, a_pattern, an_entry, an_expected, a_goal, begins, head_of}
 use Rattle.kinds.proofs.Rows.{begins-head}
 use Rattle.grammar.proofs.Laws.{done, inside, refused, goes_on, follow, stops, within}

@@ -12,7 +12,7 @@ use Rattle.judgment.specs.declared.TypeError.TheVariants.{UnboundVariable, Unbou
 use Rattle.judgment.specs.Types.{unknown, eq_ty, View, is_arrow, is_app, is_forall, is_unknown, is_other, view, can_unify, occurs, is_monotype}
 use Rattle.judgment.specs.Terms.{Term, Lambda, lambda_of}
 use Rattle.judgment.specs.Solutions.{◌≔◌, Solutions, find, write_out, solution_nodes}
-use Rattle.judgment.specs.Board.{below, within, Entry, var, Board, entry_nodes, board_nodes, var_named, or_else, find_var, is_t_var, has_t_var, before, Limits, Rule, done, refuse, fresh, push, solve, zonk, look, state, Outcome, finished, refused, solving, room_for, perform, Origin, own, universal, splits, Operation, made, pushed, gave, met, operations}
+use Rattle.judgment.specs.Board.{below, within, Entry, var, Board, entry_nodes, board_nodes, var_named, or_else, find_var, is_t_var, has_t_var, before, Limits, Rule, done, refuse, fresh, push, solve, zonk, look, state, Outcome, finished, refused, solving, room_for, perform, Origin, Operation, made, pushed, gave, met, operations}
 use Rattle.judgment.specs.Levels.{Levels, level_after, levels_after}
 use Rattle.judgment.proofs.WholeRun.{solving-ind}
 use Rattle.judgment.specs.Rules.{Env, Side, left, right, open_body, solve_monotype, instantiate_by, instantiate_from, mismatch, unknown_left, unknown_right, subtype_by, subtype, variable, check_arrow, check_by, apply_by, infer_app}

@@ -17,14 +17,14 @@ use Rattle.judgment.specs.declared.TypeError.TheVariants.{BoardFull, ArityMismat
 use Rattle.judgment.specs.Types.{unknown, View, is_arrow, is_app, is_forall, is_unknown, is_other, view, Renaming, rename, front_names, after_front}
 use Rattle.judgment.specs.Terms.{Term, part, after_parts, TermView, is_var, is_lit_int, is_lambda, is_apply, is_type_lambda, is_constructor, is_case, is_bin_op, is_if, is_intrinsic, is_none, term_view, PatternView, is_wildcard, is_pattern_var, is_pattern_constructor, pattern_view}
 use Rattle.judgment.specs.Solutions.{Solutions}
-use Rattle.judgment.specs.Board.{Limit, up_to, unlimited, within, Entry, tvar, var, sub, inf, chk, inf_app, Board, board_nodes, find_var, Limits, Rule, refuse, Operation, State, state, Outcome, refused, room_for, perform, own, pushed, finished, operations}
+use Rattle.judgment.specs.Board.{Limit, up_to, unlimited, within, Entry, tvar, var, sub, inf, chk, inf_app, Board, board_nodes, find_var, Limits, Rule, refuse, Operation, State, state, Outcome, refused, room_for, perform, own, pushed, operations}
 use Rattle.judgment.specs.Levels.{Levels, own_levels, level_after, levels_after}
 use Rattle.judgment.specs.Rules.{Env, subtype, open_names, signature_by, signature_from, insert, push_vars, pattern_parts, pattern_constructor, pattern_by, check_patterns, check_arms, variable, constructor, infer_by, check_by, infer_app, rule}
 use Rattle.judgment.specs.Run.{Step, step, End, Run, run, events, add_step, onward, run_from, check_type}
 use Rattle.judgment.specs.Result.{result_of, env_of, run_of, judge}
 use Rattle.judgment.proofs.OtherOrders.{Distinct, Reordered, Order, Reorders, check_arms_in, infer_by_in, rule_in, run_from_in, run_of_in, judge_in}
 use Rattle.judgment.proofs.TypeLaws.{both}
-use Rattle.judgment.proofs.Alike.{Alike, empty, entry, vars, Near, alike-length, Agree, finish, stop, InScope, Open, Steady, Parallel, done-parallel, refuse-parallel, fresh-parallel, push-parallel, steady-parallel, subtype-steady, variable-steady, check_by-steady, infer_app-steady}
+use Rattle.judgment.proofs.Alike.{Alike, empty, entry, vars, Near, alike-length, Agree, finish, stop, InScope, Steady, Parallel, done-parallel, refuse-parallel, fresh-parallel, push-parallel, steady-parallel, subtype-steady, variable-steady, check_by-steady, infer_app-steady}
 use Rattle.judgment.proofs.LevelLaws.{levels-append}
 use Rattle.judgment.proofs.Reordered.{total, onto, reordered-length, reordered-total, onto-near, Rising, rising-distinct, insert-rising}
 

@@ -10,7 +10,7 @@ use Rattle.judgment.specs.declared.TypeError.{TypeError}
 use Rattle.judgment.specs.declared.TypeError.TheVariants.{TypeUnificationError, BoardFull, TypeTooLong, NoFreshNumber, SolutionsFull, OutOfScope}
 use Rattle.judgment.specs.Types.{can_unify}
 use Rattle.judgment.specs.Solutions.{◌≔◌, Solutions, find, write_out, solution_nodes}
-use Rattle.judgment.specs.Board.{below, within, Board, Limits, Origin, own, universal, splits, Rule, done, refuse, fresh, push, solve, zonk, look, State, state, Outcome, finished, refused, room_for, solving, perform, operations, Operation, made, pushed, gave, met}
+use Rattle.judgment.specs.Board.{below, within, Board, Limits, Origin, own, universal, splits, Rule, done, refuse, fresh, push, solve, zonk, look, State, state, Outcome, finished, refused, room_for, solving, perform, operations}
 use Rattle.judgment.specs.Chain.{board_of, solutions_of, counter_of, refuse_o, fresh_o, push_o, solve_o, zonk_o, perform_o, fresh_l, solve_l, perform_l}
 use Rattle.judgment.specs.Levels.{Levels, put, lower, level_made, level_after, levels_after}
 

@@ -9,7 +9,7 @@ use Rattle.judgment.specs.Solutions.{Solutions}
 use Rattle.judgment.specs.Board.{Entry, Board, Limits, Operation, State, state, Outcome, finished, refused, perform, operations}
 use Rattle.judgment.specs.Levels.{Levels, levels_after}
 use Rattle.judgment.specs.Rules.{Env, rule}
-use Rattle.judgment.specs.Run.{Step, step, accepted, ceiling, refused_by, Run, run, events, add_step, onward, run_from}
+use Rattle.judgment.specs.Run.{step, accepted, ceiling, refused_by, Run, run, events, add_step, onward, run_from}
 use Rattle.judgment.specs.Chain.{step_o, step_l, Told, told}
 use Rattle.judgment.proofs.LevelLaws.{levels-append}
 

@@ -25,7 +25,7 @@ use Rattle.judgment.specs.declared.Answer.{Answer}
 use Rattle.judgment.specs.declared.TypeError.{TypeError}
 use Rattle.judgment.specs.Types.{eq_ty, View, is_arrow, is_app, is_forall, is_unknown, is_other, view, occurs, is_monotype, substitute, Renaming, rename, front_names, after_front}
 use Rattle.judgment.specs.Terms.{Term, part, after_parts, Lambda, lambda_of, TermView, is_var, is_lit_int, is_lambda, is_apply, is_type_lambda, is_constructor, is_case, is_bin_op, is_if, is_intrinsic, is_none, view_by, term_view, PatternView, pattern_view}
-use Rattle.judgment.specs.Solutions.{◌≔◌, Solutions, value, find, write_out, solution_nodes}
+use Rattle.judgment.specs.Solutions.{◌≔◌, Solutions, find, write_out, solution_nodes}
 use Rattle.judgment.specs.Board.{Entry, tvar, var, sub, inf, chk, inf_app, Board, find_var, before, Rule, done, refuse, fresh, push, solve, zonk, look, State, state, Outcome, finished, refused, room_for, Operation, perform, operations, Limits}
 use Rattle.judgment.specs.Chain.{counter_of}
 use Rattle.judgment.specs.Levels.{Levels, own_levels, levels_after, Mode}

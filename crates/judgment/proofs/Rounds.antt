@@ -1,14 +1,14 @@
 -- The rounds that a definition counts down never decide: with as many as there are nodes, more change nothing. Assumes nothing.
 use Prim.Native.Nat.{ℕ, zero, suc, ◌+◌, ◌≤◌, ◌<◌}
 use native.Mathlib.Omega.{arith}
-use mathlib.Core.Path.{◌≡◌, refl, sym, ◌∙◌, ap, ap₂, fun_ext}
+use mathlib.Core.Path.{◌≡◌, refl, sym, ◌∙◌, ap, fun_ext}
 use mathlib.Core.Bool.{Bool, true, false, cond, ◌&&◌, ◌||◌}
 use mathlib.Core.List.{List, [], ◌∷◌, ◌++◌}
 use lib.Dec.{eqb}
 use lib.ListN.{length, length-append}
 use Rattle.nodes.specs.Nodes.{Node, node, Ty, kind, node_parts}
 use Rattle.nodes.specs.Parts.{drop_parts}
-use Rattle.judgment.specs.Types.{arrow, forall, is_node, eq_node, rest, View, is_arrow, is_app, is_forall, is_unknown, is_other, view, substitute_from, substitute, can_unify_from}
+use Rattle.judgment.specs.Types.{arrow, is_node, eq_node, rest, View, is_arrow, is_app, is_forall, is_unknown, is_other, view, substitute_from, substitute, can_unify_from}
 use Rattle.judgment.specs.Board.{tvar, own, universal, Rule, fresh, push}
 use Rattle.judgment.specs.Rules.{Side, left, right, open_body, instantiate_by, instantiate_from, signature_by, signature_from}
 use Rattle.judgment.proofs.TypeLaws.{Shows, view-shows}

@@ -1,10 +1,10 @@
 -- Every rule keeps the invariant; and a comparison that finishes is explained by what its rule pushed and solved.
 -- Assumes nothing.
-use Prim.Native.Nat.{ℕ, zero, suc, ◌+◌, ◌≤◌, ◌<◌}
+use Prim.Native.Nat.{ℕ, zero, suc, ◌≤◌, ◌<◌}
 use native.Mathlib.Omega.{arith}
 use mathlib.Core.Path.{◌≡◌, refl, sym, ◌∙◌, ap, ap₂, subst, subst⁻¹}
-use mathlib.Core.Logic.{◌≢◌, ◌⊎◌}
-use mathlib.Core.Bool.{Bool, true, false, cond, not, ◌&&◌, ◌||◌, true≢false, false≢true}
+use mathlib.Core.Logic.{◌≢◌}
+use mathlib.Core.Bool.{Bool, true, false, cond, not, ◌||◌, true≢false}
 use mathlib.Core.Option.{Option, none, some}
 use mathlib.Core.List.{List, [], ◌∷◌, ◌++◌}
 use lib.Dec.{eqb, leb, ltb}
@@ -16,7 +16,7 @@ use Rattle.judgment.specs.Types.{unknown, con, forall, is_node, eq_ty, View, is_
 use Rattle.judgment.proofs.TypeLaws.{both, eqb-false, eqb_same, eq_ty-true, Shows, view-shows, all-substitute, all-rename, all-after_front, all-part, all_after, TermHas, term-has, LambdaHas, lambda-has}
 use Rattle.spelling.specs.declared.Triple.{Triple}
 use Rattle.judgment.specs.Terms.{Term, part, after_parts, Lambda, lambda_of, TermView, is_var, is_lit_int, is_lambda, is_apply, is_type_lambda, is_constructor, is_case, is_bin_op, is_if, is_intrinsic, is_none, term_view, PatternView, is_wildcard, is_pattern_var, is_pattern_constructor, pattern_view}
-use Rattle.judgment.specs.Solutions.{◌≔◌, Solutions, value, write_out, solved_unknowns}
+use Rattle.judgment.specs.Solutions.{◌≔◌, Solutions, write_out, solved_unknowns}
 use Rattle.judgment.proofs.SolutionLaws.{other-free, all-written, written-append, written-node, written-is-free, solved-now}
 use Rattle.judgment.specs.Board.{Entry, tvar, var, sub, inf, chk, inf_app, Board, var_named, or_else, find_var, before, Rule, done, push}
 use Rattle.sheet.specs.Plan.{Binding, ◌∶◌, Bindings, lookup}

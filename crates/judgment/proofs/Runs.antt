@@ -1,18 +1,17 @@
 -- Facts of whole runs: for all limits, every ceiling and any good start, at whatever end.
 -- Assumes nothing.
-use Prim.Native.Nat.{ℕ, zero, suc, ◌+◌, ◌≤◌, ◌<◌}
+use Prim.Native.Nat.{ℕ, zero, suc, ◌≤◌}
 use native.Mathlib.Omega.{arith}
 use mathlib.Core.Path.{◌≡◌, refl, sym, ◌∙◌, ap, subst, subst⁻¹}
-use mathlib.Core.Logic.{◌≢◌, ◌⊎◌}
+use mathlib.Core.Logic.{◌≢◌}
 use mathlib.Core.List.{List, [], ◌∷◌, ◌++◌, append-nil, append_assoc}
 use Rattle.nodes.specs.Lists.{All}
 use Rattle.nodes.proofs.ListLaws.{all_split}
 use Rattle.nodes.specs.Nodes.{Ty}
-use Rattle.judgment.specs.Solutions.{◌≔◌, Solutions, write_out}
+use Rattle.judgment.specs.Solutions.{Solutions, write_out}
 use Rattle.judgment.proofs.SolutionLaws.{written-again}
 use Rattle.judgment.specs.Promise.{taken}
 use Rattle.judgment.specs.Board.{Entry, tvar, var, sub, inf, chk, inf_app, Board, Limits, Operation, State, state, Outcome, finished, refused, perform, operations}
-use Rattle.sheet.specs.Plan.{◌∶◌}
 use Rattle.judgment.specs.Levels.{Levels, levels_after}
 use Rattle.judgment.specs.Rules.{Env, rule}
 use Rattle.judgment.specs.Run.{Step, step, End, accepted, ceiling, refused_by, Run, run, steps, end, final, add_step, onto, onward, run_from}

@@ -22,7 +22,7 @@ use Rattle.judgment.specs.declared.TypeError.TheVariants.{UnboundVariable, Unbou
 use Rattle.judgment.specs.Types.{can_unify}
 use Rattle.judgment.specs.Solutions.{◌≔◌, Solutions, find, write_out, solution_nodes}
 use Rattle.judgment.specs.Board.{below, within, Entry, Board, Limits, Rule, done, refuse, fresh, push, solve, zonk, look, Operation, State, state, Outcome, finished, refused, solving, room_for, perform, operations}
-use Rattle.judgment.specs.Levels.{Levels, own_levels, levels_after, Mode, first_call, strict_call}
+use Rattle.judgment.specs.Levels.{Levels, own_levels, levels_after, first_call, strict_call}
 use Rattle.judgment.specs.Rules.{Env, rule}
 use Rattle.judgment.specs.Run.{Step, step, End, accepted, ceiling, refused_by, Run, run, end, add_step, onward, run_from, check_type}
 use Rattle.judgment.specs.Result.{error_number, end_number, Result, env_of, run_of, result_of, judge, limits_for, Buffers, Called, refused_at, written, by_check, limit_bad, too_short, call}

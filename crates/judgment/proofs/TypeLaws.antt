@@ -1,16 +1,16 @@
 -- Laws of types and terms: what a view shows, and that what holds of every node is kept.
 -- Assumes nothing.
 use Prim.Native.Nat.{ℕ, zero, suc, ◌+◌}
-use mathlib.Core.Path.{◌≡◌, refl, sym, ◌∙◌, ap, ap₂, subst, subst⁻¹}
-use mathlib.Core.Logic.{◌≢◌, ◌⊎◌}
-use mathlib.Core.Bool.{Bool, true, false, cond, ◌&&◌, ◌||◌, and-eq-true_iff, false≢true, true≢false}
+use mathlib.Core.Path.{◌≡◌, refl, sym, ap, ap₂, subst, subst⁻¹}
+use mathlib.Core.Logic.{◌≢◌}
+use mathlib.Core.Bool.{Bool, true, false, cond, ◌&&◌, and-eq-true_iff, false≢true}
 use mathlib.Core.List.{List, [], ◌∷◌, ◌++◌}
 use mathlib.Core.Option.{Option, none, some}
 use lib.Dec.{T, eqb, eqb→eq, eqb_refl}
 use Rattle.nodes.proofs.PartLaws.{take-drop}
 use Rattle.nodes.specs.Lists.{All}
 use Rattle.nodes.proofs.ListLaws.{cond_ind, all_take, all_drop}
-use Rattle.nodes.specs.Nodes.{Node, node, Ty, kind, node_parts}
+use Rattle.nodes.specs.Nodes.{Node, node, Ty, node_parts}
 use Rattle.judgment.specs.Types.{unknown, arrow, app, forall, is_node, eq_node, eq_ty, first, rest, View, is_arrow, is_app, is_forall, is_unknown, is_other, view, null, substitute_from, substitute, Renaming, rename_node, rename, after_front}
 use Rattle.spelling.specs.declared.Triple.{Triple}
 use Rattle.kinds.specs.Kinds.{parts_of}

@@ -2,16 +2,15 @@
 -- Krishnaswami 2013; the worklist is the paper of 2019's (Zhao, Oliveira and Schrijvers). In every difference the Rust decides: these are the
 -- functions of `worklist.rs` that `check_type` reaches, in the Rust's order of pushes, fresh numbers, solutions and tests. At each rule stands its
 -- name in DK, or "papers silent". Both papers are meant as their published rules are known: the texts were not at hand. Assumes nothing.
-use Rattle.std.specs.Prelude.{ℕ, zero, suc, ◌+◌, Bool, true, false, cond, ◌&&◌, List, [], ◌∷◌, ◌++◌, eqb, leb, ltb, length}
+use Rattle.std.specs.Prelude.{ℕ, zero, suc, cond, List, [], ◌∷◌, ◌++◌, eqb, leb, ltb, length}
 use Rattle.std.proofs.Math.Option.{Option, none, some}
-use Rattle.nodes.specs.Nodes.{Node, node, Ty}
+use Rattle.nodes.specs.Nodes.{node, Ty}
 use Rattle.spelling.specs.declared.Triple.{Triple}
-use Rattle.sheet.specs.Plan.{Binding, ◌∶◌, Bindings, lookup}
-use Rattle.judgment.specs.declared.TypeError.{TypeError}
+use Rattle.sheet.specs.Plan.{◌∶◌, Bindings, lookup}
 use Rattle.judgment.specs.declared.TypeError.TheVariants.{UnboundVariable, UnboundDataConstructor, NotAFunction, ArityMismatch, SubtypingError, InstantiationError, IntrinsicArityMismatch, UnknownIntrinsic}
-use Rattle.judgment.specs.Types.{unknown, con, arrow, app, forall, Int, BoolT, UnitT, eq_ty, first, rest, View, is_arrow, is_app, is_forall, is_unknown, is_other, view, occurs, is_monotype, substitute, Renaming, rename, front_names, after_front}
+use Rattle.judgment.specs.Types.{unknown, con, arrow, app, forall, Int, BoolT, UnitT, eq_ty, View, is_arrow, is_app, is_forall, is_unknown, is_other, view, occurs, is_monotype, substitute, Renaming, rename, front_names, after_front}
 use Rattle.judgment.specs.Terms.{Term, part, after_parts, Lambda, lambda_of, TermView, is_var, is_lit_int, is_lambda, is_apply, is_type_lambda, is_constructor, is_case, is_bin_op, is_if, is_intrinsic, is_none, term_view, PatternView, is_wildcard, is_pattern_var, is_pattern_constructor, pattern_view}
-use Rattle.judgment.specs.Board.{Entry, tvar, var, sub, inf, chk, inf_app, Board, find_var, before, Origin, own, universal, splits, Rule, done, refuse, fresh, push, solve, zonk, look, ◌>>=◌, ◌>>◌}
+use Rattle.judgment.specs.Board.{Entry, tvar, var, sub, inf, chk, inf_app, find_var, before, own, universal, splits, Rule, done, refuse, fresh, push, solve, zonk, look, ◌>>=◌, ◌>>◌}
 
 -- data constructors and context variables
 pub record Env : Type 0 where

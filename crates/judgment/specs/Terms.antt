@@ -1,6 +1,6 @@
 -- Terms: where they stand on the sheet, and their lines in prefix order. No rule hangs on where a term stands; the board's words tell it.
 -- Assumes nothing.
-use Rattle.std.specs.Prelude.{ℕ, zero, suc, ◌+◌, Bool, true, false, cond, List, [], ◌∷◌, eqb, length}
+use Rattle.std.specs.Prelude.{ℕ, zero, suc, ◌+◌, cond, List, [], ◌∷◌, eqb, length}
 use Rattle.std.proofs.Math.Option.{Option, none, some}
 use Rattle.nodes.specs.Nodes.{Ty}
 use Rattle.nodes.specs.Parts.{take_parts, drop_parts}

@@ -1,8 +1,7 @@
 -- Types: lists of nodes in prefix order, as the board and the book store them.
 -- Assumes nothing.
-use Rattle.std.specs.Prelude.{ℕ, zero, suc, ◌+◌, ◌≡◌, refl, Bool, true, false, cond, not, ◌&&◌, ◌||◌, List, [], ◌∷◌, ◌++◌, eqb, length}
-use Rattle.std.proofs.Common.{sym, ap}
-use Rattle.nodes.specs.Nodes.{Node, node, Ty, kind, number, node_parts}
+use Rattle.std.specs.Prelude.{ℕ, zero, suc, ◌+◌, Bool, true, false, cond, not, ◌&&◌, ◌||◌, List, [], ◌∷◌, ◌++◌, eqb, length}
+use Rattle.nodes.specs.Nodes.{Node, node, Ty, kind, node_parts}
 use Rattle.nodes.specs.Parts.{take_parts, drop_parts}
 
 abbrev pub unknown : ℕ → Ty

@@ -1,17 +1,16 @@
 -- What a push asks, by the kind of its entry. Assumes nothing.
-use mathlib.Core.Path.{◌≡◌, refl, sym, ap, ap₂, ◌∙◌}
-use mathlib.Core.List.{List, [], ◌∷◌}
+use mathlib.Core.Path.{◌≡◌, ap}
+use mathlib.Core.List.{List, []}
 use Prim.Native.Nat.{ℕ, ◌+◌, ◌*◌, ◌≤◌, ◌<◌}
 use native.Mathlib.Omega.{arith}
 use lib.ListN.{length}
 use Rattle.nodes.specs.Nodes.{node, Ty, nodes_at}
-use Rattle.nodes.proofs.Laws.{length-nodes_at}
 use Rattle.spelling.specs.declared.Triple.{Triple}
-use Rattle.judgment.specs.Board.{Entry, tvar, entry_nodes, push, done}
+use Rattle.judgment.specs.Board.{tvar}
 use Rattle.board.specs.Board.{entry_of, Stacked, slot_of}
 use Rattle.board.proofs.Finds.{tvar-is}
 use Rattle.operations.specs.declared.Run.{Run}
-use Rattle.operations.specs.State.{WellFormed, Does, Pushes, PushAsk}
+use Rattle.operations.specs.State.{Pushes, PushAsk}
 
 module _ {b : List ℕ} {c : Run} (kind number : ℕ) where
   -- an entry of two types

@@ -1,10 +1,10 @@
 -- A run that was refused stays; what each operation leaves of one that goes on. Assumes nothing.
 use mathlib.Core.Path.{◌≡◌, refl, sym, ap, ap₂, ◌∙◌, subst}
 use mathlib.Core.Logic.{◌≢◌}
-use mathlib.Core.Bool.{Bool, true, false, ◌||◌, true≢false, false≢true}
-use mathlib.Core.Option.{none, some}
-use mathlib.Core.List.{List, [], ◌∷◌, ◌++◌}
-use Prim.Native.Nat.{ℕ, ◌+◌, ◌*◌, ◌-◌, ◌≤◌, ◌<◌}
+use mathlib.Core.Bool.{Bool, true, false, ◌||◌, true≢false}
+use mathlib.Core.Option.{none}
+use mathlib.Core.List.{List, [], ◌∷◌}
+use Prim.Native.Nat.{ℕ, ◌+◌, ◌*◌, ◌≤◌, ◌<◌}
 use native.Mathlib.Numerals.{add-one}
 use native.Mathlib.Omega.{arith}
 use lib.ListN.{length}
@@ -19,7 +19,7 @@ use Rattle.judgment.specs.declared.TypeError.{TypeError}
 use Rattle.judgment.specs.declared.TypeError.TheVariants.{UnboundVariable, UnboundDataConstructor, NotAFunction, ArityMismatch, SubtypingError, TypeUnificationError, InstantiationError, IntrinsicArityMismatch, UnknownIntrinsic, BoardFull, TypeTooLong, NoFreshNumber, SolutionsFull, OutOfScope}
 use Rattle.judgment.specs.Types.{is_node, occurs}
 use Rattle.judgment.proofs.TypeLaws.{is_node-true}
-use Rattle.judgment.specs.Solutions.{◌≔◌, find, solution_nodes, write_out}
+use Rattle.judgment.specs.Solutions.{find, solution_nodes, write_out}
 use Rattle.judgment.specs.Board.{Entry, entry_nodes, Limits, Origin, own, universal, splits, Rule, done, refuse, fresh, push, solve, zonk, look, State, Outcome, finished, refused}
 use Rattle.judgment.specs.Chain.{perform_o, refuse_o, fresh_o, push_o, solve_o, fresh_l, solve_l, perform_l}
 use Rattle.judgment.proofs.Chained.{stays, levels-stay}

@@ -17,7 +17,7 @@ use Rattle.spelling.specs.declared.Triple.{Triple}
 use Rattle.judgment.specs.declared.TypeError.{TypeError}
 use Rattle.judgment.specs.declared.TypeError.TheVariants.{NoFreshNumber}
 use Rattle.judgment.specs.Types.{unknown, can_unify}
-use Rattle.judgment.specs.Solutions.{◌≔◌, Solutions, find, solution_nodes, write_out, solved_unknowns}
+use Rattle.judgment.specs.Solutions.{Solutions, find, solution_nodes, write_out, solved_unknowns}
 use Rattle.judgment.specs.Board.{below, within, Entry, Board as Entries, Limits, Origin, Rule, done, refuse, fresh, push, solve, zonk, look, State, state, Outcome, finished, refused, room_for, solving}
 use Rattle.judgment.specs.Chain.{board_of, solutions_of, counter_of, perform_o, refuse_o, fresh_o, push_o, solve_o, zonk_o, fresh_l, perform_l}
 use Rattle.judgment.specs.Levels.{Levels, none_above}

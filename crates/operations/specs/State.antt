@@ -1,5 +1,5 @@
 -- What the words of board, book and report and a run's counters stand for, and what an operation leaves of them. Assumes nothing: these are definitions.
-use Rattle.std.specs.Prelude.{◌≡◌, ◌≢◌, Bool, true, false, cond, List, [], ◌∷◌, ◌++◌, ℕ, ◌+◌, ◌*◌, ◌-◌, ◌≤◌, ◌<◌, length, eqb, leb, ltb}
+use Rattle.std.specs.Prelude.{◌≡◌, ◌≢◌, Bool, true, false, cond, List, ◌∷◌, ℕ, ◌+◌, ◌*◌, ◌-◌, ◌≤◌, ◌<◌, length, eqb, leb, ltb}
 use Rattle.sizes.specs.Sizes.{most_numbers, book_base}
 use Rattle.nodes.specs.Nodes.{Node, node, Ty, kind, number, nodes_at}
 use Rattle.nodes.specs.Lists.{All}

@@ -13,7 +13,6 @@ ghost use Rattle.operations_run.specs.Script.{script as script_rule};
 
 use board::{Board, clear_board};
 use book::{Book, Met, Rest, clear_book, compare, solve, write_out};
-use io::{print_decimal, write_all};
 use judgment::TypeError;
 use nodes::{clear_words, wide};
 use operations::{
@@ -64,51 +63,51 @@ fn chain(book: &mut [u32]) -> Book
     solve_by(book, b, k, 12, 1)
 }
 
-fn number(n: usize) {
-    let _done = print_decimal(1, n as u64);
+fn number(rt: &HostRuntime, n: usize) {
+    let _done = rt.print(n as u64);
 }
 
 // Writes out the place and the value of each word that is not 0.
-fn words(w: &[u32]) {
+fn words(rt: &HostRuntime, w: &[u32]) {
     let mut i = 0;
     while i < w.len() {
         let x = wide(w[i]);
         if x != 0 {
-            number(i);
-            let _space = write_all(1, b" ");
-            number(x);
-            let _end = write_all(1, b"\n");
+            number(rt, i);
+            let _space = rt.write_all(b" ");
+            number(rt, x);
+            let _end = rt.write_all(b"\n");
         }
         i += 1;
     }
 }
 
 // Writes out the counters, and whether the run goes on.
-fn show_counters(c: Run) {
+fn show_counters(rt: &HostRuntime, c: Run) {
     let board = c.counters.board;
     let book = c.book;
     let halt = c.halt;
-    number(wide(c.counters.fresh));
-    let _one = write_all(1, b" ");
-    number(board.entries);
-    let _two = write_all(1, b" ");
-    number(board.nodes);
-    let _three = write_all(1, b" ");
-    number(book.nodes);
-    let _four = write_all(1, b" ");
-    number(is_going(halt) as usize);
-    let _end = write_all(1, b"\n");
+    number(rt, wide(c.counters.fresh));
+    let _one = rt.write_all(b" ");
+    number(rt, board.entries);
+    let _two = rt.write_all(b" ");
+    number(rt, board.nodes);
+    let _three = rt.write_all(b" ");
+    number(rt, book.nodes);
+    let _four = rt.write_all(b" ");
+    number(rt, is_going(halt) as usize);
+    let _end = rt.write_all(b"\n");
 }
 
 // All that stands in the buffers and the counters.
-fn show(board: &[u32], book: &[u32], report: &[u32], c: Run) {
-    show_counters(c);
-    words(board);
-    words(book);
-    words(report);
+fn show(rt: &HostRuntime, board: &[u32], book: &[u32], report: &[u32], c: Run) {
+    show_counters(rt, c);
+    words(rt, board);
+    words(rt, book);
+    words(rt, report);
 }
 
-fn run(board: &mut [u32], book: &mut [u32], report: &mut [u32])
+fn run(rt: &HostRuntime, board: &mut [u32], book: &mut [u32], report: &mut [u32])
     requires { (board_size ≤ length board.old) × (book_size ≤ length book.old) × (usual_report ≤ length report.old) }
 {
     clear_board(board);
@@ -126,43 +125,43 @@ fn run(board: &mut [u32], book: &mut [u32], report: &mut [u32])
     };
     let c1 = script(board, book, report, start);
     let c2 = script(board, book, report, c1);
-    show(board, book, report, c2);
+    show(rt, board, book, report, c2);
     let c3 = refuse(c2, TypeError::BoardFull);
     let c4 = script(board, book, report, c3);
-    show(board, book, report, c4);
+    show(rt, board, book, report, c4);
 }
 
-fn show_met(m: Met) {
+fn show_met(rt: &HostRuntime, m: Met) {
     match m {
         Met::Same(_) => {
-            let _same = write_all(1, b"same\n");
+            let _same = rt.write_all(b"same\n");
         }
         Met::Differ => {
-            let _differ = write_all(1, b"differ\n");
+            let _differ = rt.write_all(b"differ\n");
         }
         Met::Over => {
-            let _over = write_all(1, b"over\n");
+            let _over = rt.write_all(b"over\n");
         }
     }
 }
 
 // Follows that chain from 0: compared with Int, and written out.
-fn follow(book: &[u32], out: &mut [u32])
+fn follow(rt: &HostRuntime, book: &[u32], out: &mut [u32])
     requires { ((b : BookOf) × Booked book.now b) × (sols book.now ≡ chained 999) × (2 ≤ length out.old) }
 {
     let first = [17u32, 0];
     let int = [12u32, 1];
-    show_met(compare(&first, &int, book, Rest::new(0, 0, 1, 1)));
+    show_met(rt, compare(&first, &int, book, Rest::new(0, 0, 1, 1)));
     let _wrote = write_out(&first, 0, 1, book, out, 0, 1);
-    words(out);
+    words(rt, out);
 }
 
-fn main() {
+fn main(rt: HostRuntime) {
     let mut board = [7u32; BOARD_SIZE + 2];
     let mut book = [7u32; BOOK_SIZE + 2];
     let mut report = [7u32; USUAL_REPORT + 1];
-    run(&mut board, &mut book, &mut report);
+    run(&rt, &mut board, &mut book, &mut report);
     let mut written = [0u32; 2];
     let _nodes = chain(&mut book);
-    follow(&book, &mut written);
+    follow(&rt, &book, &mut written);
 }

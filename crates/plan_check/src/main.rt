@@ -3,20 +3,20 @@
 
 use columns::ANSWER_BYTES;
 use input::Got;
-use io::write_all;
-use libc::{STDERR_FILENO, STDIN_FILENO};
 use sizes::{BOARD_SIZE, BOOK_SIZE, SHEET_BYTES, USUAL_REPORT};
 use telling::tell_out;
 
 // A sheet that fills its buffer is too long, and gets 3 as it stands.
-fn main() {
+fn main(rt: HostRuntime) {
     let mut sheet = [0u8; SHEET_BYTES + 1];
     let mut board = [0u32; BOARD_SIZE];
     let mut book = [0u32; BOOK_SIZE];
     let mut report = [0u32; USUAL_REPORT];
     let mut text = [0u8; ANSWER_BYTES];
+    let mut stdin = rt.stdin();
     let Got::To(_) = tell_out(
-        STDIN_FILENO,
+        &rt,
+        &mut stdin,
         b"",
         &mut sheet,
         &mut board,
@@ -24,7 +24,7 @@ fn main() {
         &mut report,
         &mut text,
     ) else {
-        let _told = write_all(STDERR_FILENO, b"plan_check: standard input was not read\n");
+        let _told = rt.eprintln("plan_check: standard input was not read");
         return;
     };
 }

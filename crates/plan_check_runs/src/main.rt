@@ -6,12 +6,46 @@ ghost use Rattle.telling.specs.Told.{ToldOf};
 
 use columns::ANSWER_BYTES;
 use input::Got;
-use os::fail;
 use sizes::{BOARD_SIZE, BOOK_SIZE, SHEET_BYTES, USUAL_REPORT};
+use std::env::FillError;
+use std::fs::File;
+use std::rt::{Env, Files};
+use std::str;
 use telling::tell_out;
 
+// Bytes of the longest argument that is read.
+const NAME_BYTES: usize = 4096;
+
 // As `plan_check` does, from a file in place of standard input.
-fn tell_file(
+fn tell_file<P: Files + Print + Eprint>(
+    rt: &P,
+    name: &str,
+    sheet: &mut [u8; SHEET_BYTES + 1],
+    board: &mut [u32],
+    book: &mut [u32],
+    report: &mut [u32],
+    text: &mut [u8; ANSWER_BYTES],
+) -> Got
+    ensures { (length sheet.new ≡ length sheet.old) × ToldOf result sheet.new (record { board = board.entry.now; book = book.old; report = report.old }) text.old text.new (record { board = board.exit.now; book = book.new; report = report.new }) }
+{
+    let Ok(mut file) = File::open(rt, name) else {
+        return Got::Failed;
+    };
+    tell_out(
+        rt,
+        &mut file,
+        name.as_bytes(),
+        sheet,
+        board,
+        book,
+        report,
+        text,
+    )
+}
+
+// The file that an argument names.
+fn tell_argument<P: Files + Print + Eprint>(
+    rt: &P,
     name: &[u8],
     sheet: &mut [u8; SHEET_BYTES + 1],
     board: &mut [u32],
@@ -21,37 +55,21 @@ fn tell_file(
 ) -> Got
     ensures { (length sheet.new ≡ length sheet.old) × ToldOf result sheet.new (record { board = board.entry.now; book = book.old; report = report.old }) text.old text.new (record { board = board.exit.now; book = book.new; report = report.new }) }
 {
-    let fd = os::open_read(name);
-    if fd < 0 {
+    let Ok(name) = str::from_utf8(name) else {
+        let _told = rt.eprintln("plan_check_runs: the name of a file is no text");
         return Got::Failed;
-    }
-    let got = tell_out(fd, name, sheet, board, book, report, text);
-    let _closed = libc::close(fd);
-    got
-}
-
-// The file that an argument names.
-fn tell_argument(
-    at: usize,
-    name: &mut [u8],
-    sheet: &mut [u8; SHEET_BYTES + 1],
-    board: &mut [u32],
-    book: &mut [u32],
-    report: &mut [u32],
-    text: &mut [u8; ANSWER_BYTES],
-) -> Got
-    ensures { (length sheet.new ≡ length sheet.old) × ToldOf result sheet.new (record { board = board.entry.now; book = book.old; report = report.old }) text.old text.new (record { board = board.exit.now; book = book.new; report = report.new }) }
-{
-    let bytes = os::arg(at, name);
-    let got = tell_file(&name[..bytes], sheet, board, book, report, text);
+    };
+    let got = tell_file(rt, name, sheet, board, book, report, text);
     if let Got::Failed = got {
-        fail(&name[..bytes]);
+        let _name = rt.eprint(name);
+        let _told = rt.eprintln(": not read");
     }
     got
 }
 
 // One after the other, in buffers that hold what the file before left.
-fn tell_arguments(
+fn tell_arguments<P: Env + Files + Print + Eprint>(
+    rt: &P,
     name: &mut [u8],
     sheet: &mut [u8; SHEET_BYTES + 1],
     board: &mut [u32],
@@ -59,19 +77,28 @@ fn tell_arguments(
     report: &mut [u32],
     text: &mut [u8; ANSWER_BYTES],
 ) {
-    for at in 1..os::arg_count() {
-        let _got = tell_argument(at, name, sheet, board, book, report, text);
+    for at in 1..usize::MAX {
+        match rt.arg(at, name) {
+            Ok(bytes) => {
+                let _got = tell_argument(rt, &name[..bytes], sheet, board, book, report, text);
+            }
+            Err(FillError::TooLong) => {
+                let _told = rt.eprintln("plan_check_runs: the name of a file is too long");
+            }
+            Err(FillError::NotPresent) => return,
+        }
     }
 }
 
-fn main() {
-    let mut name = io::buffer();
+fn main(rt: HostRuntime) {
+    let mut name = [0u8; NAME_BYTES];
     let mut sheet = [0u8; SHEET_BYTES + 1];
     let mut board = [0u32; BOARD_SIZE];
     let mut book = [0u32; BOOK_SIZE];
     let mut report = [0u32; USUAL_REPORT];
     let mut text = [0u8; ANSWER_BYTES];
     tell_arguments(
+        &rt,
         &mut name,
         &mut sheet,
         &mut board,

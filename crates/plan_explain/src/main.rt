@@ -7,8 +7,6 @@ ghost use Rattle.plan_explain.specs.Told.{Told, ToldOf};
 
 use checker::check_type;
 use input::{Got, fill};
-use io::write_all;
-use libc::{STDERR_FILENO, STDOUT_FILENO};
 use sentences::explain;
 use sizes::{BOARD_SIZE, BOOK_SIZE, HIGHEST_CEILING, SHEET_BYTES, USUAL_LIMIT, USUAL_REPORT};
 
@@ -27,14 +25,15 @@ fn tell(
     explain(text, answer, report)
 }
 
-fn write_out(text: &[u8]) {
-    if !write_all(STDOUT_FILENO, text) {
-        let _told = write_all(STDERR_FILENO, b"plan_explain: the answer was not written\n");
+fn write_out(rt: &HostRuntime, text: &[u8]) {
+    if rt.write_all(text).is_err() {
+        let _told = rt.eprintln("plan_explain: the answer was not written");
     }
 }
 
 // Of standard input: told, written out, and how many bytes that is. A sheet that fills the buffer is too long, and gets 3 as it stands.
 fn tell_input(
+    rt: &HostRuntime,
     sheet: &mut [u8],
     board: &mut [u32],
     book: &mut [u32],
@@ -44,23 +43,27 @@ fn tell_input(
     requires { (length report.old ≡ usual_report) × (48000 ≤ length text.old) }
     ensures { (length sheet.new ≡ length sheet.old) × ToldOf result sheet.new (record { board = board.entry.now; book = book.old; report = report.old }) text.old text.new (record { board = board.exit.now; book = book.new; report = report.new }) }
 {
-    let Got::To(n) = fill(sheet, 0) else {
-        let _told = write_all(
-            STDERR_FILENO,
-            b"plan_explain: standard input was not read\n",
-        );
+    let Got::To(n) = fill(rt, sheet, 0) else {
+        let _told = rt.eprintln("plan_explain: standard input was not read");
         return Got::Failed;
     };
     let end = tell(&sheet[..n], board, book, report, text);
-    write_out(&text[..end]);
+    write_out(rt, &text[..end]);
     Got::To(end)
 }
 
-fn main() {
+fn main(rt: HostRuntime) {
     let mut sheet = [0u8; SHEET_BYTES + 1];
     let mut board = [0u32; BOARD_SIZE];
     let mut book = [0u32; BOOK_SIZE];
     let mut report = [0u32; USUAL_REPORT];
     let mut text = [0u8; 48000];
-    let _told = tell_input(&mut sheet, &mut board, &mut book, &mut report, &mut text);
+    let _told = tell_input(
+        &rt,
+        &mut sheet,
+        &mut board,
+        &mut book,
+        &mut report,
+        &mut text,
+    );
 }

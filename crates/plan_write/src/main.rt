@@ -3,21 +3,20 @@
 #![tactic(auto)]
 
 use drafting::draft_out;
-use libc::{STDERR_FILENO, STDIN_FILENO, STDOUT_FILENO};
 use sizes::{MOST_LINES, PLAN_WORDS, SHEET_BYTES};
 
-fn main() {
-    let mut block = io::large_buffer();
+// Bytes that are read at once.
+const BLOCK_BYTES: usize = 65536;
+
+fn main(rt: HostRuntime) {
+    let mut block = [0u8; BLOCK_BYTES];
     let mut words = [0u64; PLAN_WORDS];
     let mut lines = [0u64; MOST_LINES];
     let mut sheet = [0u8; SHEET_BYTES];
+    let mut stdin = rt.stdin();
+    let stdout = rt.stdout();
+    let stderr = rt.stderr();
     let _outcome = draft_out(
-        STDIN_FILENO,
-        STDOUT_FILENO,
-        STDERR_FILENO,
-        &mut block,
-        &mut words,
-        &mut lines,
-        &mut sheet,
+        &mut stdin, &stdout, &stderr, &mut block, &mut words, &mut lines, &mut sheet,
     );
 }

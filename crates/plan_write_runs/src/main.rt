@@ -3,63 +3,80 @@
 #![tactic(auto)]
 
 use drafting::draft_out;
-use io::write_all;
-use libc::STDOUT_FILENO;
-use os::fail;
 use sizes::{MOST_LINES, PLAN_WORDS, SHEET_BYTES};
+use std::env::FillError;
+use std::fs::File;
+use std::rt::{Env, Files};
+use std::str;
+
+// Bytes of the longest argument that is read, and those that are read of a file at once.
+const NAME_BYTES: usize = 4096;
+
+const BLOCK_BYTES: usize = 65536;
 
 // As `plan_write` does, from a file in place of standard input. Answers whether it could be opened.
-fn write_file(
-    name: &[u8],
+fn write_file<P: Files + Print>(
+    rt: &P,
+    name: &str,
     block: &mut [u8],
     words: &mut [u64; PLAN_WORDS],
     lines: &mut [u64; MOST_LINES],
     sheet: &mut [u8; SHEET_BYTES],
 ) -> bool {
-    let fd = os::open_read(name);
-    if fd < 0 {
+    let Ok(mut file) = File::open(rt, name) else {
         return false;
-    }
-    let _name = write_all(STDOUT_FILENO, name);
-    let _end = write_all(STDOUT_FILENO, b"\n");
-    let _outcome = draft_out(fd, STDOUT_FILENO, STDOUT_FILENO, block, words, lines, sheet);
-    let _closed = libc::close(fd);
+    };
+    let _name = rt.println(name);
+    let _outcome = draft_out(&mut file, rt, rt, block, words, lines, sheet);
     true
 }
 
 // The file that an argument names.
-fn write_argument(
-    at: usize,
-    name: &mut [u8],
+fn write_argument<P: Files + Print + Eprint>(
+    rt: &P,
+    name: &[u8],
     block: &mut [u8],
     words: &mut [u64; PLAN_WORDS],
     lines: &mut [u64; MOST_LINES],
     sheet: &mut [u8; SHEET_BYTES],
 ) {
-    let bytes = os::arg(at, name);
-    if !write_file(&name[..bytes], block, words, lines, sheet) {
-        fail(&name[..bytes]);
+    let Ok(name) = str::from_utf8(name) else {
+        let _told = rt.eprintln("plan_write_runs: the name of a file is no text");
+        return;
+    };
+    if !write_file(rt, name, block, words, lines, sheet) {
+        let _name = rt.eprint(name);
+        let _told = rt.eprintln(": not read");
     }
 }
 
 // One after the other, in buffers that hold what the file before left.
-fn write_arguments(
+fn write_arguments<P: Env + Files + Print + Eprint>(
+    rt: &P,
     name: &mut [u8],
     block: &mut [u8],
     words: &mut [u64; PLAN_WORDS],
     lines: &mut [u64; MOST_LINES],
     sheet: &mut [u8; SHEET_BYTES],
 ) {
-    for at in 1..os::arg_count() {
-        write_argument(at, name, block, words, lines, sheet);
+    for at in 1..usize::MAX {
+        match rt.arg(at, name) {
+            Ok(bytes) => write_argument(rt, &name[..bytes], block, words, lines, sheet),
+            Err(FillError::TooLong) => {
+                let _told = rt.eprintln("plan_write_runs: the name of a file is too long");
+            }
+            Err(FillError::NotPresent) => return,
+        }
     }
 }
 
-fn main() {
-    let mut name = io::buffer();
-    let mut block = io::large_buffer();
+fn main(rt: HostRuntime) {
+    let mut name = [0u8; NAME_BYTES];
+    let mut block = [0u8; BLOCK_BYTES];
     let mut words = [0u64; PLAN_WORDS];
     let mut lines = [0u64; MOST_LINES];
     let mut sheet = [0u8; SHEET_BYTES];
-    write_arguments(&mut name, &mut block, &mut words, &mut lines, &mut sheet);
+    write_arguments(
+        &rt, &mut name, &mut block, &mut words, &mut lines, &mut sheet,
+    );
 }

@@ -17,9 +17,7 @@ ghost use Rattle.replay.specs.Replay.{Room, Wanted, called_on, left_by, AsWanted
 use checker::{check_type, check_type_strict};
 use columns::write_line;
 use input::{Got, fill};
-use io::{print_decimal, write_all};
 use judgment::Answer;
-use libc::{STDERR_FILENO, STDOUT_FILENO};
 use nodes::{clear_words, wide};
 use sizes::{
     BOARD_SIZE, BOOK_BASE, BOOK_SIZE, BOOK_STRIDE, LINE_LENGTH, MOST_LINES, MOST_NODES,
@@ -738,16 +736,16 @@ fn count(c: Counts, v: Verdict) -> Counts
 }
 
 // Tells which plan is not the same.
-fn tell(plan: u64, v: Verdict) {
+fn tell(rt: &HostRuntime, plan: u64, v: Verdict) {
     match v {
         Verdict::Same => {}
         Verdict::Differs => {
-            let _one = print_decimal(STDERR_FILENO, plan);
-            let _two = write_all(STDERR_FILENO, b" differs\n");
+            let _one = rt.eprint(plan);
+            let _two = rt.eprint(" differs\n");
         }
         Verdict::Malformed => {
-            let _one = print_decimal(STDERR_FILENO, plan);
-            let _two = write_all(STDERR_FILENO, b" is malformed\n");
+            let _one = rt.eprint(plan);
+            let _two = rt.eprint(" is malformed\n");
         }
     }
 }
@@ -759,6 +757,7 @@ fn is_comment(line: &[u8]) -> bool
 }
 
 fn replay_line(
+    rt: &HostRuntime,
     line: &[u8],
     c: Counts,
     sheet: &mut [u8],
@@ -775,7 +774,7 @@ fn replay_line(
     }
     let v = replay_record(line, sheet, board, book, report, want);
     let counts = count(c, v);
-    tell(counts.plans, v);
+    tell(rt, counts.plans, v);
     counts
 }
 
@@ -848,19 +847,19 @@ fn first_line(text: &[u8], at: usize, end: usize, more: bool) -> Step
 }
 
 // Holds the start of a line and fills the text behind it. A line longer than the text comes in parts, which are no records.
-fn refill(text: &mut [u8], at: usize, end: usize) -> Step
+fn refill(rt: &HostRuntime, text: &mut [u8], at: usize, end: usize) -> Step
     requires { (at ≤ end) × (end ≤ length text.old) }
     ensures { Refilled text.old at end text.new result }
 {
     let held = end - at;
     move_to_front(text, at, held);
-    let Got::To(n) = fill(text, held) else {
+    let Got::To(n) = fill(rt, text, held) else {
         return Step::Failed;
     };
     first_line(text, 0, n, n == text.len())
 }
 
-fn next_line(text: &mut [u8], u: Unread) -> Step
+fn next_line(rt: &HostRuntime, text: &mut [u8], u: Unread) -> Step
     requires { UnreadIn u (length text.old) }
     ensures { NextLine text.old u text.new result }
 {
@@ -870,22 +869,22 @@ fn next_line(text: &mut [u8], u: Unread) -> Step
         return first_line(text, at, end, u.more);
     }
     if u.more {
-        return refill(text, at, end);
+        return refill(rt, text, at, end);
     }
     first_line(text, at, end, false)
 }
 
-fn show(label: &[u8], n: u64) {
-    let _label = write_all(STDOUT_FILENO, label);
-    let _number = print_decimal(STDOUT_FILENO, n);
-    let _end = write_all(STDOUT_FILENO, b"\n");
+fn show(rt: &HostRuntime, label: &[u8], n: u64) {
+    let _label = rt.write_all(label);
+    let _number = rt.print(n);
+    let _end = rt.write_all(b"\n");
 }
 
-fn show_counts(c: Counts) {
-    show(b"plans ", c.plans);
-    show(b"the same ", c.same);
-    show(b"differing ", c.differing);
-    show(b"malformed ", c.malformed);
+fn show_counts(rt: &HostRuntime, c: Counts) {
+    show(rt, b"plans ", c.plans);
+    show(rt, b"the same ", c.same);
+    show(rt, b"differing ", c.differing);
+    show(rt, b"malformed ", c.malformed);
 }
 
 fn no_counts() -> Counts
@@ -913,6 +912,7 @@ fn nothing_read() -> Unread
 // Replays every line, and shows the counts if all could be read. The loop counts its turns down, from more than any input has
 // lines, since nothing says that the input ends.
 fn replay_all(
+    rt: &HostRuntime,
     text: &mut [u8],
     sheet: &mut [u8],
     board: &mut [u32],
@@ -926,26 +926,35 @@ fn replay_all(
     let mut unread = nothing_read();
     let mut turns = u64::MAX;
     while turns > 0 {
-        match next_line(text, unread) {
+        match next_line(rt, text, unread) {
             Step::Line(start, end, after) => {
-                counts = replay_line(&text[start..end], counts, sheet, board, book, report, want);
+                counts = replay_line(
+                    rt,
+                    &text[start..end],
+                    counts,
+                    sheet,
+                    board,
+                    book,
+                    report,
+                    want,
+                );
                 unread = after;
                 turns -= 1;
             }
             Step::Ended => {
-                show_counts(counts);
+                show_counts(rt, counts);
                 return;
             }
             Step::Failed => {
-                let _told = write_all(STDERR_FILENO, b"replay: standard input was not read\n");
+                let _told = rt.eprint("replay: standard input was not read\n");
                 return;
             }
         }
     }
-    show_counts(counts);
+    show_counts(rt, counts);
 }
 
-fn main() {
+fn main(rt: HostRuntime) {
     let mut text = [0u8; 131072];
     let mut sheet = [0u8; SHEET_ROOM];
     let mut board = [0u32; BOARD_SIZE + 16];
@@ -953,6 +962,7 @@ fn main() {
     let mut report = [0u32; USUAL_REPORT + 4];
     let mut want = [0u32; WANTED];
     replay_all(
+        &rt,
         &mut text,
         &mut sheet,
         &mut board,

@@ -2,22 +2,19 @@
 use mathlib.Core.Path.{◌≡◌, refl, sym, ap, ◌∙◌}
 use mathlib.Core.Bool.{Bool, true, false, cond, ◌&&◌}
 use mathlib.Core.List.{List, [], ◌∷◌}
-use mathlib.Core.Option.{Option, none, some}
 use Prim.Native.Nat.{ℕ, zero, suc, ◌+◌, ◌-◌, ◌≤◌, ◌<◌}
-use native.Mathlib.Nat.{add-zero, add_assoc}
+use native.Mathlib.Nat.{add-zero}
 use native.Mathlib.Numerals.{add-one}
 use native.Mathlib.Omega.{arith}
 use lib.ListN.{length, get_or, take, drop, drop_of_length-le}
 use lib.Dec.{eqb}
 use lib.Seq.{drop-cons}
-use Rattle.nodes.specs.Nodes.{Ty}
 use Rattle.nodes.specs.Parts.{take_parts, drop_parts}
 use Rattle.nodes.proofs.PartLaws.{length-take}
 use Rattle.spelling.specs.declared.Triple.{Triple}
 use Rattle.kinds.specs.Kinds.{parts_of}
-use Rattle.sheet.specs.declared.Found.{Found}
 use Rattle.sheet.specs.declared.Found.TheVariants.{At, Nothing}
-use Rattle.sheet.specs.Plan.{no_triple, part_line, nodes_of, is_entry, named, Declaration, declarations, find_in, end_from, find_entry, entries_end, Binding, ◌∶◌, Bindings, bindings_in, lookup, type_at}
+use Rattle.sheet.specs.Plan.{no_triple, part_line, nodes_of, is_entry, named, Declaration, declarations, find_in, end_from, entries_end, Binding, ◌∶◌, bindings_in, lookup, type_at}
 use Rattle.sheet.proofs.Lines.{drop-line, line-from}
 
 -- what a test of a line said, of the line that it is

@@ -1,21 +1,20 @@
 -- A sheet that is taken is formed: `formed`. A whole part splits into its parts: `split`. Assumes nothing.
-use mathlib.Core.Path.{◌≡◌, refl, sym, ap, ap₂, ◌∙◌, subst, subst⁻¹}
-use mathlib.Core.Bool.{Bool, true, false, cond, ◌&&◌}
-use mathlib.Core.List.{List, [], ◌∷◌, ◌++◌, append_assoc, append-nil, map}
-use Prim.Native.Nat.{ℕ, zero, suc, ◌+◌, ◌*◌, ◌-◌, ◌/◌, ◌≤◌, ◌<◌}
+use mathlib.Core.Path.{◌≡◌, refl, sym, ap, ◌∙◌, subst⁻¹}
+use mathlib.Core.Bool.{Bool, true, false, cond}
+use mathlib.Core.List.{List, [], ◌∷◌, ◌++◌, append_assoc, map}
+use Prim.Native.Nat.{ℕ, zero, suc, ◌+◌, ◌*◌, ◌≤◌}
 use native.Mathlib.Omega.{arith}
-use lib.ListN.{length, drop, take, replicate, length-append, length-replicate}
+use lib.ListN.{length, replicate, length-append, length-replicate}
 use lib.Dec.{eqb, leb}
-use borrow.Author.Tests.{eqb-true, eqb-false, eq-eqb, ne_eqb, leb-true}
+use borrow.Author.Tests.{leb-true}
 use Rattle.nodes.specs.Parts.{take_parts, drop_parts}
 use Rattle.spelling.specs.declared.Triple.{Triple}
 use Rattle.spelling.specs.declared.Line.{Line}
 use Rattle.spelling.specs.declared.Line.TheVariants.{Spelt, Misspelt}
-use Rattle.kinds.specs.declared.Head.{Head}
 use Rattle.kinds.specs.declared.Head.TheVariants.{Parts, No}
-use Rattle.kinds.specs.Kinds.{a_type, a_term, a_pattern, an_arm, nothing, row_of, begins, head_of, each_parts, parts_of, table}
+use Rattle.kinds.specs.Kinds.{a_type, a_term, a_pattern, an_arm, row_of, begins, head_of, each_parts, parts_of, table}
 use Rattle.kinds.proofs.Rows.{row-passes}
-use Rattle.grammar.specs.Grammar.{Item, part, entries, ok, due, arms, repeated, following, fits, parts_due, head_in, read}
+use Rattle.grammar.specs.Grammar.{Item, part, entries, ok, due, arms, repeated, following, fits, parts_due, read}
 use Rattle.grammar.specs.declared.Got.TheVariants.{Next}
 use Rattle.grammar.proofs.Laws.{one, no_line, bounds}
 use Rattle.sheet.specs.Plan.{triple_of}

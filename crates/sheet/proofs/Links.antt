@@ -1,19 +1,19 @@
 -- Laws of links: those that `link_entries` makes lead to every entry. Assumes nothing.
-use mathlib.Core.Path.{◌≡◌, refl, sym, ap, ap₂, ◌∙◌, subst, subst⁻¹}
+use mathlib.Core.Path.{◌≡◌, refl, sym, ap, ap₂, ◌∙◌, subst⁻¹}
 use mathlib.Core.Bool.{Bool, true, false, cond, ◌&&◌, false≢true}
-use mathlib.Core.List.{List, [], ◌∷◌}
+use mathlib.Core.List.{List, []}
 use Prim.Native.Nat.{ℕ, zero, suc, ◌+◌, ◌*◌, ◌-◌, ◌/◌, ◌%◌, ◌≤◌, ◌<◌}
 use native.Mathlib.Nat.{mod-lt}
 use native.Mathlib.Omega.{arith}
-use lib.Dec.{T, ltb, eqb, eqb→eq}
+use lib.Dec.{ltb, eqb}
 use borrow.Author.Tests.{eqb-true, eqb-false, lt-ltb, le-ltb, eq-eqb, ne_eqb}
-use lib.ListN.{length, get_or, set, drop, length-set}
+use lib.ListN.{length, get_or, set, length-set}
 use lib.Seq.{get_or-set_same, get_or-set_other, ext_get_or}
 use Rattle.spelling.specs.declared.Triple.{Triple}
 use Rattle.sheet.specs.declared.Found.{Found}
 use Rattle.sheet.specs.declared.Found.TheVariants.{At, Nothing}
 use Rattle.sheet.specs.Plan.{no_triple, part_line, is_entry, named, Declaration, find_in, find_entry}
-use Rattle.sheet.specs.Rows.{rows, row_triple, line_count, end_at, EndsFrom, first_at, next_at, linked_from, linked, placed, Linked, in_front, link_entry, Unlinked, link_all}
+use Rattle.sheet.specs.Rows.{rows, row_triple, line_count, EndsFrom, first_at, next_at, linked_from, linked, placed, Linked, in_front, link_entry, Unlinked, link_all}
 use Rattle.sheet.proofs.RowLaws.{length-rows, row_is}
 use Rattle.sheet.proofs.Lines.{line-from, line-inside}
 use Rattle.sheet.proofs.Declarations.{from, from_past, from-none, from_one, find-hit, find-turn, find_past}

@@ -7,18 +7,16 @@ use native.Mathlib.Nat.{zero-add, add-zero}
 use native.Mathlib.Omega.{arith}
 use lib.Dec.{T, ltb, eqb, eqb→eq}
 use borrow.Author.Tests.{ltb-true, ltb-false, eqb-false}
-use lib.ListN.{length, get_or, set, drop, length-set, length-replicate, get_or-replicate, drop_of_length-le, get_or-eq_default}
+use lib.ListN.{length, get_or, set, drop, length-set, length-replicate, get_or-replicate, get_or-eq_default}
 use lib.Seq.{sets, length-sets, get_or-set_same, get_or-set_other, get_or-drop, ext_get_or}
-use Rattle.sizes.specs.Sizes.{line_length, most_lines}
+use Rattle.sizes.specs.Sizes.{most_lines}
 use Rattle.nodes.specs.Nodes.{zeros}
 use Rattle.nodes.proofs.Laws.{getD-sets-below}
 use Rattle.spelling.specs.declared.Triple.{Triple}
-use Rattle.spelling.specs.declared.Line.{Line}
-use Rattle.spelling.specs.Spelling.{line_at}
 use Rattle.kinds.specs.Kinds.{parts_of}
-use Rattle.sheet.specs.Plan.{no_triple, triple_of, triples, part_line}
+use Rattle.sheet.specs.Plan.{no_triple, triples, part_line}
 use Rattle.sheet.specs.Rows.{packed, row_triple, rows_from, rows, line_count, EndsFrom, KindsFrom, set_row, Unlinked, row_words, unlinked_words}
-use Rattle.sheet.proofs.Lines.{triple-is, kind-small, count_small, line-turn, line-within}
+use Rattle.sheet.proofs.Lines.{kind-small, count_small, line-turn, line-within}
 
 -- ---- what a row holds
 length_from : (n : ℕ) (d : List ℕ) → length (rows_from n d) ≡ n

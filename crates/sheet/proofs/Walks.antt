@@ -1,10 +1,9 @@
 -- The walk over the parts of a line by their first lines. Assumes nothing.
 use mathlib.Core.Path.{◌≡◌, refl, sym, ap, ap₂, ◌∙◌}
 use mathlib.Core.Logic.{◌≢◌}
-use mathlib.Core.Bool.{Bool, true, false, cond, ◌&&◌, and-eq-true_iff}
+use mathlib.Core.Bool.{Bool, true, false, ◌&&◌, and-eq-true_iff}
 use mathlib.Core.List.{List, [], ◌∷◌, ◌++◌}
 use Prim.Native.Nat.{ℕ, zero, suc, ◌+◌, ◌*◌, ◌-◌, ◌%◌, ◌≤◌, ◌<◌}
-use native.Mathlib.Nat.{add-zero}
 use native.Mathlib.Omega.{arith}
 use lib.ListN.{length, get_or, drop, replicate, length-append, drop_of_length-le}
 use lib.Dec.{eqb}
@@ -17,10 +16,10 @@ use Rattle.grammar.specs.Grammar.{Item, part, entries, arms, repeated, following
 use Rattle.sheet.specs.declared.Walked.{Walked}
 use Rattle.sheet.specs.Plan.{no_triple, part_line}
 use Rattle.sheet.specs.Rows.{end_at, EndsFrom, KindsFrom}
-use Rattle.sheet.specs.Fit.{first_sort, meets, parts_after, line_fits, walked_over, walked}
+use Rattle.sheet.specs.Fit.{first_sort, meets, parts_after, walked_over, walked}
 use Rattle.sheet.proofs.Lines.{line-none, line-past, line-hop, line-from, drop-line}
 use Rattle.sheet.proofs.Declarations.{here}
-use Rattle.sheet.proofs.Forming.{AllParts, few-each}
+use Rattle.sheet.proofs.Forming.{AllParts}
 use Rattle.sheet.proofs.Fitting.{length-after}
 
 and_assoc : (a b c : Bool) → (a && (b && c)) ≡ ((a && b) && c)

@@ -3,7 +3,7 @@ use Rattle.std.specs.Prelude.{◌≡◌, true, List, [], ◌∷◌, ◌++◌, �
 use Rattle.nodes.specs.Parts.{take_parts}
 use Rattle.spelling.specs.declared.Triple.{Triple}
 use Rattle.spelling.specs.declared.Line.TheVariants.{Spelt}
-use Rattle.kinds.specs.Kinds.{a_type, a_term, a_pattern, parts_of}
+use Rattle.kinds.specs.Kinds.{a_type, a_term, parts_of}
 use Rattle.grammar.specs.Grammar.{Item, part, ok, due}
 use Rattle.sheet.specs.Plan.{Declaration, declarations, places_of}
 

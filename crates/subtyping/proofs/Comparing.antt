@@ -1,5 +1,5 @@
 -- Sub by what a comparison has met. Assumes nothing.
-use mathlib.Core.Path.{◌≡◌, refl, sym, ap, ap₂, ◌∙◌, subst, subst⁻¹}
+use mathlib.Core.Path.{◌≡◌, refl, sym, ap, ap₂, ◌∙◌, subst⁻¹}
 use mathlib.Core.Logic.{◌≢◌}
 use mathlib.Core.Bool.{Bool, true, false, cond, true≢false}
 use mathlib.Core.List.{List}
@@ -14,7 +14,7 @@ use Rattle.spelling.specs.declared.Triple.{Triple}
 use Rattle.judgment.specs.declared.TypeError.TheVariants.{TypeTooLong}
 use Rattle.judgment.specs.Types.{eq_ty}
 use Rattle.judgment.specs.Solutions.{Solutions, write_out}
-use Rattle.judgment.specs.Board.{Board as Entries, Rule, done, zonk, state}
+use Rattle.judgment.specs.Board.{Board as Entries, Rule, zonk, state}
 use Rattle.judgment.specs.Chain.{perform_o, zonk_o, perform_l}
 use Rattle.judgment.specs.Result.{Way, limits_in}
 use Rattle.judgment.specs.Rules.{subtype}

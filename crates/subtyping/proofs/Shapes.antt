@@ -1,14 +1,14 @@
 -- What a type's shape says of its view. Assumes nothing.
 use mathlib.Core.Path.{◌≡◌, refl, sym, ap, ap₂, ◌∙◌, subst}
 use mathlib.Core.Logic.{◌≢◌}
-use mathlib.Core.Bool.{Bool, true, false, cond, ◌&&◌, false≢true}
-use mathlib.Core.List.{List, [], ◌∷◌, ◌++◌}
-use Prim.Native.Nat.{ℕ, zero, suc, ◌+◌, ◌*◌, ◌-◌, ◌≤◌, ◌<◌}
+use mathlib.Core.Bool.{Bool, true, false, ◌&&◌, false≢true}
+use mathlib.Core.List.{List, [], ◌∷◌}
+use Prim.Native.Nat.{ℕ, zero, suc, ◌+◌, ◌-◌, ◌<◌}
 use native.Mathlib.Omega.{arith}
 use lib.Dec.{eqb}
-use lib.ListN.{length, get_or}
-use borrow.Author.Tests.{eq-eqb, ne_eqb, eqb-true}
-use Rattle.nodes.specs.Nodes.{Node, node, Ty, nodes_at}
+use lib.ListN.{get_or}
+use borrow.Author.Tests.{ne_eqb, eqb-true}
+use Rattle.nodes.specs.Nodes.{node, Ty, nodes_at}
 use Rattle.nodes.proofs.ListLaws.{cond_ind}
 use Rattle.nodes.proofs.Laws.{nodes_at-cons}
 use Rattle.judgment.specs.Types.{unknown, first, rest, null, View, is_arrow, is_app, is_forall, is_unknown, is_other, view}

@@ -1,8 +1,8 @@
 -- What the code of Sub cites: a type's view as a number, the words that it leaves in the report, and what a call asks. Assumes nothing: these are definitions.
-use Rattle.std.specs.Prelude.{◌≡◌, ◌≢◌, Bool, true, false, cond, List, [], ◌∷◌, ◌++◌, ℕ, suc, ◌+◌, ◌*◌, ◌-◌, ◌≤◌, ◌<◌, length, take}
+use Rattle.std.specs.Prelude.{◌≡◌, ◌≢◌, Bool, true, false, cond, List, ◌∷◌, ◌++◌, ℕ, suc, ◌+◌, ◌*◌, ◌≤◌, ◌<◌, length, take}
 use Rattle.std.proofs.lemmas.List.Edits.{sets}
 use Rattle.sizes.specs.Sizes.{most_nodes, most_numbers}
-use Rattle.nodes.specs.Nodes.{Node, node, Ty, kind, number, node_parts, words, nodes_at}
+use Rattle.nodes.specs.Nodes.{Node, node, Ty, kind, node_parts, words, nodes_at}
 use Rattle.nodes.specs.Parts.{Whole}
 use Rattle.nodes.specs.Lists.{All}
 use Rattle.judgment.specs.Types.{unknown, first, rest, View, is_arrow, is_app, is_forall, is_unknown, is_other, view, eq_ty, occurs, is_monotype, substitute}

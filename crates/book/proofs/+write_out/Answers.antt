@@ -36,11 +36,11 @@ loop-l-preserved t c =
     let some = c.loop-l-test.true in
     elim c.match-find.branch [
       | in-At+in-Fits w ↦
-        let f = told_at a.book.now (get_or a.src.now L.p 0) (get_or a.src.now (L.p + 1) 0) c.find.ensures w.in-At.is in
-        rw (w.out-is, w.m-is) (hit-turn L.invariant some f w.write_out.ensures _ w.write_out.auto.out w.in-Fits.is)
+          let f = told_at a.book.now (get_or a.src.now L.p 0) (get_or a.src.now (L.p + 1) 0) c.find.ensures w.in-At.is in
+          rw (w.out-is, w.m-is) (hit-turn L.invariant some f w.write_out.ensures _ w.write_out.auto.out w.in-Fits.is)
       | in-Nothing+else-end-m w ↦
-        let f = told_none a.book.now (get_or a.src.now L.p 0) (get_or a.src.now (L.p + 1) 0) c.find.ensures w.in-Nothing.is in
-        rw (w.out-is, w.m-is) (miss-turn L.invariant some f (let z = w.if-end-m.false in omega arith))
+          let f = told_none a.book.now (get_or a.src.now L.p 0) (get_or a.src.now (L.p + 1) 0) c.find.ensures w.in-Nothing.is in
+          rw (w.out-is, w.m-is) (miss-turn L.invariant some f (let z = w.if-end-m.false in omega arith))
     ]
 
 pub returns : goal.returns

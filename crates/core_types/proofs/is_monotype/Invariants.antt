@@ -1,5 +1,5 @@
 use mathlib.Core.Path.{◌≡◌}
-use Prim.Native.Nat.{◌+◌, ◌*◌, ◌-◌}
+use Prim.Native.Nat.{◌+◌, ◌*◌}
 use Rattle.nodes.specs.Nodes.{nodes_at}
 use Rattle.judgment.specs.Types.{is_monotype}
 use Rattle.core_types.proofs.is_monotype.Given as goal

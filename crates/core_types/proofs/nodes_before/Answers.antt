@@ -1,5 +1,4 @@
 use borrow.Author.Rules.{rules}
-use Prim.Native.Nat.{◌-◌}
 use native.Mathlib.Omega.{arith}
 use Rattle.core_types.proofs.Walks.{count-start, count_turn, count-hit, count-end}
 use Rattle.core_types.proofs.nodes_before.Goals as goal

@@ -1,6 +1,5 @@
 use borrow.Author.Rules.{rules}
 use mathlib.Core.Path.{refl, sym, ap, ◌∙◌}
-use Prim.Native.Nat.{◌-◌}
 use native.Mathlib.Omega.{arith}
 use Rattle.judgment.specs.Levels.{none_above}
 use Rattle.core_types.proofs.Walks.{above_hit, above-turn, nothing}

@@ -1,5 +1,5 @@
 use mathlib.Core.Path.{◌≡◌}
-use Prim.Native.Nat.{◌+◌, ◌*◌, ◌-◌}
+use Prim.Native.Nat.{◌+◌, ◌*◌}
 use Rattle.nodes.specs.Nodes.{nodes_at}
 use Rattle.judgment.specs.Levels.{none_above}
 use Rattle.core_types.proofs.none_above.Given as goal

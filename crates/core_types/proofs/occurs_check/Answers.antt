@@ -1,6 +1,5 @@
 use borrow.Author.Rules.{rules}
 use mathlib.Core.Path.{refl, sym, ap, ◌∙◌}
-use Prim.Native.Nat.{◌-◌}
 use native.Mathlib.Omega.{arith}
 use Rattle.judgment.specs.Types.{occurs}
 use Rattle.core_types.proofs.Walks.{occurs-hit, occurs-turn, nothing}

@@ -1,5 +1,5 @@
 use mathlib.Core.Path.{◌≡◌}
-use Prim.Native.Nat.{◌+◌, ◌*◌, ◌-◌}
+use Prim.Native.Nat.{◌+◌, ◌*◌}
 use Rattle.nodes.specs.Nodes.{nodes_at}
 use Rattle.judgment.specs.Types.{occurs}
 use Rattle.core_types.proofs.occurs_check.Given as goal

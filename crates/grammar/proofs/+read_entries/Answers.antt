@@ -1,5 +1,4 @@
 use mathlib.Core.Path.{sym, ◌∙◌}
-use Prim.Native.Nat.{◌-◌}
 use native.Mathlib.Omega.{arith}
 use Rattle.grammar.proofs.Laws.{within, beyond}
 use Rattle.grammar.proofs.Steps.{misspelt, not_entry, named, expected, entry-stop, entry_more}

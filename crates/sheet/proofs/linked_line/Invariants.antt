@@ -1,5 +1,4 @@
 use mathlib.Core.Path.{◌≡◌}
-use Prim.Native.Nat.{◌-◌}
 use Rattle.sheet.specs.Rows.{linked_from, linked}
 use Rattle.sheet.proofs.linked_line.Given as goal
 

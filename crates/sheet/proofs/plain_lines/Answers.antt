@@ -1,5 +1,4 @@
 use mathlib.Core.Path.{refl, ◌∙◌}
-use Prim.Native.Nat.{◌-◌}
 use native.Mathlib.Omega.{arith}
 use Rattle.sheet.specs.Rows.{rows}
 use Rattle.sheet.proofs.Marks.{plain_end, plain-forall, plain-lambda, plain_turn}

@@ -1,5 +1,5 @@
 use mathlib.Core.Path.{◌≡◌}
-use Prim.Native.Nat.{◌≤◌, ◌*◌, ◌-◌}
+use Prim.Native.Nat.{◌≤◌, ◌*◌}
 use lib.ListN.{length, drop}
 use Rattle.sizes.specs.Sizes.{most_lines}
 use Rattle.sheet.specs.Plan.{triples}

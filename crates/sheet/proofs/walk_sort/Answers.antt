@@ -1,5 +1,4 @@
 use mathlib.Core.Path.{refl, ◌∙◌}
-use Prim.Native.Nat.{◌-◌}
 use native.Mathlib.Omega.{arith}
 use Rattle.sheet.proofs.Walks.{sort-turn, sort-past, sort-done}
 use Rattle.sheet.proofs.walk_sort.Goals as goal

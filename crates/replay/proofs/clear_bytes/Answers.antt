@@ -1,0 +1,13 @@
+use Rattle.std.proofs.Common.{◌-◌, refl, arith, length-set, rules, below_none}
+use Rattle.replay.proofs.Laws.{fill_step, zeroed}
+use Rattle.replay.proofs.clear_bytes.Goals as goal
+
+pub loop-i-init : goal.loop-i-init
+loop-i-init c = (search rules, refl, below_none _)
+
+pub loop-i-preserved : goal.loop-i-preserved
+loop-i-preserved c = let v = c.loop-i.invariant in
+    (simp length-set (omega arith), simp length-set v.1, fill_step c.loop-i.bytes c.loop-i.i 0 c.loop-i-test.true v.2)
+
+pub returns : goal.returns
+returns c = zeroed c.loop-i.bytes c.args.bytes.now c.loop-i.invariant.1 (λ k h. c.loop-i.invariant.2 k (omega (arith, c.loop-i.invariant.1, c.loop-i-test.false)))
