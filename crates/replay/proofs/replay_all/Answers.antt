@@ -35,4 +35,4 @@ loop-turns-preserved c = let h = next-in c.next_line.auto.text c.loop-turns.inva
     let v = c.loop-turns.invariant in
     let k = c.replay_line-counts.auto in
     let n = c.next_line.auto.text in
-    (h.rest, n ∙ v.1, k.c ∙ v.2, k.sheet ∙ v.3, k.board ∙ v.4, k.book ∙ v.5, k.report ∙ v.6)
+    (h.rest, n ∙ v.1, k.sheet ∙ v.2, k.board ∙ v.3, k.book ∙ v.4, k.report ∙ v.5, k.want ∙ v.6)
