@@ -8,8 +8,8 @@ use native.Mathlib.Omega.{arith}
 use lib.ListN.{length, take, drop, length-drop}
 use Rattle.nodes.specs.Nodes.{Ty}
 use Rattle.nodes.specs.Lists.{All}
-use Rattle.nodes.specs.Parts.{take_parts, drop_parts}
-use Rattle.nodes.proofs.PartLaws.{is-take, length-take, drop-drop}
+use Rattle.nodes.specs.Parts.{take_parts}
+use Rattle.nodes.proofs.PartLaws.{is-take, length-take}
 use Rattle.spelling.specs.declared.Triple.{Triple}
 use Rattle.kinds.specs.Kinds.{parts_of}
 use Rattle.sheet.specs.Plan.{Narrow, Bindings, part_line}

@@ -12,9 +12,9 @@ use lib.ListN.{length, get_or, take, drop}
 use Rattle.nodes.specs.Nodes.{Node, node, Ty}
 use Rattle.spelling.specs.declared.Triple.{Triple}
 use Rattle.sheet.specs.Plan.{no_triple, line_node, nodes_of}
-use Rattle.sheet.specs.Rows.{rows, front_of, place_from, place_in, binder_of, binder_at, Bound}
+use Rattle.sheet.specs.Rows.{rows, front_of, place_from, place_in, binder_of, binder_at}
 use Rattle.sheet.proofs.Copies.{lines_cons}
-use Rattle.judgment.specs.Types.{Renaming, is_node, rename, rename_node, front_names}
+use Rattle.judgment.specs.Types.{Renaming, rename, rename_node, front_names}
 use Rattle.constructors.specs.Opening.{pairs, open_node, open_lines}
 
 -- ---- the names at the front, of lines and of nodes

@@ -3,7 +3,6 @@ use mathlib.Core.Path.{◌≡◌, refl, sym, ap, ap₂, ◌∙◌, subst}
 use mathlib.Core.Bool.{Bool, true, false}
 use mathlib.Core.List.{List, [], ◌∷◌}
 use Prim.Native.Nat.{ℕ, zero, suc, ◌+◌, ◌*◌, ◌-◌, ◌≤◌, ◌<◌}
-use native.Mathlib.Nat.{add-zero}
 use native.Mathlib.Numerals.{add-one, add-two}
 use native.Mathlib.Omega.{arith}
 use lib.Dec.{eqb}
@@ -15,13 +14,13 @@ use Rattle.nodes.proofs.ListLaws.{all-of-take, all-of-drop}
 use Rattle.nodes.proofs.Laws.{nodes_at-same}
 use Rattle.spelling.specs.declared.Triple.{Triple}
 use Rattle.sheet.specs.Plan.{no_triple, line_node, nodes_of, Narrow}
-use Rattle.sheet.specs.Rows.{rows, front_of, binder_at, binder_of, Bound}
+use Rattle.sheet.specs.Rows.{rows, front_of, binder_at, Bound}
 use Rattle.judgment.specs.Types.{rename, front_names, after_front}
 use Rattle.judgment.specs.Board.{Rule}
 use Rattle.judgment.specs.Rules.{instantiate_constructor}
 use Rattle.judgment.specs.Result.{Way}
 use Rattle.operations.specs.declared.Run.{Run}
-use Rattle.operations.specs.State.{came_to, perform_c, WellFormed, Does}
+use Rattle.operations.specs.State.{WellFormed, Does}
 use Rattle.constructors.specs.declared.Opened.{Opened}
 use Rattle.constructors.specs.Opening.{pairs, Named, opened_of, Opens, open_node, open_lines}
 use Rattle.constructors.proofs.Binders.{front-names, lines-opened}

@@ -11,7 +11,7 @@ use Rattle.nodes.specs.Nodes.{node, Ty}
 use Rattle.nodes.proofs.ListLaws.{cond_ind}
 use Rattle.spelling.specs.declared.Triple.{Triple}
 use Rattle.judgment.specs.declared.TypeError.TheVariants.{BoardFull}
-use Rattle.judgment.specs.Board.{Rule, done, tvar, var, sub, inf, chk, inf_app, entry_nodes, fresh, push, own}
+use Rattle.judgment.specs.Board.{Rule, done, tvar, var, sub, inf, chk, inf_app, entry_nodes, push, own}
 use Rattle.judgment.specs.Rules.{fresh_unknown}
 use Rattle.judgment.specs.Result.{Way}
 use Rattle.board.specs.Board.{term_at, entry_of, Stacked, laid}

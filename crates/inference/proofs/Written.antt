@@ -6,7 +6,7 @@ use native.Mathlib.Omega.{arith}
 use lib.ListN.{length, set, take, drop, length-set, length-append, length-take, length-drop}
 use lib.Seq.{sets, take-append_seam, drop-append_seam}
 use Rattle.nodes.specs.Nodes.{Ty, words, nodes_at}
-use Rattle.nodes.proofs.Laws.{length-words, length-nodes_at, two-more, nodes_at-same, take-nodes_at, drop-nodes_at}
+use Rattle.nodes.proofs.Laws.{two-more, nodes_at-same, take-nodes_at, drop-nodes_at}
 use Rattle.spelling.specs.declared.Triple.{Triple}
 use Rattle.sheet.specs.Plan.{nodes_of}
 use Rattle.sheet.specs.Rows.{rows}

@@ -12,7 +12,7 @@ use Rattle.nodes.proofs.ListLaws.{cond_ind}
 use Rattle.spelling.specs.declared.Triple.{Triple}
 use Rattle.judgment.specs.declared.TypeError.{TypeError}
 use Rattle.judgment.specs.declared.TypeError.TheVariants.{ArityMismatch}
-use Rattle.judgment.specs.Board.{Entry, sub, var, chk, entry_nodes, Limits, Rule, done, refuse, push, Outcome, finished, refused}
+use Rattle.judgment.specs.Board.{Entry, sub, var, chk, entry_nodes, Rule, done, refuse, push}
 use Rattle.judgment.specs.Result.{Way}
 use Rattle.board.specs.Board.{term_at, entry_of}
 use Rattle.board.specs.Board.{fitting as fits_board}

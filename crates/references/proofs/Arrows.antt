@@ -1,6 +1,6 @@
 -- Lines of types: their parts are those of their nodes, and an Arrow's two parts stand where the lines' ends say. Assumes nothing.
-use mathlib.Core.Path.{◌≡◌, refl, sym, ap, ◌∙◌, subst, subst⁻¹}
-use mathlib.Core.Bool.{Bool, true, false, ◌&&◌, and-eq-true_iff}
+use mathlib.Core.Path.{◌≡◌, refl, sym, ap, ◌∙◌, subst}
+use mathlib.Core.Bool.{Bool, true, false, and-eq-true_iff}
 use mathlib.Core.List.{List, [], ◌∷◌, ◌++◌, append_assoc}
 use Prim.Native.Nat.{ℕ, zero, suc, ◌+◌, ◌-◌, ◌≤◌, ◌<◌}
 use native.Mathlib.Nat.{add-zero}
@@ -8,11 +8,10 @@ use native.Mathlib.Omega.{arith}
 use lib.Dec.{eqb}
 use borrow.Author.Tests.{eqb-true}
 use lib.ListN.{length, get_or, take, drop, length-take, length-drop, take-append-drop}
-use Rattle.nodes.specs.Nodes.{node, Ty, node_parts}
+use Rattle.nodes.specs.Nodes.{Ty, node_parts}
 use Rattle.nodes.specs.Parts.{take_parts, drop_parts, Whole}
 use Rattle.nodes.specs.Lists.{All}
 use Rattle.nodes.proofs.PartLaws.{is-take, is-drop, take-drop}
-use Rattle.nodes.proofs.PartLaws as parts
 use Rattle.nodes.proofs.Wholes.{whole_split, whole-few}
 use Rattle.nodes.proofs.Wholes as wholes
 use Rattle.spelling.specs.declared.Triple.{Triple}

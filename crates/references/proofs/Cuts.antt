@@ -1,15 +1,14 @@
 -- Parts of renamed types. Assumes nothing.
-use mathlib.Core.Path.{◌≡◌, refl, ap, ap₂, ◌∙◌}
+use mathlib.Core.Path.{◌≡◌, refl, ap, ◌∙◌}
 use mathlib.Core.Bool.{Bool, true, false, cond, ◌&&◌}
-use mathlib.Core.List.{List, [], ◌∷◌}
+use mathlib.Core.List.{[], ◌∷◌}
 use Prim.Native.Nat.{ℕ, zero, suc, ◌+◌}
-use native.Mathlib.Omega.{arith}
 use lib.Dec.{eqb}
 use borrow.Author.Tests.{eqb-true}
 use lib.ListN.{length, take, drop}
 use Rattle.nodes.specs.Nodes.{Node, node, Ty, node_parts}
 use Rattle.nodes.specs.Parts.{take_parts, drop_parts}
-use Rattle.judgment.specs.Types.{first, rest, is_node, Renaming, rename, rename_node}
+use Rattle.judgment.specs.Types.{first, rest, Renaming, rename, rename_node}
 use Rattle.judgment.proofs.WholeTypes.{rename_node-parts}
 use Rattle.references.specs.Signatures.{arrow_head, params, result}
 

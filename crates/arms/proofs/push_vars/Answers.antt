@@ -1,5 +1,4 @@
 use mathlib.Core.Path.{refl, sym, ◌∙◌}
-use Prim.Native.Nat.{◌-◌}
 use native.Mathlib.Omega.{arith}
 use Rattle.sheet.specs.Rows.{rows}
 use Rattle.arms.proofs.Vars.{vars-start, vars-turn, vars-halt, vars-end, row-good, row_fits}

@@ -1,5 +1,4 @@
 use mathlib.Core.Path.{ap, ◌∙◌}
-use Prim.Native.Nat.{◌-◌}
 use native.Mathlib.Omega.{arith}
 use Rattle.input.specs.declared.Got.TheVariants.{To}
 use Rattle.input.proofs.Laws.{read-from-on, none_filled, then-as}

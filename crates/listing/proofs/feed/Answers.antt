@@ -1,4 +1,4 @@
-use Rattle.std.proofs.Common.{◌-◌, sym, refl, ◌∙◌, arith, rules}
+use Rattle.std.proofs.Common.{sym, refl, ◌∙◌, arith, rules}
 use Rattle.listing.proofs.Laws.{roomy-step, kept, fed-again, fed-done}
 use Rattle.listing.proofs.feed.Goals as goal
 
