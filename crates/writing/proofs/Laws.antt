@@ -2,20 +2,19 @@
 use mathlib.Core.Path.{◌≡◌, refl, sym, ap, ◌∙◌}
 use mathlib.Core.Bool.{Bool, true, false, cond, ◌&&◌, and-eq-true_iff}
 use mathlib.Core.List.{List, [], ◌∷◌, ◌++◌, map, append_assoc}
-use Prim.Native.Nat.{ℕ, zero, suc, ◌+◌, ◌*◌, ◌-◌, ◌/◌, ◌^◌, ◌≤◌, ◌<◌}
+use Prim.Native.Nat.{ℕ, suc, ◌+◌, ◌*◌, ◌-◌, ◌/◌, ◌^◌, ◌≤◌, ◌<◌}
 use native.Mathlib.Omega.{arith}
 use native.Mathlib.Nat.{sub-zero}
 use native.Mathlib.Numerals.{add-one}
-use lib.ListN.{length, get_or, set, take, drop, length-append, length-drop}
+use lib.ListN.{length, get_or, set, drop, length-append, length-drop}
 use lib.Dec.{ltb, leb, eqb}
 use lib.Seq.{sets, take_at, drop_at, drop-cons}
 use borrow.Author.Tests.{lt-ltb, ltb-true, le-leb, lt-leb, leb-true, eq-eqb, eqb-true}
 use Rattle.sizes.specs.Sizes.{line_length, triple_words}
 use Rattle.nodes.proofs.Laws.{sets-append}
 use Rattle.spelling.specs.declared.Triple.{Triple}
-use Rattle.spelling.specs.declared.Line.{Line}
 use Rattle.spelling.specs.declared.Line.TheVariants.{Spelt, Misspelt}
-use Rattle.spelling.specs.Spelling.{line_at, lines_from, lines_of, first_misspelt}
+use Rattle.spelling.specs.Spelling.{line_at, lines_from, first_misspelt}
 use Rattle.spelling.specs.Text.{line_text, line_bytes, Fair}
 use Rattle.spelling.proofs.Texts.{length-text, reads-back}
 use Rattle.kinds.specs.declared.Head.{Head}

@@ -1,8 +1,8 @@
 -- The sheet of triples that are taken reads as them, and no other does; triples that are not taken are those of no sheet. Assumes nothing.
 use mathlib.Core.Path.{◌≡◌, refl, sym, ap, ◌∙◌}
 use mathlib.Core.Bool.{Bool, true, false, cond, ◌&&◌, and-eq-true_iff}
-use mathlib.Core.List.{List, [], ◌∷◌, ◌++◌, map}
-use Prim.Native.Nat.{ℕ, zero, suc, ◌+◌, ◌*◌, ◌-◌, ◌/◌, ◌%◌, ◌^◌, ◌≤◌, ◌<◌}
+use mathlib.Core.List.{List, [], ◌∷◌, map}
+use Prim.Native.Nat.{ℕ, zero, suc, ◌+◌, ◌*◌, ◌/◌, ◌%◌, ◌^◌, ◌≤◌, ◌<◌}
 use native.Mathlib.Omega.{arith}
 use native.Mathlib.Nat.{sub-zero}
 use lib.ListN.{length, take, drop, length-take}
@@ -14,23 +14,21 @@ use Rattle.spelling.specs.declared.Triple.{Triple}
 use Rattle.spelling.specs.declared.Line.{Line}
 use Rattle.spelling.specs.declared.Line.TheVariants.{Spelt, Misspelt}
 use Rattle.spelling.specs.Spelling.{line_at, lines_from, lines_of, first_misspelt}
-use Rattle.spelling.specs.Text.{line_text}
 use Rattle.spelling.proofs.Laws.{length-lines}
 use Rattle.spelling.proofs.Texts.{only, fair}
 use Rattle.grammar.specs.declared.Got.{Got}
 use Rattle.grammar.specs.declared.Got.TheVariants.{Next, Refused}
-use Rattle.grammar.specs.declared.Check.{Check}
 use Rattle.grammar.specs.declared.Check.TheVariants.{Plan, Length, Unfit}
 use Rattle.grammar.specs.Grammar.{entries, read, read_at}
-use Rattle.grammar.specs.Check.{length_ok, end_of, read_sheet, fitting, misspelt_first, check, check_line}
+use Rattle.grammar.specs.Check.{length_ok, end_of, read_sheet, fitting, check}
 use Rattle.grammar.proofs.Laws.{all-spelt}
 use Rattle.grammar.proofs.Lines.{line_small}
 use Rattle.sheet.specs.Plan.{triple_of, triples}
 use Rattle.sheet.proofs.Formed.{cond-plan, whole-read}
 use Rattle.judgment.specs.declared.Answer.{Answer}
 use Rattle.judgment.specs.Result.{refused_at}
-use Rattle.writing.specs.Writing.{said, tame, triples_from, triples_of, read_triples, sheet_text, words_ok, Wrote, unwritten, laid_out, by_verdict, write_call, Reads, Only, Written}
-use Rattle.writing.proofs.Laws.{fair-sayable, length-sheet, length-map, length-tame, lines-count, lines-tame, reads-tame, end-next, taken-tame}
+use Rattle.writing.specs.Writing.{said, tame, triples_from, triples_of, read_triples, sheet_text, words_ok, Wrote, unwritten, by_verdict, write_call, Reads, Only, Written}
+use Rattle.writing.proofs.Laws.{fair-sayable, length-sheet, length-map, length-tame, lines-count, lines-tame, reads-tame, taken-tame}
 
 -- ---- the text of triples is well spelt, so the reader's verdict is its check
 first-spelt : (ts : List Triple) → first_misspelt (map Spelt ts) ≡ length ts

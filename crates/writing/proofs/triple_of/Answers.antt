@@ -1,5 +1,4 @@
 use native.Mathlib.Omega.{arith}
-use Prim.Native.Nat.{◌-◌}
 use Rattle.writing.proofs.Laws.{below-zero, from_zero}
 use Rattle.writing.proofs.triple_of.Goals as goal
 

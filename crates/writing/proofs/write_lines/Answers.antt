@@ -1,5 +1,5 @@
 use mathlib.Core.Path.{refl, sym, ap, ◌∙◌}
-use Prim.Native.Nat.{◌-◌, ◌*◌}
+use Prim.Native.Nat.{◌*◌}
 use lib.Seq.{sets}
 use borrow.Author.Rules.{rules}
 use Rattle.sizes.specs.Sizes.{line_length}
