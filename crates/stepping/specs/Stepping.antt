@@ -1,5 +1,5 @@
 -- One step: which outcome of the definition's run stands in the words before and after it, and what it asks. Assumes nothing: these are definitions.
-use Rattle.std.specs.Prelude.{◌≡◌, Bool, true, List, [], ◌∷◌, ℕ, ◌+◌, ◌*◌, ◌≤◌, ◌<◌, max, length}
+use Rattle.std.specs.Prelude.{◌≡◌, Bool, true, List, ℕ, ◌+◌, ◌*◌, ◌≤◌, ◌<◌, max, length}
 use Rattle.sizes.specs.Sizes.{most_nodes, board_size}
 use Rattle.nodes.specs.Nodes.{nodes_at}
 use Rattle.nodes.specs.Lists.{All}
