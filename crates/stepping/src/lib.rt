@@ -85,7 +85,7 @@ fn kept_of(run: Run, limit: usize, strict: bool) -> Kept
     }
 }
 
-// One step: takes the newest entry. The slices have one lifetime here and in the two functions below, so that a proof by hand has one token for them all.
+// One step: takes the newest entry. The slices have one lifetime here and in the two functions below.
 fn step_apart<'a>(
     c: Counters,
     kept: Kept,
@@ -160,7 +160,7 @@ fn step_lent<'c, 'a>(
     q.kept
 }
 
-// Lends them. Its parameters are plain, so whoever calls it needs no proof by hand.
+// Lends them. Its parameters are plain.
 fn lend_step<'a>(
     c: Counters,
     kept: Kept,
