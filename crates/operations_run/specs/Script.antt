@@ -1,6 +1,5 @@
 -- A rule made of fresh numbers, pushes, a solution and a write-out, for the run on real buffers. Assumes nothing: these are definitions.
-use Rattle.std.specs.Prelude.{List, [], ◌∷◌, ℕ}
-use Rattle.nodes.specs.Nodes.{node, Ty}
+use Rattle.nodes.specs.Nodes.{node}
 use Rattle.judgment.specs.Types.{unknown, arrow}
 use Rattle.judgment.specs.Board.{own, tvar, var, sub, Rule, done, fresh, push, solve, zonk, ◌>>=◌, ◌>>◌}
 

@@ -1,5 +1,4 @@
 use mathlib.Core.Path.{refl, sym, ◌∙◌}
-use Prim.Native.Nat.{◌-◌}
 use native.Mathlib.Omega.{arith}
 use Rattle.checker.proofs.Ending.{loop-start, more-facts, loop-turn, loop-end}
 use Rattle.checker.proofs.solve.Goals as goal

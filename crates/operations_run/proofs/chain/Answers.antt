@@ -1,5 +1,5 @@
 use mathlib.Core.Path.{refl, ap, ◌∙◌}
-use Prim.Native.Nat.{◌+◌, ◌-◌}
+use Prim.Native.Nat.{◌+◌}
 use native.Mathlib.Omega.{arith}
 use Rattle.operations_run.proofs.Chaining.{chain-starts, chain-turn, chain-ends}
 use Rattle.operations_run.proofs.chain.Goals as goal
