@@ -3,6 +3,6 @@
 cd "$(dirname "$0")/.." || exit 2
 mkdir -p target/bin || exit 2
 for name in "$@"; do
-    (cd "crates/$name" && rt run < /dev/null > /dev/null) || true
+    (cd "crates/$name" && rm -f "out/$name" && rt run < /dev/null > /dev/null) || exit 1
     cp "crates/$name/out/$name" target/bin/ || exit 1
 done

@@ -68,7 +68,7 @@ fn seven(a: Answer) -> [u32; 7]
     ]
 }
 
-// The checker's entry call. `result` gets the seven numbers; the answer is the first of them.
+// The checker's entry call. `res` gets the seven numbers; the answer is the first of them.
 pub fn kirvoghus_check_type(
     sheet: &[u8],
     ceiling: u32,
@@ -102,7 +102,7 @@ pub fn kirvoghus_check_type_strict(
     a.number
 }
 
-// A plan's triples written as a sheet at the front of `out`. `result` and the answer as above.
+// A plan's triples written as a sheet at the front of `out`. `res` and the answer as above.
 pub fn kirvoghus_write_sheet(triples: &[u64], out: &mut [u8], res: &mut [u32; 7]) -> u32
     ensures { GivenSheet triples.now out.old result res.new out.new }
 {

@@ -9,13 +9,13 @@ ghost use Rattle.nodes.specs.Nodes.{Ty};
 ghost use Rattle.judgment.specs.Solutions.{Solutions};
 ghost use Rattle.judgment.specs.Levels.{Levels, first_call, strict_call};
 ghost use Rattle.judgment.specs.Result.{board_words, book_words, report_words};
-ghost use Rattle.exports.specs.Interface.{Given, term_on, version, Least, Highest, HighestLimit, Longest, OneLine};
+ghost use Rattle.exports.specs.Interface.{Given, GivenSheet, term_on, version, Least, Highest, HighestLimit, Longest, OneLine};
 
 use exports::{
     kirvoghus_board_words, kirvoghus_book_words, kirvoghus_ceiling, kirvoghus_check_type,
     kirvoghus_check_type_strict, kirvoghus_limit, kirvoghus_limit_most, kirvoghus_line_bytes,
     kirvoghus_read_sheet, kirvoghus_report_words, kirvoghus_sheet_bytes, kirvoghus_term_bytes,
-    kirvoghus_version,
+    kirvoghus_version, kirvoghus_write_sheet,
 };
 use sizes::{BOARD_SIZE, BOOK_SIZE, USUAL_REPORT};
 
@@ -57,6 +57,12 @@ fn check_type_strict(
     ensures { Given strict_call sheet.now ceiling limit (record { board = board.entry.now; book = book.old; report = report.old }) result res.new (record { board = board.exit.now; book = book.new; report = report.new }) }
 {
     kirvoghus_check_type_strict(sheet, ceiling, limit, board, book, report, res)
+}
+
+fn write_sheet(triples: &[u64], out: &mut [u8], res: &mut [u32; 7]) -> u32
+    ensures { GivenSheet triples.now out.old result res.new out.new }
+{
+    kirvoghus_write_sheet(triples, out, res)
 }
 
 fn version() -> u32

@@ -9,6 +9,7 @@ use input::Got;
 use sizes::{BOARD_SIZE, BOOK_SIZE, SHEET_BYTES, USUAL_REPORT};
 use std::env::FillError;
 use std::fs::File;
+use std::io::Read;
 use std::rt::{Env, Files};
 use std::str;
 use telling::tell_out;
@@ -16,7 +17,28 @@ use telling::tell_out;
 // Bytes of the longest argument that is read.
 const NAME_BYTES: usize = 4096;
 
-// As `plan_check` does, from a file in place of standard input.
+// As `plan_check` does, from an open file in place of standard input.
+fn tell_opened<P: Print + Eprint, R: Read>(
+    rt: &P,
+    file: &mut R,
+    name: &str,
+    sheet: &mut [u8; SHEET_BYTES + 1],
+    board: &mut [u32],
+    book: &mut [u32],
+    report: &mut [u32],
+    text: &mut [u8; ANSWER_BYTES],
+) -> Got
+    ensures { (length sheet.new ≡ length sheet.old) × ToldOf result sheet.new (record { board = board.entry.now; book = book.old; report = report.old }) text.old text.new (record { board = board.exit.now; book = book.new; report = report.new }) }
+{
+    let got = tell_out(rt, file, name.as_bytes(), sheet, board, book, report, text);
+    if let Got::Failed = got {
+        let _name = rt.eprint(name);
+        let _told = rt.eprintln(": not read");
+    }
+    got
+}
+
+// The file of that name.
 fn tell_file<P: Files + Print + Eprint>(
     rt: &P,
     name: &str,
@@ -28,19 +50,15 @@ fn tell_file<P: Files + Print + Eprint>(
 ) -> Got
     ensures { (length sheet.new ≡ length sheet.old) × ToldOf result sheet.new (record { board = board.entry.now; book = book.old; report = report.old }) text.old text.new (record { board = board.exit.now; book = book.new; report = report.new }) }
 {
-    let Ok(mut file) = File::open(rt, name) else {
-        return Got::Failed;
-    };
-    tell_out(
-        rt,
-        &mut file,
-        name.as_bytes(),
-        sheet,
-        board,
-        book,
-        report,
-        text,
-    )
+    match File::open(rt, name) {
+        Ok(mut file) => tell_opened(rt, &mut file, name, sheet, board, book, report, text),
+        Err(e) => {
+            let _name = rt.eprint(name);
+            let _colon = rt.eprint(": ");
+            let _told = rt.eprintln(e);
+            Got::Failed
+        }
+    }
 }
 
 // The file that an argument names.
@@ -59,12 +77,7 @@ fn tell_argument<P: Files + Print + Eprint>(
         let _told = rt.eprintln("plan_check_runs: the name of a file is no text");
         return Got::Failed;
     };
-    let got = tell_file(rt, name, sheet, board, book, report, text);
-    if let Got::Failed = got {
-        let _name = rt.eprint(name);
-        let _told = rt.eprintln(": not read");
-    }
-    got
+    tell_file(rt, name, sheet, board, book, report, text)
 }
 
 // One after the other, in buffers that hold what the file before left.
