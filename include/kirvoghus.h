@@ -1,7 +1,7 @@
 /*
  * Kirvoghus: checks a response plan, written down as a sheet.
  *
- * Link with libexports.a, which `rt staticlib exports` builds. The library
+ * Link with libexports.a, which `tools/library.sh` builds. The library
  * keeps nothing between calls, so calls with buffers of their own may run at
  * the same time. Of the sheets that were measured, a plan took at most 0.38 MB of
  * stack, however deeply it is nested, and a sheet that is none (4 or 5) at most

@@ -2,13 +2,14 @@
 """definition.py RECORDS [--chunk N] [--limits E,N,W,F,S|none]: the definition of the judgment rules beside the Rust's recorded answers.
 
 RECORDS is a file in the format of src/record.rs, as `reference generate --answers` and `reference record` write it. The
-repository is copied to a temporary folder, and there a crate is added whose one theorem says, by computation in the prover,
+definitions are copied to a temporary folder, and there a crate is added whose one theorem says, by computation in the prover,
 that `judge` gives for every plan of a chunk, by the rule of its call, the recorded seven numbers, report types, solutions in
 order and levels. Plans refused before a run (1 to 5) are left out, and so are raw records, which are calls with any bytes. Run
 it anywhere inside the repository; it needs `rt`. Exit status 1 at a difference.
 """
 import argparse, itertools, os, shutil, subprocess, sys, tempfile
 from collections import namedtuple
+from lies import TOP, checking, types_of, write
 
 DEPS = "sizes nodes spelling kinds grammar sheet judgment"
 OPENED = {
@@ -137,24 +138,24 @@ def theorem(name, plans, opened):
 
 
 def workplace(folder):
-    """A copy of the repository's crates in `folder`, with a crate `compare` above judgment."""
-    top = subprocess.run(["git", "rev-parse", "--show-toplevel"], capture_output=True, text=True, check=True).stdout.strip()
-    shutil.copytree(os.path.join(top, "crates"), os.path.join(folder, "crates"))
-    shutil.copy(os.path.join(top, "crates.txt"), folder)
-    for part in ("src", "specs"):
-        os.makedirs(os.path.join(folder, "crates/compare", part))
-    open(os.path.join(folder, "crates/compare/src/lib.rt"), "w").write("// No code.\n")
-    open(os.path.join(folder, "crates/compare/specs/Lib.antt"), "w").write("pub mod Same\n")
-    with open(os.path.join(folder, "crates.txt"), "a") as f:
-        f.write(f"compare: {DEPS}\n")
+    """A copy of the definitions in `folder`, with no code and no proof, and a crate `compare` above judgment."""
+    for crate in DEPS.split():
+        own = os.path.join(TOP, "crates", crate)
+        write(os.path.join(folder, "crates", crate, "src/lib.rt"), types_of(open(os.path.join(own, "src/lib.rt"), encoding="utf-8").read()))
+        if os.path.isdir(os.path.join(own, "specs")):
+            shutil.copytree(os.path.join(own, "specs"), os.path.join(folder, "crates", crate, "specs"))
+    write(os.path.join(folder, "crates/compare/src/lib.rt"), "// No code.\n")
+    write(os.path.join(folder, "crates/compare/specs/Lib.antt"), "pub mod Same\n")
+    os.makedirs(os.path.join(folder, "kept"))
 
 
 def proved(folder, text, what):
     """Has the prover compute the theorems of `text`; ends the program where one does not hold."""
-    open(os.path.join(folder, "crates/compare/specs/Same.antt"), "w", encoding="utf-8").write(text)
-    p = subprocess.run(["rt", "dev", "compare"], cwd=folder, capture_output=True, text=True)
+    write(os.path.join(folder, "crates/compare/specs/Same.antt"), text)
+    words = checking(DEPS.split()) + ["--incremental", "kept", "--crate-name", "compare", "crates/compare/src/lib.rt"]
+    p = subprocess.run(words, cwd=folder, capture_output=True, text=True)
     said = p.stdout + p.stderr
-    if p.returncode != 0 or "crate compare" not in said or "logic=not-proved" in said:
+    if p.returncode != 0 or "logic=proved" not in said:
         print(f"{what}: DIFFERENT\n{said[-3000:]}")
         sys.exit(1)
 

@@ -13,7 +13,7 @@ fn main() {
     let Ok(library) = PathBuf::from(&given).canonicalize() else {
         eprintln!("error: no library {}", given.display());
         eprintln!(
-            "run `rt staticlib exports` at the top, or set {VARIABLE} to the path of libexports.a"
+            "run `tools/library.sh` at the top, or set {VARIABLE} to the path of libexports.a"
         );
         std::process::exit(1);
     };
