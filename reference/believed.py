@@ -3,18 +3,19 @@
 (blank ones, comments and imports not counted).
 
 Without words it starts at checker's Answered, which is what the entry call's contract says. It follows every `use` of a module of
-specs/; a record or an enum that src/ declares is listed with that file as `declared`, and its lines are not counted. Exit status 1
-where a module of definitions uses one of proofs/.
+specs/ of this repository's crates; a record or an enum that src/ declares is listed with that file as `declared`, and its lines are not
+counted. Exit status 1 where a module of definitions uses one of a crate's proofs/. The kit's libraries (Rattle.std..) are not followed.
 """
 import os, re, subprocess, sys
 
 TOP = subprocess.run(["git", "rev-parse", "--show-toplevel"], capture_output=True, text=True, check=True).stdout.strip()
-USE = re.compile(r"^(?:pub )?use Rattle·(\w+?)(?:·specs|·proofs)?\.(specs|proofs)\.(declared\.)?(\w+)", re.M)
+USE = re.compile(r"^(?:pub )?use Rattle\.(\w+)\.(specs|proofs)\.(declared\.)?(\w+)", re.M)
 SKIPPED = re.compile(r"\s*$|\s*--|(pub )?use ")
 
 
 def uses(text):
-    return [(crate, folder, bool(declared), name) for crate, folder, declared, name in USE.findall(text)]
+    found = [(crate, folder, bool(declared), name) for crate, folder, declared, name in USE.findall(text)]
+    return [f for f in found if os.path.isdir(os.path.join(TOP, "crates", f[0]))]
 
 
 def main():

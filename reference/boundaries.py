@@ -170,31 +170,31 @@ def rows_of(reference, rows, letter):
 
 HEAD = """-- Sheets at the boundary of every field, length and place, by computation: reference/boundaries.py makes this file from the answers of the reader in
 -- reference/src. Assumes nothing.
-use mathlib.Core.Path.{_≡_, refl}
+use mathlib.Core.Path.{◌≡◌, refl}
 use mathlib.Core.Bool.{false}
-use mathlib.Core.List.{List, [], _∷_, _++_, map}
-use Prim.Native.Nat.{ℕ, zero, suc, _-_}
+use mathlib.Core.List.{List, [], ◌∷◌, ◌++◌, map}
+use Prim.Native.Nat.{ℕ, zero, suc, ◌-◌}
 use lib.ListN.{length, replicate}
-use Rattle·spelling.specs.declared.Triple.{Triple}
-use Rattle·spelling.specs.declared.Line.the-variants.{Spelt}
-use Rattle·spelling.specs.Spelling.{fieldFrom, lineOf, lineAt, linesFrom, linesOf, firstMisspelt}
-use Rattle·spelling.specs.Text.{fieldText, lineText}
-use Rattle·kinds.specs.Kinds.{find, table, rowOf, begins, headOf}
-use Rattle·grammar·specs.specs.declared.Check.{Check}
-use Rattle·grammar·specs.specs.declared.Check.the-variants.{Plan, Length, Misspelt, Unfit}
-use Rattle·grammar·specs.specs.Grammar.{entries, declaredBy, arms, following, read, readAt}
-use Rattle·grammar·specs.specs.Check.{endOf, fitting, readSheet, check}
+use Rattle.spelling.specs.declared.Triple.{Triple}
+use Rattle.spelling.specs.declared.Line.TheVariants.{Spelt}
+use Rattle.spelling.specs.Spelling.{field_from, line_of, line_at, lines_from, lines_of, first_misspelt}
+use Rattle.spelling.specs.Text.{field_text, line_text}
+use Rattle.kinds.specs.Kinds.{find, table, row_of, begins, head_of}
+use Rattle.grammar.specs.declared.Check.{Check}
+use Rattle.grammar.specs.declared.Check.TheVariants.{Plan, Length, Misspelt, Unfit}
+use Rattle.grammar.specs.Grammar.{entries, declared_by, arms, following, read, read_at}
+use Rattle.grammar.specs.Check.{end_of, fitting, read_sheet, check}
 
 abbrev t : ℕ → ℕ → ℕ → Triple
 t k v c = record { kind = k; negative = false; value = v; count = c }
 
 -- a sheet by its lines, all well spelt: `check` without the bytes, which would be most of the work
-unfoldable pub checkLines : List Triple → Check
-checkLines ts = fitting (endOf (length ts) (read (map Spelt ts) (entries 1 0 ∷ []) 0))
+unfoldable pub check_lines : List Triple → Check
+check_lines ts = fitting (end_of (length ts) (read (map Spelt ts) (entries 1 0 ∷ []) 0))
 
 -- the text of a line, by its triple, or by what stands in its fields and its last byte
 unfoldable pub l : ℕ → ℕ → ℕ → List ℕ
-l k v c = lineText (t k v c)
+l k v c = line_text (t k v c)
 
 abbrev right : ℕ → List ℕ → List ℕ
 right w bs = replicate (w - length bs) 32 ++ bs
@@ -216,20 +216,20 @@ times (suc n) ts = ts ++ times n ts
 abbrev LinesRow : Type 0
 LinesRow = List Triple × Check
 """
-OPENED = "lineText fieldText fieldFrom lineOf lineAt linesFrom linesOf firstMisspelt find table rowOf begins headOf declaredBy arms following read readAt readSheet check"
+OPENED = "line_text field_text field_from line_of line_at lines_from lines_of first_misspelt find table row_of begins head_of declared_by arms following read read_at read_sheet check"
 
 
-READ = "find table rowOf begins headOf declaredBy arms following read"
+READ = "find table row_of begins head_of declared_by arms following read"
 # of rows by bytes, and by lines
-FORMS = {"l": ("Row", "check (text (q .0))", f"l r {OPENED}"), "t": ("LinesRow", "checkLines (q .0)", f"checkLines {READ}")}
+FORMS = {"l": ("Row", "check (text q.0)", f"l r {OPENED}"), "t": ("LinesRow", "check_lines q.0", f"check_lines {READ}")}
 
 
 def theorem(name, rows, letter):
     row, asked, opened = FORMS[letter]
-    word = "".join(w.capitalize() for w in name.split("-"))
+    word = name.replace("-", "_")
     table = "".join(f"    {row} ∷  -- {title}\n" for row, title in rows)
-    return (f"\nabbrev rows{word} : List {row}\nrows{word} =\n{table}    []\n"
-            f"\npub {name} : map (λ q. {asked}) rows{word} ≡ map (λ q. q .1) rows{word}\nunfolding {opened}\n{name} = refl\n")
+    return (f"\nabbrev rows_{word} : List {row}\nrows_{word} =\n{table}    []\n"
+            f"\npub {name} : map (λ q. {asked}) rows_{word} ≡ map (λ q. q.1) rows_{word}\nunfolding {opened}\n{name} = refl\n")
 
 
 def lengths(reference):

@@ -15,7 +15,7 @@ fn main() {
     let given = std::env::var_os(VARIABLE).unwrap_or(DEFAULT.into());
     let Ok(library) = PathBuf::from(&given).canonicalize() else {
         eprintln!("error: no library {}", given.display());
-        eprintln!("build it first, or set {VARIABLE} to the path of libexports.a");
+        eprintln!("run `tools/library.sh` at the top, or set {VARIABLE} to the path of libexports.a");
         std::process::exit(1);
     };
     let folder = library.parent().expect("a file stands in a folder");

@@ -2,52 +2,53 @@
 """definition.py RECORDS [--chunk N] [--limits E,N,W,F,S|none]: the definition of the judgment rules beside the Rust's recorded answers.
 
 RECORDS is a file in the format of src/record.rs, as `reference generate --answers` and `reference record` write it. The
-repository is copied to a temporary folder, and there a crate is added whose one theorem says, by computation in the prover,
+definitions are copied to a temporary folder, and there a crate is added whose one theorem says, by computation in the prover,
 that `judge` gives for every plan of a chunk, by the rule of its call, the recorded seven numbers, report types, solutions in
 order and levels. Plans refused before a run (1 to 5) are left out, and so are raw records, which are calls with any bytes. Run
 it anywhere inside the repository; it needs `rt`. Exit status 1 at a difference.
 """
 import argparse, itertools, os, shutil, subprocess, sys, tempfile
 from collections import namedtuple
+from lies import TOP, checking, types_of, write
 
 DEPS = "sizes nodes spelling kinds grammar sheet judgment"
 OPENED = {
-    "kinds.specs.Kinds": "partsOf rowOf find=findRow table",
-    "sheet.specs.Plan": "planOf declarations bindingsIn endFrom entriesEnd placesOf partLine isPlain names plainEntries plainPlan lookup",
-    "judgment.specs.Types": "view occurs isMonotype substitute rename frontNames afterFront canUnify",
-    "judgment.specs.Terms": "termView lambdaOf",
-    "judgment.specs.Solutions": "find links anySolved writeOutBy writeOut solutionNodes",
-    "judgment.specs.Board": "boardNodes findVar before perform operations",
-    "judgment.specs.Rules": "instantiateFrom subtype openNames signatureFrom insert pushVars checkPatterns checkArms inferApp",
-    "judgment.specs.Run": "runFrom checkType",
-    "judgment.specs.Result": "resultOf runOf judge",
+    "kinds.specs.Kinds": "parts_of row_of find=find_row table",
+    "sheet.specs.Plan": "plan_of declarations bindings_in end_from entries_end places_of part_line is_plain names plain_entries plain_plan lookup",
+    "judgment.specs.Types": "view occurs is_monotype substitute rename front_names after_front can_unify",
+    "judgment.specs.Terms": "term_view lambda_of",
+    "judgment.specs.Solutions": "find links any_solved write_out_by write_out solution_nodes",
+    "judgment.specs.Board": "board_nodes find_var before perform operations",
+    "judgment.specs.Rules": "instantiate_from subtype open_names signature_from insert push_vars check_patterns check_arms infer_app",
+    "judgment.specs.Run": "run_from check_type",
+    "judgment.specs.Result": "result_of run_of judge",
 }
-LEVELS = {"judgment.specs.Levels": "put lower levelMade levelAfter levelsAfter noneAbove"}
-CALLS = {1: "firstCall", 2: "strictCall"}
-HEAD = """use mathlib.Core.Path.{_≡_, refl}
+LEVELS = {"judgment.specs.Levels": "put lower level_made level_after levels_after none_above"}
+CALLS = {1: "first_call", 2: "strict_call"}
+HEAD = """use mathlib.Core.Path.{◌≡◌, refl}
 use mathlib.Core.Bool.{Bool, true, false}
-use mathlib.Core.List.{List, [], _∷_, map}
-use Prim.Native.Nat.{ℕ, zero, suc, _+_}
-use Rattle·nodes.specs.Nodes.{Node, node, Ty}
-use Rattle·spelling.specs.declared.Triple.{Triple}
-use Rattle·judgment.specs.Solutions.{Solution, _≔_, Solutions}
-use Rattle·judgment.specs.Board.{upTo, unlimited}
-use Rattle·judgment.specs.Levels.{Levels, Mode, firstCall, strictCall, scopeOf}
-use Rattle·judgment.specs.Result.{Result, numbers, limitsFor}
+use mathlib.Core.List.{List, [], ◌∷◌, map}
+use Prim.Native.Nat.{ℕ, zero, suc, ◌+◌}
+use Rattle.nodes.specs.Nodes.{Node, node, Ty}
+use Rattle.spelling.specs.declared.Triple.{Triple}
+use Rattle.judgment.specs.Solutions.{Solution, ◌≔◌, Solutions}
+use Rattle.judgment.specs.Board.{up_to, unlimited}
+use Rattle.judgment.specs.Levels.{Levels, Mode, first_call, strict_call, scope_of}
+use Rattle.judgment.specs.Result.{Result, numbers, limits_for}
 """
 ROW = """
 abbrev t : ℕ → Bool → ℕ → ℕ → Triple
 t k n v c = record { kind = k; negative = n; value = v; count = c }
 
-abbrev levelsFrom : Levels → ℕ → ℕ → List ℕ
-levelsFrom v k zero = []
-levelsFrom v k (suc n) = v k ∷ levelsFrom v (k + 1) n
+abbrev levels_from : Levels → ℕ → ℕ → List ℕ
+levels_from v k zero = []
+levels_from v k (suc n) = v k ∷ levels_from v (k + 1) n
 
 abbrev Row : Type 0
 Row = (List ℕ × Ty × Solutions) × List ℕ
 
 unfoldable pub row : Mode → ℕ → List Triple → Row
-row m c ls = let r = judge (LIMITS) c ls in ((numbers (r .answer), r .report, r .solutions), levelsFrom (r .levels) 0 (r .answer .fresh))
+row m c ls = let r = judge (LIMITS) c ls in ((numbers r.answer, r.report, r.solutions), levels_from r.levels 0 r.answer.fresh)
 """
 
 RAW = ("3 ", "4 ")
@@ -105,16 +106,16 @@ def groups(plans):
 def limits_of(limits):
     """Under levels v, by the rule of the call m."""
     names = "entries nodes written numbers solved".split()
-    given = ["unlimited"] * 5 if limits == "none" else [f"upTo {int(n)}" for n in limits.split(",")]
-    fields = [f"{name} = {limit}" for name, limit in zip(names, given)] + ["scope = scopeOf m v"]
+    given = ["unlimited"] * 5 if limits == "none" else [f"up_to {int(n)}" for n in limits.split(",")]
+    fields = [f"{name} = {limit}" for name, limit in zip(names, given)] + ["scope = scope_of m v"]
     return "λ v. record { " + "; ".join(fields) + " }"
 
 
 def module(plans, limits):
     all_opened = OPENED | LEVELS
-    uses = [f"use Rattle·{m}.{{{', '.join(w.replace('=', ' as ') for w in names.split())}}}" for m, names in all_opened.items()]
+    uses = [f"use Rattle.{m}.{{{', '.join(w.replace('=', ' as ') for w in names.split())}}}" for m, names in all_opened.items()]
     opened = " ".join(w.split("=")[-1] for names in all_opened.values() for w in names.split())
-    row = ROW.replace("LIMITS", limits_of(limits) if limits else "limitsFor m 1024")
+    row = ROW.replace("LIMITS", limits_of(limits) if limits else "limits_for m 1024")
     return HEAD + "\n".join(uses) + "\n" + row + "".join(theorem(i, g, opened) for i, g in enumerate(groups(plans)))
 
 
@@ -123,7 +124,7 @@ def listed(items):
 
 
 def answered_row(plan):
-    solutions = listed(f"_≔_ {k} {nodes(s)}" for k, s in plan.solutions)
+    solutions = listed(f"◌≔◌ {k} {nodes(s)}" for k, s in plan.solutions)
     return f"    (({listed(plan.seven)}, {nodes(plan.report)}, {solutions}), {listed(plan.levels)}) ∷\n"
 
 
@@ -133,28 +134,28 @@ def theorem(name, plans, opened):
     answered = "".join(map(answered_row, plans))
     return (f"\nabbrev asked{name} : List (ℕ × List Triple)\nasked{name} =\n{asked}    []\n"
             f"\nabbrev answered{name} : List Row\nanswered{name} =\n{answered}    []\n"
-            f"\npub same{name} : map (λ q. row {call} (q .0) (q .1)) asked{name} ≡ answered{name}\nunfolding row {opened}\nsame{name} = refl\n")
+            f"\npub same{name} : map (λ q. row {call} q.0 q.1) asked{name} ≡ answered{name}\nunfolding row {opened}\nsame{name} = refl\n")
 
 
 def workplace(folder):
-    """A copy of the repository's crates in `folder`, with a crate `compare` above judgment."""
-    top = subprocess.run(["git", "rev-parse", "--show-toplevel"], capture_output=True, text=True, check=True).stdout.strip()
-    shutil.copytree(os.path.join(top, "crates"), os.path.join(folder, "crates"))
-    shutil.copy(os.path.join(top, "crates.txt"), folder)
-    for part in ("src", "specs"):
-        os.makedirs(os.path.join(folder, "crates/compare", part))
-    open(os.path.join(folder, "crates/compare/src/lib.rt"), "w").write("// No code.\n")
-    open(os.path.join(folder, "crates/compare/specs/Lib.antt"), "w").write("pub mod Same\n")
-    with open(os.path.join(folder, "crates.txt"), "a") as f:
-        f.write(f"compare: {DEPS}\n")
+    """A copy of the definitions in `folder`, with no code and no proof, and a crate `compare` above judgment."""
+    for crate in DEPS.split():
+        own = os.path.join(TOP, "crates", crate)
+        write(os.path.join(folder, "crates", crate, "src/lib.rt"), types_of(open(os.path.join(own, "src/lib.rt"), encoding="utf-8").read()))
+        if os.path.isdir(os.path.join(own, "specs")):
+            shutil.copytree(os.path.join(own, "specs"), os.path.join(folder, "crates", crate, "specs"))
+    write(os.path.join(folder, "crates/compare/src/lib.rt"), "// No code.\n")
+    write(os.path.join(folder, "crates/compare/specs/Lib.antt"), "pub mod Same\n")
+    os.makedirs(os.path.join(folder, "kept"))
 
 
 def proved(folder, text, what):
     """Has the prover compute the theorems of `text`; ends the program where one does not hold."""
-    open(os.path.join(folder, "crates/compare/specs/Same.antt"), "w", encoding="utf-8").write(text)
-    p = subprocess.run(["rt", "dev", "compare"], cwd=folder, capture_output=True, text=True)
+    write(os.path.join(folder, "crates/compare/specs/Same.antt"), text)
+    words = checking(DEPS.split()) + ["--incremental", "kept", "--crate-name", "compare", "crates/compare/src/lib.rt"]
+    p = subprocess.run(words, cwd=folder, capture_output=True, text=True)
     said = p.stdout + p.stderr
-    if p.returncode != 0 or "crate compare" not in said or "logic=not-proved" in said:
+    if p.returncode != 0 or "logic=proved" not in said:
         print(f"{what}: DIFFERENT\n{said[-3000:]}")
         sys.exit(1)
 

@@ -5,7 +5,7 @@ any order of places.
 The second ones are below: `followed`, written from document 01's words alone (a solved unknown is followed into its solution, until
 only unsolved ones are left), and `is_chain`, from the words of a chain (solved unknowns, each in the solution of the one before). A
 book's unknowns have ranks, and a solution mentions solved unknowns of lower rank only, so that none leads back; its places are
-shuffled, so that a solution may stand before or after those that it mentions. The prover computes `writeOut` and `isChain` on every
+shuffled, so that a solution may stand before or after those that it mentions. The prover computes `write_out` and `is_chain` on every
 one of them. --table writes judgment/proofs/Following.antt instead, the books of DIRECTED and CHAINS; --places book/proofs/Places.antt,
 where the solution of a node stands, by document 01's layout. Exit status 1 at a difference.
 """
@@ -50,28 +50,28 @@ LOOKED_UP += [(kind, 0) for kind in (0, 1, 11, 12, 13, 14, 15, 16, 18, 65553)]
 
 PLACES = """-- Where the solution of a node stands, for numbers of 32 bits and words as they come, by computation. The answers are those of `place` in
 -- reference/following.py, which makes this file. Assumes nothing.
-use mathlib.Core.Path.{_≡_, refl}
-use mathlib.Core.List.{List, [], _∷_, _++_, map}
+use mathlib.Core.Path.{◌≡◌, refl}
+use mathlib.Core.List.{List, [], ◌∷◌, ◌++◌, map}
 use Prim.Native.Nat.{ℕ}
 use lib.ListN.{replicate}
-use Rattle·nodes.specs.Nodes.{Node, node, kind, number}
-use Rattle·book·specs.specs.declared.Found.{Found}
-use Rattle·book·specs.specs.declared.Found.the-variants.{At, Nothing}
-use Rattle·book·specs.specs.Book.{placeOf}
+use Rattle.nodes.specs.Nodes.{Node, node, kind, number}
+use Rattle.book.specs.declared.Found.{Found}
+use Rattle.book.specs.declared.Found.TheVariants.{At, Nothing}
+use Rattle.book.specs.Book.{place_of}
 """
 
 COMMENT = """-- Types written out, and chains, over books in any order of places, by computation. The answers are those of `followed` and `is_chain`
 -- in reference/following.py, which makes this file. Assumes nothing.
 """
 
-USES = """use mathlib.Core.Path.{_≡_, refl}
+USES = """use mathlib.Core.Path.{◌≡◌, refl}
 use mathlib.Core.Bool.{Bool, true, false}
-use mathlib.Core.List.{List, [], _∷_, map}
+use mathlib.Core.List.{List, [], ◌∷◌, map}
 use Prim.Native.Nat.{ℕ}
-use Rattle·nodes.specs.Nodes.{node, Ty}
-use Rattle·judgment·specs.specs.Types.{occurs}
-use Rattle·judgment·specs.specs.Solutions.{_≔_, Solutions, find, links, anySolved, writeOutBy, writeOut}
-use Rattle·judgment·specs.specs.Links.{isChain}
+use Rattle.nodes.specs.Nodes.{node, Ty}
+use Rattle.judgment.specs.Types.{occurs}
+use Rattle.judgment.specs.Solutions.{◌≔◌, Solutions, find, links, any_solved, write_out_by, write_out}
+use Rattle.judgment.specs.Links.{is_chain}
 """
 
 
@@ -150,7 +150,7 @@ def in_place_order(book, asked):
 
 
 def solutions(book):
-    return "(" + "".join(f"_≔_ {k} {nodes(s)} ∷ " for k, s in book.items()) + "[])"
+    return "(" + "".join(f"◌≔◌ {k} {nodes(s)} ∷ " for k, s in book.items()) + "[])"
 
 
 def listed(rows):
@@ -160,16 +160,16 @@ def listed(rows):
 def written(name, found):
     return (f"\nabbrev asked{name} : List (Solutions × Ty)\nasked{name} =\n{listed(f'({solutions(b)}, {nodes(t)})' for b, t, _ in found)}"
             f"\nabbrev answered{name} : List Ty\nanswered{name} =\n{listed(nodes(u) for _, _, u in found)}"
-            f"\npub written{name} : map (λ q. writeOut (q .0) (q .1)) asked{name} ≡ answered{name}\n"
-            f"unfolding find links anySolved writeOutBy writeOut\nwritten{name} = refl\n")
+            f"\npub written{name} : map (λ q. write_out q.0 q.1) asked{name} ≡ answered{name}\n"
+            f"unfolding find links any_solved write_out_by write_out\nwritten{name} = refl\n")
 
 
 def chained(name, found):
     numbers = ["(" + "".join(f"{k} ∷ " for k in ks) + "[])" for _, ks in found]
     return (f"\nabbrev walked{name} : List (Solutions × List ℕ)\nwalked{name} =\n{listed(f'({solutions(b)}, {n})' for (b, _), n in zip(found, numbers))}"
             f"\nabbrev told{name} : List Bool\ntold{name} = {''.join(f'{is_chain(b, ks)} ∷ '.lower() for b, ks in found)}[]\n"
-            f"\npub chains{name} : map (λ q. isChain (q .0) (q .1)) walked{name} ≡ told{name}\n"
-            f"unfolding find occurs isChain\nchains{name} = refl\n")
+            f"\npub chains{name} : map (λ q. is_chain q.0 q.1) walked{name} ≡ told{name}\n"
+            f"unfolding find occurs is_chain\nchains{name} = refl\n")
 
 
 def words(threes):
@@ -189,8 +189,8 @@ def placed():
 
     return (f"\nabbrev words : List ℕ\nwords = {words(THREES)}\n"
             f"\nabbrev told : List (Node × Found)\ntold =\n{listed(f'(node {k} {n}, {told(place(THREES, k, n))})' for k, n in LOOKED_UP)}"
-            f"\npub places : map (λ q. placeOf words (kind (q .0)) (number (q .0))) told ≡ map (λ q. q .1) told\n"
-            f"unfolding placeOf\nplaces = refl\n")
+            f"\npub places : map (λ q. place_of words (kind q.0) (number q.0)) told ≡ map (λ q. q.1) told\n"
+            f"unfolding place_of\nplaces = refl\n")
 
 
 def main():
@@ -213,8 +213,7 @@ def main():
     chains = sum(is_chain(b, ks) for b, ks in walks)
     with tempfile.TemporaryDirectory() as folder:
         workplace(folder)
-        text = USES.replace("judgment·specs.specs", "judgment.specs")
-        text += "".join(written(i, found[i: i + 50]) + chained(i, walks[i: i + 50]) for i in range(0, len(found), 50))
+        text = USES + "".join(written(i, found[i: i + 50]) + chained(i, walks[i: i + 50]) for i in range(0, len(found), 50))
         proved(folder, text, f"{len(found)} books")
     print(f"{len(found)} of {len(found)} types written out alike; one pass in order of places gives another for {told} of them")
     print(f"{len(walks)} of {len(walks)} walks judged alike; {chains} of them are chains")

@@ -9,20 +9,19 @@ from definition import OPENED, listed, parse
 
 HEAD = """-- Plans over a catalogue with the seven numbers of their answers, the plain mark last, by computation. reference/marks.py makes this file
 -- from the answers of the Rust and the mark of reference/src/mark.rs. Assumes nothing.
-use mathlib.Core.Path.{_≡_, refl}
-use mathlib.Core.List.{List, [], _∷_, map}
+use mathlib.Core.Path.{◌≡◌, refl}
+use mathlib.Core.List.{List, [], ◌∷◌, map}
 use Prim.Native.Nat.{ℕ}
-use Rattle·sizes.specs.Sizes.{highestCeiling}
-use Rattle·spelling.specs.declared.Triple.{Triple}
+use Rattle.sizes.specs.Sizes.{highest_ceiling}
+use Rattle.spelling.specs.declared.Triple.{Triple}
 """
 
 
 def uses():
     for module, words in OPENED.items():
-        at = module.replace("judgment.", "judgment·specs.", 1) if module.startswith("judgment.") else module
         more = ["numbers", "limits"] if module.endswith(".Result") else []
-        yield f"use Rattle·{at}.{{{', '.join([w.replace('=', ' as ') for w in words.split()] + more)}}}\n"
-    yield "use Rattle·judgment·proofs.proofs.Wall.{l}\n"
+        yield f"use Rattle.{module}.{{{', '.join([w.replace('=', ' as ') for w in words.split()] + more)}}}\n"
+    yield "use Rattle.judgment.proofs.Wall.{l}\n"
 
 
 def row(title, record):
@@ -39,7 +38,7 @@ def main():
     opened = " ".join(w.split("=")[-1] for words in OPENED.values() for w in words.split())
     print(HEAD + "".join(uses()), end="")
     print(f"\nabbrev pub plans : List (List Triple × List ℕ)\nplans =\n{''.join(rows)}    []\n")
-    print("pub marked : map (λ q. numbers (judge limits highestCeiling (q .0) .answer)) plans ≡ map (λ q. q .1) plans")
+    print("pub marked : map (λ q. numbers (judge limits highest_ceiling q.0).answer) plans ≡ map (λ q. q.1) plans")
     print(f"unfolding {opened}\nmarked = refl")
 
 

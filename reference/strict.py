@@ -19,47 +19,47 @@ MORE = {
 MIDST = ["a Case with no arm as Int → ∀n11. n11", "a part of a part, of an Arrow", "of a type App", "for a part of the unknown", "an unknown applied", "a result of what was applied"]
 HEAD = """-- Plans under the first and the strict call (document 02, W12) with the levels that they leave, by computation. reference/strict.py makes this file from
 -- the answers of reference/limited. Assumes nothing.
-use mathlib.Core.Path.{_≡_, refl}
+use mathlib.Core.Path.{◌≡◌, refl}
 use mathlib.Core.Bool.{true, false}
-use mathlib.Core.List.{List, [], _∷_, _++_, map}
-use Prim.Native.Nat.{ℕ, zero, suc, _+_}
+use mathlib.Core.List.{List, [], ◌∷◌, ◌++◌, map}
+use Prim.Native.Nat.{ℕ, zero, suc, ◌+◌}
 use lib.ListN.{take, drop}
-use Rattle·nodes.specs.Nodes.{node, words}
-use Rattle·spelling.specs.declared.Triple.{Triple}
+use Rattle.nodes.specs.Nodes.{node, words}
+use Rattle.spelling.specs.declared.Triple.{Triple}
 """
 NAMES = {
-    "judgment.specs.Solutions": "_≔_",
-    "judgment.specs.Board": "upTo Limits",
-    "judgment.specs.Levels": "Levels Mode firstCall strictCall scopeOf",
-    "judgment.specs.Result": "numbers Result limitsFor padded placeFrom threesFrom nodeWords bookWords",
+    "judgment.specs.Solutions": "◌≔◌",
+    "judgment.specs.Board": "up_to Limits",
+    "judgment.specs.Levels": "Levels Mode first_call strict_call scope_of",
+    "judgment.specs.Result": "numbers Result limits_for padded place_from threes_from node_words book_words",
 }
-FORMS = """use Rattle·judgment·proofs.proofs.Wall.{l, Row}
+FORMS = """use Rattle.judgment.proofs.Wall.{l, Row}
 
 -- a row, and the levels of the numbers made
 abbrev LevelRow : Type 0
 LevelRow = Row × List ℕ
 
-abbrev levelsFrom : Levels → ℕ → ℕ → List ℕ
-levelsFrom v k zero = []
-levelsFrom v k (suc n) = v k ∷ levelsFrom v (k + 1) n
+abbrev levels_from : Levels → ℕ → ℕ → List ℕ
+levels_from v k zero = []
+levels_from v k (suc n) = v k ∷ levels_from v (k + 1) n
 
-abbrev rowOfResult : Result → LevelRow
-rowOfResult r = ((numbers (r .answer), r .report, r .solutions), levelsFrom (r .levels) 0 (r .answer .fresh))
+abbrev row_of_result : Result → LevelRow
+row_of_result r = ((numbers r.answer, r.report, r.solutions), levels_from r.levels 0 r.answer.fresh)
 
-unfoldable pub levelRow : Mode → ℕ → List Triple → LevelRow
-levelRow m c ls = rowOfResult (judge (limitsFor m 1024) c ls)
+unfoldable pub level_row : Mode → ℕ → List Triple → LevelRow
+level_row m c ls = row_of_result (judge (limits_for m 1024) c ls)
 
 -- so many fresh numbers and nodes of solutions
 abbrev limited : ℕ → ℕ → Mode → Levels → Limits
-limited n s m v = record { entries = upTo 512; nodes = upTo 4096; written = upTo 1024; numbers = upTo n; solved = upTo s; scope = scopeOf m v }
+limited n s m v = record { entries = up_to 512; nodes = up_to 4096; written = up_to 1024; numbers = up_to n; solved = up_to s; scope = scope_of m v }
 
-unfoldable pub limitedRow : Mode → ℕ → ℕ → List Triple → LevelRow
-limitedRow m n s ls = rowOfResult (judge (limited n s m) 10000 ls)
+unfoldable pub limited_row : Mode → ℕ → ℕ → List Triple → LevelRow
+limited_row m n s ls = row_of_result (judge (limited n s m) 10000 ls)
 """
 LAST = """
 -- a universal that is numbered as the level is not above it, and one behind another node is
-pub above : map (λ m. noneAbove m (node 16 2 ∷ node 17 9 ∷ node 18 5 ∷ [])) (4 ∷ 5 ∷ 6 ∷ []) ≡ false ∷ true ∷ true ∷ []
-unfolding noneAbove
+pub above : map (λ m. none_above m (node 16 2 ∷ node 17 9 ∷ node 18 5 ∷ [])) (4 ∷ 5 ∷ 6 ∷ []) ≡ false ∷ true ∷ true ∷ []
+unfolding none_above
 above = refl
 """
 
@@ -84,7 +84,7 @@ def answer(reference, lines, *options):
 
 def row(answered):
     seven, report, solutions, levels = answered
-    solved = listed(f"_≔_ {k} {nodes(s)}" for k, s in solutions)
+    solved = listed(f"◌≔◌ {k} {nodes(s)}" for k, s in solutions)
     return f"    (({listed(seven)}, {nodes(report)}, ({solved})), {listed(levels)}) ∷\n"
 
 
@@ -109,7 +109,7 @@ def midst(reference, rows):
             refused = any(got[0][0] in (24, 25) and got[3] and got[3][-1] < len(got[3]) - 1 for got in both)
             if refused and str(both) not in seen:
                 seen.add(str(both))
-                yield from ((call, n, s, lines, title, got) for call, got in zip(("firstCall", "strictCall"), both))
+                yield from ((call, n, s, lines, title, got) for call, got in zip(("first_call", "strict_call"), both))
 
 
 def asked(lines):
@@ -119,23 +119,22 @@ def asked(lines):
 def main():
     reference = sys.argv[1]
     modules = OPENED | LEVELS
-    at = lambda m: m.replace("judgment.", "judgment·specs.", 1) if m.startswith("judgment.") else m
-    uses = "".join(f"use Rattle·{at(m)}.{{{', '.join(w.replace('=', ' as ') for w in NAMES.get(m, '').split() + words.split())}}}\n" for m, words in modules.items())
+    uses = "".join(f"use Rattle.{m}.{{{', '.join(w.replace('=', ' as ') for w in NAMES.get(m, '').split() + words.split())}}}\n" for m, words in modules.items())
     opened = " ".join(w.split("=")[-1] for words in modules.values() for w in words.split())
     rows = list(plans(reference))
     print(HEAD + uses + FORMS)
     print("abbrev plans : List (ℕ × List Triple)\nplans =")
     print("".join(f"    ({c}, ({asked(ls)})) ∷  -- {title}\n" for title, c, ls in rows) + "    []")
-    for name, call, option in (("by-first", "firstCall", []), ("by-strict", "strictCall", ["--strict"])):
-        print(f"\npub {name} : map (λ q. levelRow {call} (q .0) (q .1)) plans ≡")
+    for name, call, option in (("by_first", "first_call", []), ("by-strict", "strict_call", ["--strict"])):
+        print(f"\npub {name} : map (λ q. level_row {call} q.0 q.1) plans ≡")
         print("".join(row(answer(reference, ls, "--ceiling", str(c), *option)) for _, c, ls in rows) + "    []")
-        print(f"unfolding levelRow {opened}\n{name} = refl")
+        print(f"unfolding level_row {opened}\n{name} = refl")
     amid = list(midst(reference, rows))
     print("\n-- refused in the midst of a rule: call, fresh numbers, nodes of solutions\nabbrev cut : List (Mode × ℕ × ℕ × List Triple)\ncut =")
     print("".join(f"    ({call}, {n}, {s}, ({asked(ls)})) ∷  -- {title}\n" for call, n, s, ls, title, _ in amid) + "    []")
-    print("\npub in-the-midst : map (λ q. limitedRow (q .0) (q .1) (q .2) (q .3)) cut ≡")
+    print("\npub in-the-midst : map (λ q. limited_row q.0 q.1 q.2 q.3) cut ≡")
     print("".join(row(got) for *_, got in amid) + "    []")
-    print(f"unfolding limitedRow {opened}\nin-the-midst = refl")
+    print(f"unfolding limited_row {opened}\nin-the-midst = refl")
     seven, _, solutions, levels = answer(reference, rows[0][2], "--strict")
     book, start = [0] * (3 * len(levels) + 3), 3000
     for k, level in enumerate(levels):
@@ -143,11 +142,11 @@ def main():
     for k, s in solutions:
         book[3 * k], book[3 * k + 1], start = start, len(s), start + 2 * len(s)
     laid = [n for _, s in solutions for pair in s for n in pair] + [0, 0]
-    print(f"\n-- the book of the first plan after the strict call: three words for each number made and the next, and the nodes\nunfoldable pub firstScoped : List ℕ\nfirstScoped =")
-    print(f"    let r = judge (limitsFor strictCall 1024) 10000 ({asked(rows[0][2])}) in")
-    print(f"    let b = bookWords (r .solutions) (r .levels) (r .answer .fresh) in\n    take {len(book)} b ++ take {len(laid)} (drop 3000 b)\n")
-    print(f"pub first-scoped : firstScoped ≡ ({listed(book)}) ++ ({listed(laid)})")
-    print(f"unfolding firstScoped bookWords padded threesFrom placeFrom nodeWords words {opened}\nfirst-scoped = refl")
+    print(f"\n-- the book of the first plan after the strict call: three words for each number made and the next, and the nodes\nunfoldable pub first_scoped : List ℕ\nfirst_scoped =")
+    print(f"    let r = judge (limits_for strict_call 1024) 10000 ({asked(rows[0][2])}) in")
+    print(f"    let b = book_words r.solutions r.levels r.answer.fresh in\n    take {len(book)} b ++ take {len(laid)} (drop 3000 b)\n")
+    print(f"pub first-scoped : first_scoped ≡ ({listed(book)}) ++ ({listed(laid)})")
+    print(f"unfolding first_scoped book_words padded threes_from place_from node_words words {opened}\nfirst-scoped = refl")
     print(LAST, end="")
 
 

@@ -280,22 +280,22 @@ def call_rows():
     for ceiling, limit, lengths, name in itertools.product((10000, 10001), (1024, 4097), (SIZES, SHORT), sheets):
         what = [f"ceiling {ceiling}"] * (ceiling > 10000) + [f"limit {limit}"] * (limit > 4096) + ["short buffers"] * (lengths == SHORT) + [f"sheet {name}"] * (name != "whole")
         if what and (lengths == SHORT or len(what) == 1):
-            yield " and ".join(what), "firstCall", name, ceiling, limit, lengths
+            yield " and ".join(what), "first_call", name, ceiling, limit, lengths
     for at, title in enumerate(("board", "book", "report")):
         for short_by in (1, SIZES[at]):
-            yield f"{title} short by {short_by}", "firstCall", "whole", 10000, 1024, [n - short_by * (i == at) for i, n in enumerate(SIZES)]
+            yield f"{title} short by {short_by}", "first_call", "whole", 10000, 1024, [n - short_by * (i == at) for i, n in enumerate(SIZES)]
     for limit in (0, 1, 4096, 4097, 4294967295):
-        yield f"limit {limit}", "firstCall", "bool", 10000, limit, [*SIZES[:2], 4 * min(limit, 4096)]
+        yield f"limit {limit}", "first_call", "bool", 10000, limit, [*SIZES[:2], 4 * min(limit, 4096)]
     for limit in (1, 4096):
-        yield f"limit {limit}, the report short by one", "firstCall", "bool", 10000, limit, [*SIZES[:2], 4 * limit - 1]
+        yield f"limit {limit}, the report short by one", "first_call", "bool", 10000, limit, [*SIZES[:2], 4 * limit - 1]
     for ceiling in (0, 3, 9999, 10000, 10001, 4294967295):
-        yield f"ceiling {ceiling}", "firstCall", "bool", ceiling, 1024, SIZES
-    for call in ("firstCall", "strictCall"):
+        yield f"ceiling {ceiling}", "first_call", "bool", ceiling, 1024, SIZES
+    for call in ("first_call", "strict_call"):
         for name in ("unsolved", "split"):
             yield f"{name} by the {call}", call, name, 10000, 1024, SIZES
-    yield "1 of the strict call", "strictCall", "split", 10001, 0, [0, 0, 0]
-    yield "32 of the strict call", "strictCall", "split", 10000, 0, [0, 0, 0]
-    yield "2 of the strict call", "strictCall", "split", 10000, 1, [12288, 11192, 3]
+    yield "1 of the strict call", "strict_call", "split", 10001, 0, [0, 0, 0]
+    yield "32 of the strict call", "strict_call", "split", 10000, 0, [0, 0, 0]
+    yield "2 of the strict call", "strict_call", "split", 10000, 1, [12288, 11192, 3]
 
 
 def buffers_after(got, limit, lengths):
@@ -325,19 +325,15 @@ def laid(words):
 
 
 # ---------------------------------------------------------------- files
-USES = """use mathlib.Core.Path.{_≡_, refl}
-use mathlib.Core.List.{List, [], _∷_, %s}
+USES = """use mathlib.Core.Path.{◌≡◌, refl}
+use mathlib.Core.List.{List, [], ◌∷◌, %s}
 """
 NAT = "use Prim.Native.Nat.{ℕ}\n"
 
 
-def at(module):
-    return module.replace("judgment.", "judgment·specs.", 1) if module.startswith("judgment.") else module
-
-
 def uses(more, modules):
     said = {m: more.get(m, "").split() + words.split() for m, words in modules.items()} | {m: w.split() for m, w in more.items() if m not in modules}
-    return "".join(f"use Rattle·{at(m)}.{{{', '.join(w.replace('=', ' as ') for w in words)}}}\n" for m, words in said.items())
+    return "".join(f"use Rattle.{m}.{{{', '.join(w.replace('=', ' as ') for w in words)}}}\n" for m, words in said.items())
 
 
 def opened(modules):
@@ -346,7 +342,7 @@ def opened(modules):
 
 def spelt(got):
     seven, report, solutions, _ = got
-    solved = listed(f"_≔_ {k} {nodes(s)}" for k, s in solutions)
+    solved = listed(f"◌≔◌ {k} {nodes(s)}" for k, s in solutions)
     return f"({listed(seven)}, {nodes(report)}, {solved})"
 
 
@@ -354,14 +350,14 @@ def telling(reference):
     tables = {"lookups": lookups(), "operators": operators(), "under-binders": under(), "type-lambda-names": type_lambda_names(reference),
               "constructors": itertools.chain(constructors(), opened_in_order()), "directions": directions(), "differences": differences()}
     text = ("-- More plans that tell the rules from a wrong turn, by computation. reference/telling.py makes this file from the answers of the Rust.\n"
-            "-- Assumes nothing.\n" + USES % "_++_, map" + "use Prim.Native.Nat.{ℕ, zero, suc}\n" + uses({"nodes.specs.Nodes": "node words", "spelling.specs.declared.Triple": "Triple", "judgment.specs.Solutions": "_≔_", "judgment.specs.Result": "limits padded reportWords"}, OPENED)
-            + "use Rattle·judgment·proofs.proofs.Wall.{l, Row, row}\nuse Rattle·judgment·proofs.proofs.AtLimits.{shortUnder}\n\n"
+            "-- Assumes nothing.\n" + USES % "◌++◌, map" + "use Prim.Native.Nat.{ℕ, zero, suc}\n" + uses({"nodes.specs.Nodes": "node words", "spelling.specs.declared.Triple": "Triple", "judgment.specs.Solutions": "◌≔◌", "judgment.specs.Result": "limits padded report_words"}, OPENED)
+            + "use Rattle.judgment.proofs.Wall.{l, Row, row}\nuse Rattle.judgment.proofs.AtLimits.{short_under}\n\n"
             "-- the plan's lines and the answer to them at ceiling 10,000\nabbrev Asked : Type 0\nAsked = List Triple × Row\n")
     for name, rows in tables.items():
         table = "".join(f"    (({asked(ls)}), {spelt(answer(reference, ls))}) ∷  -- {title}\n" for title, ls in rows)
-        word = "".join(w.capitalize() for w in name.split("-"))
-        text += (f"\nabbrev rows{word} : List Asked\nrows{word} =\n{table}    []\n"
-                 f"\npub {name} : map (λ q. row 10000 (q .0)) rows{word} ≡ map (λ q. q .1) rows{word}\nunfolding row {opened(OPENED)}\n{name} = refl\n")
+        word = name.replace("-", "_")
+        text += (f"\nabbrev rows_{word} : List Asked\nrows_{word} =\n{table}    []\n"
+                 f"\npub {name} : map (λ q. row 10000 q.0) rows_{word} ≡ map (λ q. q.1) rows_{word}\nunfolding row {opened(OPENED)}\n{name} = refl\n")
     return text + long_table(reference)
 
 
@@ -384,10 +380,10 @@ def long_table(reference):
         rows += f"    (({folded(lines_of(lines))}), {said}) ∷  -- {title}\n"
     differ = list(long_plans())[4][1]
     words = [word for node in answer(reference, differ)[1] for word in node]
-    report = (f"\n-- the words of a report of more than 1,024 nodes, that of the fifth of them\npub long-report : reportWords 1024 (judge limits 10000 ({folded(lines_of(differ))}) .report) ≡\n"
-              f"    {folded(words + [0] * (4096 - len(words)))}\nunfolding reportWords padded words {opened(OPENED)}\nlong-report = refl\n")
-    return LONG_FORMS + (f"\nabbrev rowsLong : List Long\nrowsLong =\n{rows}    []\n\npub long : map (λ q. shortUnder limits (q .0)) rowsLong ≡ map (λ q. q .1) rowsLong\n"
-                         f"unfolding shortUnder {opened(OPENED)}\nlong = refl\n{report}")
+    report = (f"\n-- the words of a report of more than 1,024 nodes, that of the fifth of them\npub long-report : report_words 1024 (judge limits 10000 ({folded(lines_of(differ))})).report ≡\n"
+              f"    {folded(words + [0] * (4096 - len(words)))}\nunfolding report_words padded words {opened(OPENED)}\nlong-report = refl\n")
+    return LONG_FORMS + (f"\nabbrev rows_long : List Long\nrows_long =\n{rows}    []\n\npub long : map (λ q. short_under limits q.0) rows_long ≡ map (λ q. q.1) rows_long\n"
+                         f"unfolding short_under {opened(OPENED)}\nlong = refl\n{report}")
 
 
 def lines_of(lines):
@@ -406,7 +402,7 @@ def folded(items):
     return listed(items)
 
 
-LIMIT_FORMS = """use Rattle·judgment·proofs.proofs.Wall.{l}
+LIMIT_FORMS = """use Rattle.judgment.proofs.Wall.{l}
 
 -- entries, nodes on the board, nodes of a type written out, fresh numbers, nodes of solutions
 abbrev Small : Type 0
@@ -414,13 +410,13 @@ Small = ℕ × ℕ × ℕ × ℕ × ℕ
 
 abbrev under : Small → Mode → Levels → Limits
 under q m v =
-    record { entries = upTo (q .0); nodes = upTo (q .1); written = upTo (q .2); numbers = upTo (q .3); solved = upTo (q .4); scope = scopeOf m v }
+    record { entries = up_to q.0; nodes = up_to q.1; written = up_to q.2; numbers = up_to q.3; solved = up_to q.4; scope = scope_of m v }
 
 -- number, entries taken, fresh numbers, nodes reported, nodes of solutions
 unfoldable pub ends : Mode → List Triple → Small → List ℕ
 ends m ls q =
     let r = judge (under q m) 10000 ls in
-    r .answer .number ∷ r .answer .taken ∷ r .answer .fresh ∷ length (r .report) ∷ solutionNodes (r .solutions) ∷ []
+    r.answer.number ∷ r.answer.taken ∷ r.answer.fresh ∷ length r.report ∷ solution_nodes r.solutions ∷ []
 
 abbrev met : ℕ → ℕ → ℕ → ℕ → ℕ → List ℕ → Small × List ℕ
 met e n w f s r = ((e, n, w, f, s), r)
@@ -432,25 +428,25 @@ def limit_rows(reference):
     text = ("-- Plans under small limits, each of the five met exactly and passed by one wherever a plan's operations come to it, and each two that one step\n"
             f"-- passes; {PLENTY} is a limit that no plan meets. By computation: reference/telling.py makes this file from the answers of reference/limited.\n-- Assumes nothing.\n"
             + USES % "map" + NAT + "use lib.ListN.{length}\n"
-            + uses({"spelling.specs.declared.Triple": "Triple", "judgment.specs.Board": "upTo Limits", "judgment.specs.Levels": "Levels Mode firstCall strictCall scopeOf"}, modules) + LIMIT_FORMS)
-    for i, (title, lines, call) in enumerate([(t, p, "firstCall") for t, p in LIMITED.items()] + [(t, p, "strictCall") for t, p in SCOPED.items()]):
-        rows = swept_rows(reference, lines, ["--strict"] if call == "strictCall" else [])
+            + uses({"spelling.specs.declared.Triple": "Triple", "judgment.specs.Board": "up_to Limits", "judgment.specs.Levels": "Levels Mode first_call strict_call scope_of"}, modules) + LIMIT_FORMS)
+    for i, (title, lines, call) in enumerate([(t, p, "first_call") for t, p in LIMITED.items()] + [(t, p, "strict_call") for t, p in SCOPED.items()]):
+        rows = swept_rows(reference, lines, ["--strict"] if call == "strict_call" else [])
         table = "".join(f"    met {' '.join(map(str, limits))} ({listed(said)}) ∷\n" for limits, said in rows)
         text += (f"\n-- {title}\nabbrev plan{i} : List Triple\nplan{i} = {asked(lines)}\n\nabbrev rows{i} : List (Small × List ℕ)\nrows{i} =\n{table}    []\n"
-                 f"\npub limited{i} : map (λ q. ends {call} plan{i} (q .0)) rows{i} ≡ map (λ q. q .1) rows{i}\nunfolding ends {opened(modules)}\nlimited{i} = refl\n")
+                 f"\npub limited{i} : map (λ q. ends {call} plan{i} q.0) rows{i} ≡ map (λ q. q.1) rows{i}\nunfolding ends {opened(modules)}\nlimited{i} = refl\n")
     return text
 
 
-CALL_FORMS = """use Rattle·judgment·proofs.proofs.Wall.{l}
+CALL_FORMS = """use Rattle.judgment.proofs.Wall.{l}
 
 abbrev text : List Triple → List ℕ
 text [] = []
-text (t ∷ ts) = lineText t ++ text ts
+text (t ∷ ts) = line_text t ++ text ts
 
 -- so many times each word
 abbrev laid : List (ℕ × ℕ) → List ℕ
 laid [] = []
-laid (p ∷ ps) = replicate (p .0) (p .1) ++ laid ps
+laid (p ∷ ps) = replicate p.0 p.1 ++ laid ps
 
 abbrev filled : List (ℕ × ℕ) → List (ℕ × ℕ) → List (ℕ × ℕ) → Buffers
 filled board book report = record { board = laid board; book = laid book; report = laid report }
@@ -463,7 +459,7 @@ abbrev Refused : Type 0
 Refused = List ℕ × Buffers
 
 unfoldable pub refused : Mode → List ℕ → ℕ → ℕ → ℕ → ℕ → ℕ → Refused
-refused m s c w board book report = let r = called m s c w board book report in (numbers (r .answer), r .after)
+refused m s c w board book report = let r = called m s c w board book report in (numbers r.answer, r.after)
 
 -- run: the seven numbers, and the words that `book-after` and `report-after` of Calls.antt say to stand in book and report
 abbrev Ran : Type 0
@@ -471,21 +467,21 @@ Ran = List ℕ × List ℕ × List ℕ
 
 unfoldable pub ran : Mode → List ℕ → ℕ → ℕ → ℕ → ℕ → ℕ → Ran
 ran m s c w board book report =
-    let r = judge (limitsFor m w) c (triples s) in
-    (numbers (called m s c w board book report .answer), bookWords (r .solutions) (r .levels) (r .answer .fresh), reportWords w (r .report))
+    let r = judge (limits_for m w) c (triples s) in
+    (numbers (called m s c w board book report).answer, book_words r.solutions r.levels r.answer.fresh, report_words w r.report)
 """
 SPELT = {
-    "spelling.specs.Spelling": "fieldFrom lineOf lineAt linesFrom linesOf firstMisspelt",
-    "spelling.specs.Text": "fieldText lineText",
-    "grammar.specs.Grammar": "declaredBy arms following read readAt",
-    "grammar.specs.Check": "readSheet check",
+    "spelling.specs.Spelling": "field_from line_of line_at lines_from lines_of first_misspelt",
+    "spelling.specs.Text": "field_text line_text",
+    "grammar.specs.Grammar": "declared_by arms following read read_at",
+    "grammar.specs.Check": "read_sheet check",
 }
-WORDS = "padded placeFrom threesFrom nodeWords bookWords reportWords call"
+WORDS = "padded place_from threes_from node_words book_words report_words call"
 
 
 def call_table(reference):
     modules = OPENED | LEVELS | SPELT
-    modules["kinds.specs.Kinds"] += " begins headOf"
+    modules["kinds.specs.Kinds"] += " begins head_of"
     modules["sheet.specs.Plan"] += " triples"
     modules["judgment.specs.Result"] += " " + WORDS
     modules["nodes.specs.Nodes"] = "words"
@@ -493,8 +489,8 @@ def call_table(reference):
     text = ("-- Whole calls: the order of the refusals before a run, buffers short by a word or more, ceilings and limits at their bounds, with the seven numbers\n"
             "-- and the words of the buffers, each of which was 7: all of them where nothing is written, else those of book and report. By computation:\n"
             "-- reference/telling.py makes this file from the answers of `reference answer`. Assumes nothing.\n"
-            + USES % "_++_" + NAT + "use lib.ListN.{take, drop, replicate}\n"
-            + uses({"spelling.specs.declared.Triple": "Triple", "judgment.specs.Levels": "Mode firstCall strictCall", "judgment.specs.Result": "numbers Buffers Called limitsFor"}, modules) + CALL_FORMS)
+            + USES % "◌++◌" + NAT + "use lib.ListN.{take, drop, replicate}\n"
+            + uses({"spelling.specs.declared.Triple": "Triple", "judgment.specs.Levels": "Mode first_call strict_call", "judgment.specs.Result": "numbers Buffers Called limits_for"}, modules) + CALL_FORMS)
     for name, lines in SHEETS.items():
         text += f"\nabbrev {name} : List ℕ\n{name} = text ({asked(lines)})\n"
     for name, _, spelling in refused_sheets():
@@ -508,7 +504,7 @@ def call_table(reference):
 
 
 def options_of(call, name, ceiling, limit, lengths):
-    return ["--ceiling", str(ceiling), "--limit", str(limit), "--lengths", ",".join(map(str, lengths))] + ["--strict"] * (call == "strictCall")
+    return ["--ceiling", str(ceiling), "--limit", str(limit), "--lengths", ",".join(map(str, lengths))] + ["--strict"] * (call == "strict_call")
 
 
 def call_theorem(form, title, rows, opened):
@@ -518,7 +514,7 @@ def call_theorem(form, title, rows, opened):
         calls += f"    {form} {call} {name} {ceiling} {limit} {' '.join(map(str, lengths))} ∷  -- {said}\n"
         words = f"filled {board} {book} {report}" if form == "refused" else f"laid {book}, laid {report}"
         answers += f"    ({listed(got[0])}, {words}) ∷\n"
-    asked = f"calls{title.capitalize()}"
+    asked = f"calls_{title}"
     return (f"\nabbrev {asked} : List {form.capitalize()}\n{asked} =\n{calls}    []\n\npub {title} : {asked} ≡\n{answers}    []\n"
             f"unfolding {form} called {opened}\n{title} = refl\n")
 

@@ -10,16 +10,16 @@ SEVEN = [3, 0, 0, 12, 1, 0, 4, 0, 0, 22, 7, 0]
 TERM = SEVEN[:9]
 HEAD = """-- What the writer answers, in digits, by computation: each number, place and byte. The answers are those of
 -- `reference write-call`, and this file is `reference/writing.py`'s. Assumes nothing.
-use mathlib.Core.Path.{_≡_, refl}
+use mathlib.Core.Path.{◌≡◌, refl}
 use mathlib.Core.Bool.{Bool, true, false}
-use mathlib.Core.List.{List, [], _∷_, _++_, map}
+use mathlib.Core.List.{List, [], ◌∷◌, ◌++◌, map}
 use Prim.Native.Nat.{ℕ}
 use lib.ListN.{replicate}
-use Rattle·spelling.specs.Text.{fieldText, lineText}
-use Rattle·kinds.specs.Kinds.{find, table, rowOf, begins, headOf}
-use Rattle·grammar.specs.Grammar.{declaredBy, arms, following, read}
-use Rattle·judgment.specs.Result.{numbers}
-use Rattle·writing·specs.specs.Writing.{triplesFrom, triplesOf, readTriples, sheetText, wordsOk, Wrote, writeCall}
+use Rattle.spelling.specs.Text.{field_text, line_text}
+use Rattle.kinds.specs.Kinds.{find, table, row_of, begins, head_of}
+use Rattle.grammar.specs.Grammar.{declared_by, arms, following, read}
+use Rattle.judgment.specs.Result.{numbers}
+use Rattle.writing.specs.Writing.{triples_from, triples_of, read_triples, sheet_text, words_ok, Wrote, write_call}
 
 -- words, the length of the output, the seven numbers, and the output's first bytes; the others are dots, as all were before
 pub record Row : Type 0 where
@@ -30,15 +30,15 @@ pub record Row : Type 0 where
   pub dots : ℕ
 
 abbrev given : Row → (List ℕ) × (List ℕ)
-given r = (r .seven, r .first ++ replicate (r .dots) 46)
+given r = (r.seven, r.first ++ replicate r.dots 46)
 
 abbrev told : Wrote → (List ℕ) × (List ℕ)
-told w = (numbers (w .answer), w .out)
+told w = (numbers w.answer, w.out)
 
 abbrev row : List ℕ → ℕ → List ℕ → List ℕ → ℕ → Row
 row ws n seven first dots = record { words = ws; room = n; seven = seven; first = first; dots = dots }
 """
-UNFOLDED = "lineText fieldText find table rowOf begins headOf declaredBy arms following read triplesFrom triplesOf readTriples sheetText writeCall"
+UNFOLDED = "line_text field_text find table row_of begins head_of declared_by arms following read triples_from triples_of read_triples sheet_text write_call"
 
 
 def term(kind, value, count, *more):
@@ -107,7 +107,7 @@ def rows(reference, name, cases):
         lines.append(f"    row ({listed(words)}) {room} ({listed(seven)})  -- {title}")
         lines.append(f"    ({listed(first)}) {dots} ∷")
     lines.append("    []\n")
-    lines.append(f"pub {name} : map (λ r. told (writeCall (r .words) (replicate (r .room) 46))) {name}-rows ≡ map given {name}-rows")
+    lines.append(f"pub {name} : map (λ r. told (write_call r.words (replicate r.room 46))) {name}-rows ≡ map given {name}-rows")
     lines.append(f"unfolding {UNFOLDED}\n{name} = refl\n")
     return "\n".join(lines)
 
@@ -121,7 +121,7 @@ def taken(reference, count):
 def counts(reference):
     cases = [0, 1, 2, 3, 4, 5, 6, 5997, 5998, 5999, 6000, 6001, 6002, 6003, 6006]
     answers = " ∷ ".join([str(taken(reference, n)).lower() for n in cases] + ["[]"])
-    return f"\n-- so many words may be a plan's\npub counts : map wordsOk ({listed(cases)}) ≡ ({answers})\ncounts = refl\n"
+    return f"\n-- so many words may be a plan's\npub counts : map words_ok ({listed(cases)}) ≡ ({answers})\ncounts = refl\n"
 
 
 def main():

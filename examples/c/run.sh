@@ -7,7 +7,7 @@ cd "$(dirname "$0")" || exit 2
 library=${KIRVOGHUS_LIB:-../../target/staticlib/libexports.a}
 program=target/check
 if [ ! -f "$library" ]; then
-    echo "no library $library: run \`rt staticlib exports\` at the top, or set KIRVOGHUS_LIB" >&2
+    echo "no library $library: run \`tools/library.sh\` at the top, or set KIRVOGHUS_LIB" >&2
     exit 2
 fi
 mkdir -p target || exit 2

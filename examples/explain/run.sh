@@ -4,7 +4,7 @@
 cd "$(dirname "$0")" || exit 2
 program=${KIRVOGHUS_EXPLAIN:-../../target/bin/plan_explain}
 if [ ! -x "$program" ]; then
-    echo "no program $program: run \`rt check plan_explain\` at the top, or set KIRVOGHUS_EXPLAIN" >&2
+    echo "no program $program: run \`tools/programs.sh plan_explain\` at the top, or set KIRVOGHUS_EXPLAIN" >&2
     exit 2
 fi
 mkdir -p target || exit 2

@@ -7,7 +7,7 @@ bin=${KIRVOGHUS_BIN:-../../target/bin}
 runs=../../crates/plan_write_runs
 for program in plan_write plan_check; do
     if [ ! -x "$bin/$program" ]; then
-        echo "no program $bin/$program: run \`rt check plan_write plan_check\` at the top, or set KIRVOGHUS_BIN" >&2
+        echo "no program $bin/$program: run \`tools/programs.sh plan_write plan_check\` at the top, or set KIRVOGHUS_BIN" >&2
         exit 2
     fi
 done
