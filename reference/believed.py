@@ -4,7 +4,7 @@
 
 Without words it starts at checker's Answered, which is what the entry call's contract says. It follows every `use` of a module of
 specs/ of this repository's crates; a record or an enum that src/ declares is listed with that file as `declared`, and its lines are not
-counted. Exit status 1 where a module of definitions uses one of a crate's proofs/. The kit's libraries (Rattle.std..) are not followed.
+counted. Exit status 1 where a module of definitions uses one of a crate's proofs/, or where none uses another. The kit's libraries (Rattle.std..) are not followed.
 """
 import os, re, subprocess, sys
 
@@ -45,7 +45,7 @@ def main():
         print(f"       crates/{crate}/src declares {', '.join(sorted(declared[crate]))}")
     for line in wrong:
         print(line)
-    sys.exit(1 if wrong else 0)
+    sys.exit(1 if wrong or len(order) < 2 else 0)
 
 
 if __name__ == "__main__":
