@@ -11,7 +11,7 @@ TERM = SEVEN[:9]
 HEAD = """-- What the writer answers, in digits, by computation: each number, place and byte. The answers are those of
 -- `reference write-call`, and this file is `reference/writing.py`'s. Assumes nothing.
 use mathlib.Core.Path.{◌≡◌, refl}
-use mathlib.Core.Bool.{Bool, true, false}
+use mathlib.Core.Bool.{true, false}
 use mathlib.Core.List.{List, [], ◌∷◌, ◌++◌, map}
 use Prim.Native.Nat.{ℕ}
 use lib.ListN.{replicate}
