@@ -161,27 +161,22 @@ def said(line, letter):
 def judged(reference, text):
     shown = subprocess.run([reference, "answer"], input=text, capture_output=True, check=True).stdout.decode()
     number, line = (int(n) for n in shown.split()[:2])
-    return "Length" if number == 3 else f"Misspelt {line}" if number == 4 else f"Unfit {line}" if number == 5 else "Plan"
+    return {3: "Err Length", 4: f"Err (Misspelt {line})", 5: f"Err (Unfit {line})"}.get(number, "Ok tt")
 
 
 def rows_of(reference, rows, letter):
     return [(f"(({folded([said(line, letter) for line in lines])}), {judged(reference, b''.join(map(bytes_of, lines)))})", title) for title, lines in rows]
 
 
-HEAD = """-- Sheets at the boundary of every field, length and place, by computation: reference/boundaries.py makes this file from the answers of the reader in
--- reference/src. Assumes nothing.
-use mathlib.Core.Path.{◌≡◌, refl}
-use mathlib.Core.Bool.{false}
-use mathlib.Core.List.{List, [], ◌∷◌, ◌++◌, map}
-use Prim.Native.Nat.{ℕ, zero, suc, ◌-◌}
-use lib.ListN.{length, replicate}
+HEAD = """-- Sheets at the boundary of every field, length and place, by computation: reference/boundaries.py makes this file from
+-- the answers of the reader in reference/src. Assumes nothing.
+use Rattle.grammar.specs.declared.SheetError.TheVariants.{Length, Misspelt, Unfit}
+use Rattle.grammar.specs.declared.SheetError.{SheetError}
+use Rattle.std.proofs.Common.{Result, Ok, Err, Some, ◌≡◌, refl, false, List, [], ◌∷◌, ◌++◌, map, ℕ, zero, suc, ◌-◌, length, replicate}
 use Rattle.spelling.specs.declared.Triple.{Triple}
-use Rattle.spelling.specs.declared.Line.TheVariants.{Spelt}
 use Rattle.spelling.specs.Spelling.{field_from, line_of, line_at, lines_from, lines_of, first_misspelt}
 use Rattle.spelling.specs.Text.{field_text, line_text}
 use Rattle.kinds.specs.Kinds.{find, table, row_of, begins, head_of}
-use Rattle.grammar.specs.declared.Check.{Check}
-use Rattle.grammar.specs.declared.Check.TheVariants.{Plan, Length, Misspelt, Unfit}
 use Rattle.grammar.specs.Grammar.{entries, declared_by, arms, following, read, read_at}
 use Rattle.grammar.specs.Check.{end_of, fitting, read_sheet, check}
 
@@ -189,8 +184,8 @@ abbrev t : ℕ → ℕ → ℕ → Triple
 t k v c = record { kind = k; negative = false; value = v; count = c }
 
 -- a sheet by its lines, all well spelt: `check` without the bytes, which would be most of the work
-unfoldable pub check_lines : List Triple → Check
-check_lines ts = fitting (end_of (length ts) (read (map Spelt ts) (entries 1 0 ∷ []) 0))
+unfoldable pub check_lines : List Triple → Result Unit SheetError
+check_lines ts = fitting (end_of (length ts) (read (map Some ts) (entries 1 0 ∷ []) 0))
 
 -- the text of a line, by its triple, or by what stands in its fields and its last byte
 unfoldable pub l : ℕ → ℕ → ℕ → List ℕ
@@ -207,14 +202,14 @@ text [] = []
 text (t ∷ ts) = t ++ text ts
 
 abbrev Row : Type 0
-Row = List (List ℕ) × Check
+Row = List (List ℕ) × Result Unit SheetError
 
 abbrev times : ℕ → List Triple → List Triple
 times zero ts = []
 times (suc n) ts = ts ++ times n ts
 
 abbrev LinesRow : Type 0
-LinesRow = List Triple × Check
+LinesRow = List Triple × Result Unit SheetError
 """
 OPENED = "line_text field_text field_from line_of line_at lines_from lines_of first_misspelt find table row_of begins head_of declared_by arms following read read_at read_sheet check"
 

@@ -1,10 +1,5 @@
 -- InfApp by the shape of the function's type. Assumes nothing.
-use mathlib.Core.Path.{◌≡◌, refl, sym, ap, ◌∙◌, subst}
-use mathlib.Core.Logic.{◌≢◌}
-use mathlib.Core.List.{List}
-use Prim.Native.Nat.{ℕ, ◌+◌, ◌*◌, ◌-◌, ◌≤◌, ◌<◌}
-use native.Mathlib.Omega.{arith}
-use lib.ListN.{length, get_or}
+use Rattle.std.proofs.Common.{◌≡◌, refl, sym, ap, ◌∙◌, subst, ◌≢◌, List, ℕ, ◌+◌, ◌*◌, ◌-◌, ◌≤◌, ◌<◌, arith, length, get_or}
 use Rattle.sizes.specs.Sizes.{most_nodes}
 use Rattle.nodes.specs.Nodes.{node, Ty, nodes_at}
 use Rattle.nodes.proofs.Laws.{length-nodes_at}
@@ -15,6 +10,8 @@ use Rattle.judgment.specs.Board.{refuse}
 use Rattle.judgment.specs.Rules.{Env, apply_by}
 use Rattle.core_types.proofs.Walks.{first-within}
 use Rattle.operations.specs.declared.Run.{Run}
+use Rattle.subtyping.specs.declared.Shape.{Shape}
+use Rattle.subtyping.specs.declared.Shape.TheVariants.{Arrow, Forall, Unknown}
 use Rattle.subtyping.specs.Subtyping.{shape_of, opened_at, Written, SubAsk}
 use Rattle.subtyping.proofs.Shapes.{forall-view, unknown-is}
 use Rattle.subtyping.proofs.Subs.{sizes}
@@ -22,7 +19,7 @@ use Rattle.inference.specs.Inference.{Open}
 use Rattle.applying.specs.Applying.{apply_report}
 
 -- ---- the rule by views
-not-function : (E : Env) (f : Ty) (e : Term) (c : Ty) (v : View) → shape_of v ≢ 1 → shape_of v ≢ 3 → shape_of v ≢ 4 → refuse (NotAFunction (length f)) f ≡ apply_by E f e c v
+not-function : (E : Env) (f : Ty) (e : Term) (c : Ty) (v : View) → shape_of v ≢ Arrow → shape_of v ≢ Forall → shape_of v ≢ Unknown → refuse (NotAFunction (length f)) f ≡ apply_by E f e c v
 not-function E f e c (is_arrow a b) p q r = absurd (p refl)
 not-function E f e c (is_app a b) p q r = refl
 not-function E f e c (is_forall x b) p q r = absurd (q refl)
@@ -46,26 +43,26 @@ module _ {b k rep : List ℕ} {c : Run} {f n : ℕ} (a : SubAsk b k rep c f n) w
   part-within m e = first-within rep 2 (f - 1) m e
 
   -- an unknown is unsolved, since it was written out
-  pub unknown-open : shape_of (view F) ≡ 4 → Open k c (get_or rep 1 0)
+  pub unknown-open : Unknown ≡ shape_of (view F) → Open k c (get_or rep 1 0)
   unknown-open e =
-      let u : Written k c (unknown (get_or rep 1 0)) = subst (Written k c) (unknown-is rep 0 f bounds.0 e) a.left in
+      let u : Written k c (unknown (get_or rep 1 0)) = subst (Written k c) (unknown-is rep 0 f bounds.0 (sym e)) a.left in
       (u.made.0 refl, u.free.0)
 
   -- anything else is refused, with the type at the front of the report
-  pub refuses : (E : Env) (e : Term) (t : Ty) → shape_of (view F) ≢ 1 → shape_of (view F) ≢ 3 → shape_of (view F) ≢ 4 → refuse (NotAFunction f) F ≡ apply_by E F e t (view F)
+  pub refuses : (E : Env) (e : Term) (t : Ty) → shape_of (view F) ≢ Arrow → shape_of (view F) ≢ Forall → shape_of (view F) ≢ Unknown → refuse (NotAFunction f) F ≡ apply_by E F e t (view F)
   refuses E e t p q r = ap (λ (m : ℕ). refuse (NotAFunction m) F) (sym (length-nodes_at rep 0 f)) ∙ not-function E F e t (view F) p q r
 
   -- ---- every word of the report, by the shape that the code has read
-  module _ {s : ℕ} (e : s ≡ shape_of (view F)) (u : ℕ) where
-    pub report-stays : s ≢ 3 → rep ≡ apply_report rep u (view F)
-    report-stays h = by (view F) (λ z. h (e ∙ z))
+  module _ (u : ℕ) where
+    pub report-stays : {s : Shape} → s ≡ shape_of (view F) → s ≢ Forall → rep ≡ apply_report rep u (view F)
+    report-stays e h = by (view F) (λ z. h (e ∙ z))
       where
-        by : (v : View) → shape_of v ≢ 3 → rep ≡ apply_report rep u v
+        by : (v : View) → shape_of v ≢ Forall → rep ≡ apply_report rep u v
         by (is_arrow a b) h = refl
         by (is_app a b) h = refl
         by (is_forall x b) h = absurd (h refl)
         by (is_unknown k) h = refl
         by is_other h = refl
 
-    pub report-opened : s ≡ 3 → opened_at rep 2 (get_or rep 1 0) (node 17 u) (nodes_at rep 2 (f - 1)) ≡ apply_report rep u (view F)
-    report-opened h = ap (apply_report rep u) (sym (forall-view rep 0 f (sym e ∙ h)))
+    pub report-opened : Forall ≡ shape_of (view F) → opened_at rep 2 (get_or rep 1 0) (node 17 u) (nodes_at rep 2 (f - 1)) ≡ apply_report rep u (view F)
+    report-opened e = ap (apply_report rep u) (sym (forall-view rep 0 f (sym e)))

@@ -1,10 +1,7 @@
 -- The type that a Var's name has, on the sheet or on the board. Assumes nothing.
-use mathlib.Core.Path.{◌≡◌, sym, ap, ◌∙◌, subst}
-use mathlib.Core.Bool.{Bool, true, false, cond}
-use mathlib.Core.List.{List, [], ◌∷◌}
-use Prim.Native.Nat.{ℕ, zero, suc, ◌+◌, ◌*◌, ◌≤◌}
-use native.Mathlib.Omega.{arith}
-use lib.ListN.{length, take, drop}
+use Rattle.nodes.specs.declared.Place.{Place}
+use Rattle.sheet.specs.declared.Extent.{Extent}
+use Rattle.std.proofs.Common.{Option, Some, None, ◌≡◌, sym, ap, ◌∙◌, subst, Bool, true, false, cond, List, [], ◌∷◌, ℕ, zero, suc, ◌+◌, ◌*◌, ◌≤◌, arith, length, take, drop}
 use Rattle.sizes.specs.Sizes.{board_base}
 use Rattle.nodes.specs.Nodes.{node, Ty, nodes_at}
 use Rattle.nodes.specs.Parts.{take_parts}
@@ -13,8 +10,6 @@ use Rattle.nodes.proofs.Laws.{length-nodes_at}
 use Rattle.nodes.proofs.PartLaws.{length-take}
 use Rattle.spelling.specs.declared.Triple.{Triple}
 use Rattle.kinds.specs.Kinds.{a_type, parts_of}
-use Rattle.sheet.specs.declared.Found.{Found}
-use Rattle.sheet.specs.declared.Found.TheVariants.{At, Nothing}
 use Rattle.sheet.specs.Plan.{is_entry, named, Declaration, declarations, find_in, find_entry, type_at, plan_of}
 use Rattle.sheet.specs.Rows.{rows}
 use Rattle.sheet.specs.Form.{IsPart, Typed, Formed}
@@ -27,9 +22,6 @@ use Rattle.judgment.specs.Board.{Board as Entries}
 use Rattle.judgment.specs.Rules.{variable, infer_by}
 use Rattle.judgment.specs.Result.{Way}
 use Rattle.board.specs.declared.Board.{Board}
-use Rattle.board.specs.declared.Place.{Place}
-use Rattle.board.specs.declared.Found.{Found as OnBoard}
-use Rattle.board.specs.declared.Found.TheVariants.{At as Stands, Nothing as Nowhere}
 use Rattle.board.specs.Board.{word, nodes_below, entries_of, Stacked, var_place, type_in}
 use Rattle.board.proofs.Finds.{var-place}
 use Rattle.operations.specs.declared.Run.{Run}
@@ -40,13 +32,13 @@ use Rattle.applying.specs.Applying.{env_on, entry_in, VarAsk}
 
 -- ---- entries of the sheet
 -- what is found ends at most at line m; it is a type
-abbrev Ends : ℕ → Found → Type 0
-Ends m (At line count) = line + count ≤ m
-Ends m Nothing = Unit {0}
+abbrev Ends : ℕ → Option Extent → Type 0
+Ends m (Some e) = e.line + e.count ≤ m
+Ends m None = Unit {0}
 
-abbrev IsType : List Triple → Found → Type 0
-IsType ls (At line count) = IsPart a_type (take count (drop line ls))
-IsType ls Nothing = Unit {0}
+abbrev IsType : List Triple → Option Extent → Type 0
+IsType ls (Some e) = IsPart a_type (take e.count (drop e.line ls))
+IsType ls None = Unit {0}
 
 module _ (k x : ℕ) where
   found-ends : (m : ℕ) (ts : List Triple) (d at : ℕ) → at + length ts ≤ m → Ends m (find_in k x (declarations ts d at))
@@ -67,8 +59,8 @@ module _ (k x : ℕ) where
   found-typed ls [] h = tt
   found-typed ls (e ∷ es) h = cond_ind (IsType ls) (named k x e.head) (λ _. h.0) (λ _. found-typed ls es h.1)
 
-  module _ (s : List ℕ) {r : Found} (e : r ≡ find_entry k x (rows s)) where
-    entry-lines : Formed (rows s) → {line count : ℕ} → r ≡ At line count → LinesAsk s line count
+  module _ (s : List ℕ) {r : (Option Extent)} (e : r ≡ find_entry k x (rows s)) where
+    entry-lines : Formed (rows s) → {line count : ℕ} → r ≡ Some (record { line = line; count = count }) → LinesAsk s line count
     unfolding find_entry
     entry-lines f {line} {count} q = record {
       within = subst (Ends (length (rows s))) (sym e ∙ q) (found-ends (length (rows s)) (rows s) 0 0 (omega arith));
@@ -76,7 +68,7 @@ module _ (k x : ℕ) where
     }
 
     -- it may be copied and pushed
-    pub entry-asks : {b : List ℕ} {c : Run} {out t : List ℕ} {tn : ℕ} → VarAsk b c s out t tn → {line count : ℕ} → r ≡ At line count
+    pub entry-asks : {b : List ℕ} {c : Run} {out t : List ℕ} {tn : ℕ} → VarAsk b c s out t tn → {line count : ℕ} → r ≡ Some (record { line = line; count = count })
         → Stacked b c.counters.board × (2 * tn ≤ length t) × (2 * count ≤ length out) × LinesAsk s line count
     entry-asks a q =
         let l = entry-lines a.sheet q in
@@ -85,19 +77,19 @@ module _ (k x : ℕ) where
         (a.board, a.type, omega arith, l)
 
     -- what is found is the type that the plan's entry has
-    pub entry-is : {v : Found} → r ≡ v → type_at (rows s) v ≡ entry_in k x s
+    pub entry-is : {v : (Option Extent)} → r ≡ v → type_at (rows s) v ≡ entry_in k x s
     unfolding find_entry
     entry-is q = ap (type_at (rows s)) (sym q ∙ e) ∙ find-lookup k x (rows s) (declarations (rows s) 0 0)
 
 -- ---- Vars on the board
 -- what is found stands among the first m nodes
-abbrev Inside : ℕ → OnBoard → Type 0
-Inside m (Stands p) = p.start + 2 * p.count ≤ board_base + 2 * m
-Inside m Nowhere = Unit {0}
+abbrev Inside : ℕ → Option Place → Type 0
+Inside m (Some p) = p.start + 2 * p.count ≤ board_base + 2 * m
+Inside m None = Unit {0}
 
-inside-more : (m n : ℕ) (o : OnBoard) → m ≤ n → Inside m o → Inside n o
-inside-more m n (Stands p) h i = omega (arith, i)
-inside-more m n Nowhere h i = tt
+inside-more : (m n : ℕ) (o : Option Place) → m ≤ n → Inside m o → Inside n o
+inside-more m n (Some p) h i = omega (arith, i)
+inside-more m n None h i = tt
 
 module _ (x : ℕ) (w : List ℕ) where
   found_inside : (i : ℕ) → Inside (nodes_below w i) (var_place x w i)
@@ -108,21 +100,21 @@ module _ (x : ℕ) (w : List ℕ) where
       (λ _. omega arith)
       (λ _. inside-more (nodes_below w i) (nodes_below w i + (word w i 2 + word w i 3)) (var_place x w i) (omega arith) (found_inside i))
 
-  module _ {b : Board} (s : Stacked w b) {r : OnBoard} (e : r ≡ var_place x w b.entries) where
-    var-inside : {p : Place} → r ≡ Stands p → p.start + 2 * p.count ≤ length w
+  module _ {b : Board} (s : Stacked w b) {r : Option Place} (e : r ≡ var_place x w b.entries) where
+    var-inside : {p : Place} → r ≡ Some p → p.start + 2 * p.count ≤ length w
     var-inside {p} q =
-        let i : Inside (nodes_below w b.entries) (Stands p) = subst (Inside (nodes_below w b.entries)) (sym e ∙ q) (found_inside b.entries) in
+        let i : Inside (nodes_below w b.entries) (Some p) = subst (Inside (nodes_below w b.entries)) (sym e ∙ q) (found_inside b.entries) in
         let n = s.nodes in
         let m = s.few_nodes in
         let l = s.room in
         omega (arith, i)
 
-    pub var-is : (ls : List Triple) {v : OnBoard} → r ≡ v → type_in w v ≡ find_var x (entries_of ls w b.entries)
+    pub var-is : (ls : List Triple) {v : Option Place} → r ≡ v → type_in w v ≡ find_var x (entries_of ls w b.entries)
     var-is ls q = ap (type_in w) (sym q ∙ e) ∙ sym (var-place ls x w b.entries)
 
 -- the type that is found may be copied
-pub var-copies : {b : List ℕ} {c : Run} {s out t : List ℕ} {tn : ℕ} (a : VarAsk b c s out t tn) (x : ℕ) {r : OnBoard} → r ≡ var_place x b c.counters.board.entries
-    → {p : Place} → r ≡ Stands p → (0 + 2 * p.count ≤ length out) × (p.start + 2 * p.count ≤ length b)
+pub var-copies : {b : List ℕ} {c : Run} {s out t : List ℕ} {tn : ℕ} (a : VarAsk b c s out t tn) (x : ℕ) {r : Option Place} → r ≡ var_place x b c.counters.board.entries
+    → {p : Place} → r ≡ Some p → (0 + 2 * p.count ≤ length out) × (p.start + 2 * p.count ≤ length b)
 var-copies {b} {c} {s} {out} a x e {p} q =
     let u : Ty = nodes_at b p.start p.count in
     let v : 2 * length u ≤ length out = a.vars x u (sym (var-is x b a.board e (rows s) q)) in

@@ -1,6 +1,5 @@
 -- What InfApp does with its two written-out types. Assumes nothing.
-use mathlib.Core.List.{List}
-use Prim.Native.Nat.{ℕ}
+use Rattle.std.proofs.Common.{List, ℕ}
 use Rattle.nodes.specs.Nodes.{Ty}
 use Rattle.judgment.specs.Types.{view}
 use Rattle.judgment.specs.Terms.{Term}

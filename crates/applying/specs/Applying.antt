@@ -1,6 +1,5 @@
 -- What the code of InfApp and Var cites. Assumes nothing: these are definitions.
-use Rattle.std.specs.Prelude.{◌≡◌, List, ℕ, ◌*◌, ◌≤◌, length}
-use Rattle.std.proofs.Math.Option.{Option, none, some}
+use Rattle.std.specs.Prelude.{◌≡◌, List, ℕ, ◌*◌, ◌≤◌, length, Option, None, Some}
 use Rattle.std.proofs.lemmas.List.Edits.{sets}
 use Rattle.nodes.specs.Nodes.{node, Ty, words}
 use Rattle.sheet.specs.Plan.{plan_of, declarations, bindings_in, lookup}
@@ -38,15 +37,16 @@ app_report rep c f t w = twice_report rep c f t w (λ out. apply_report out c.co
 
 -- the type that a Var is found to have is copied to the front
 abbrev pub found_out : List ℕ → Option Ty → List ℕ
-found_out out none = out
-found_out out (some t) = sets out 0 (words t)
+found_out out None = out
+found_out out (Some t) = sets out 0 (words t)
 
 -- ---- what a call asks
 -- room to copy the type of any Var on the board
 abbrev pub VarsFit : List ℕ → Run → List ℕ → List ℕ → Type 0
-VarsFit b c s out = (x : ℕ) (u : Ty) → find_var x (entries_of (rows s) b c.counters.board.entries) ≡ some u → 2 * length u ≤ length out
+VarsFit b c s out = (x : ℕ) (u : Ty) → find_var x (entries_of (rows s) b c.counters.board.entries) ≡ Some u → 2 * length u ≤ length out
 
--- A sheet with types on its entries, room to copy any of them or any of the board's, and the taken type: the tn nodes at the front of t.
+-- A sheet with types on its entries, room to copy any of them or any of the board's, and the taken type: the tn nodes
+-- at the front of t.
 pub record VarAsk (b : List ℕ) (c : Run) (s out t : List ℕ) (tn : ℕ) : Type 0 where
   pub formed : Bookable b c
   pub board : Stacked b c.counters.board

@@ -1,11 +1,5 @@
 -- An arm, and all arms. Assumes nothing.
-use mathlib.Core.Path.{◌≡◌, refl, sym, ap, ap₂, ◌∙◌, subst}
-use mathlib.Core.Bool.{false}
-use mathlib.Core.List.{List, [], ◌∷◌}
-use Prim.Native.Nat.{ℕ, zero, suc, ◌-◌, ◌≤◌, ◌<◌}
-use native.Mathlib.Nat.{not-suc-le-zero}
-use native.Mathlib.Omega.{arith}
-use lib.ListN.{length, take, drop, length-drop}
+use Rattle.std.proofs.Common.{◌≡◌, refl, sym, ap, ap₂, ◌∙◌, subst, false, List, [], ◌∷◌, ℕ, zero, suc, ◌-◌, ◌≤◌, arith, length, take, drop, length-drop}
 use Rattle.nodes.specs.Nodes.{Ty}
 use Rattle.nodes.specs.Lists.{All}
 use Rattle.nodes.specs.Parts.{take_parts}
@@ -96,21 +90,20 @@ module _ (ls : List Triple) (u : ℕ) (t : Ty) where
   pub arms_start : {b : List ℕ} {c : Run} (n line : ℕ) → Ready b c → Arms b c n (from_line ls line) b c n line
   arms_start n line h = turn-none _ _ h (λ f. refl)
 
-  arms-cons : (left : ℕ) (xs : Term) (p : Rule) → 0 < left
-      → arms_then left xs p ≡ check_patterns (env_at ls) (part 0 xs).lines (unknown u ∷ []) [] (λ bs. push_vars bs (push (chk (part 1 xs) t) (arms_then (left - 1) (after_parts 2 xs) p)))
+  arms-cons : (left rest : ℕ) (xs : Term) (p : Rule) → left ≡ suc rest
+      → arms_then left xs p ≡ check_patterns (env_at ls) (part 0 xs).lines (unknown u ∷ []) [] (λ bs. push_vars bs (push (chk (part 1 xs) t) (arms_then rest (after_parts 2 xs) p)))
   unfolding arms_then
-  arms-cons zero xs p l = absurd (not-suc-le-zero l)
-  arms-cons (suc left) xs p l = let e : suc left - 1 ≡ left = omega arith in sym (rw e)
+  arms-cons left rest xs p l = rw l
 
-  pub arms-turn : {b b₁ b₂ : List ℕ} {c r : Run} {o : Arm} (n : ℕ) (xs : Term) (left at : ℕ) → 0 < left → Arms b c n xs b₁ r left at → Armed b₁ r ls at u t b₂ o → Arms b c n xs b₂ o.run (left - 1) o.next
-  arms-turn {b} {b₁} {b₂} {c} {r} {o} n xs left at l h a =
+  pub arms-turn : {b b₁ b₂ : List ℕ} {c r : Run} {o : Arm} (n : ℕ) (xs : Term) (left rest at : ℕ) → left ≡ suc rest → Arms b c n xs b₁ r left at → Armed b₁ r ls at u t b₂ o → Arms b c n xs b₂ o.run rest o.next
+  arms-turn {b} {b₁} {b₂} {c} {r} {o} n xs left rest at l h a =
       let x = a.turn in
-      let y : Turn {A = ℕ} ls b₁ r (λ f. check_patterns (env_at ls) (part 0 (from_line ls at)).lines (unknown u ∷ []) [] (λ bs. push_vars bs (push (chk (part 1 (from_line ls at)) t) (arms_then (left - 1) (from_line ls o.next) (f 0))))) b₂ o.run
-      (λ f. arms_then (left - 1) (from_line ls o.next) (f 0)) =
-      record { ready = x.ready; taken = x.taken; kept = x.kept; outcome = λ w k rep z f. x.outcome w k rep z (λ _. arms_then (left - 1) (from_line ls o.next) (f 0)) } in
+      let y : Turn {A = ℕ} ls b₁ r (λ f. check_patterns (env_at ls) (part 0 (from_line ls at)).lines (unknown u ∷ []) [] (λ bs. push_vars bs (push (chk (part 1 (from_line ls at)) t) (arms_then rest (from_line ls o.next) (f 0))))) b₂ o.run
+      (λ f. arms_then rest (from_line ls o.next) (f 0)) =
+      record { ready = x.ready; taken = x.taken; kept = x.kept; outcome = λ w k rep z f. x.outcome w k rep z (λ _. arms_then rest (from_line ls o.next) (f 0)) } in
       turn-then h (turn-as
-      (λ f. ap (λ (ys : Term). check_patterns (env_at ls) (part 0 (from_line ls at)).lines (unknown u ∷ []) [] (λ bs. push_vars bs (push (chk (part 1 (from_line ls at)) t) (arms_then (left - 1) ys (f 0))))) a.after
-      ∙ sym (arms-cons left (from_line ls at) (f 0) l))
+      (λ f. ap (λ (ys : Term). check_patterns (env_at ls) (part 0 (from_line ls at)).lines (unknown u ∷ []) [] (λ bs. push_vars bs (push (chk (part 1 (from_line ls at)) t) (arms_then rest ys (f 0))))) a.after
+      ∙ sym (arms-cons left rest (from_line ls at) (f 0) l))
       (λ f. refl) y)
 
   pub arms-does : {b b' : List ℕ} {c r : Run} (n : ℕ) (xs : Term) (left at : ℕ) → Arms b c n xs b' r left at → left ≡ 0 → (w : Way) (k rep : List ℕ) → WellFormed b k c
@@ -128,7 +121,6 @@ module _ (ls : List Triple) (u : ℕ) (t : Ty) where
       subst (λ (p : Rule). Does w ls b k rep c p b' k rep r) (arms-done n xs) (turn-does z x)
 
 -- ---- the patterns of the arms to come
-pub narrow-arms : (left : ℕ) (xs : Term) → 0 < left → NarrowArms left xs → All Narrow (part 0 xs).lines × NarrowArms (left - 1) (after_parts 2 xs)
+pub narrow-arms : (left rest : ℕ) (xs : Term) → left ≡ suc rest → NarrowArms left xs → All Narrow (part 0 xs).lines × NarrowArms rest (after_parts 2 xs)
 unfolding NarrowArms
-narrow-arms zero xs l h = absurd (not-suc-le-zero l)
-narrow-arms (suc left) xs l h = let e : suc left - 1 ≡ left = omega arith in (h.0, rw e h.1)
+narrow-arms left rest xs l h = rw l at h

@@ -1,12 +1,6 @@
 -- A Case: what stands ready for its arms, and its parts by its first line. Assumes nothing.
-use mathlib.Core.Path.{◌≡◌, refl, sym, ap, ap₂, ◌∙◌, subst, fun_ext}
-use mathlib.Core.List.{List, [], ◌∷◌}
-use Prim.Native.Nat.{ℕ, ◌+◌, ◌*◌, ◌<◌}
-use native.Mathlib.Nat.{add-zero}
-use native.Mathlib.Omega.{arith}
-use lib.Dec.{ltb}
-use borrow.Author.Tests.{ltb-true}
-use lib.ListN.{length}
+use Rattle.std.proofs.Common.{◌≡◌, refl, sym, ap, ap₂, ◌∙◌, subst, List, [], ◌∷◌, ℕ, ◌+◌, ◌*◌, ◌<◌, add-zero, arith, ltb, ltb-true, length}
+use mathlib.Core.Path.{fun_ext}
 use Rattle.sizes.specs.Sizes.{most_numbers}
 use Rattle.nodes.specs.Nodes.{node, Ty}
 use Rattle.nodes.proofs.ListLaws.{cond_ind}

@@ -1,13 +1,10 @@
 -- The arms of a term that is cut out of the sheet are those on the sheet. Assumes nothing.
-use mathlib.Core.Path.{◌≡◌, refl, ap, ap₂, ◌∙◌}
-use Prim.Native.Nat.{ℕ, zero, suc, ◌+◌, ◌*◌}
-use native.Mathlib.Omega.{arith}
+use Rattle.std.proofs.Common.{◌≡◌, refl, ap, ap₂, ◌∙◌, ℕ, zero, suc, ◌+◌, ◌*◌, arith, [], ◌∷◌}
 use Rattle.nodes.specs.Nodes.{Ty}
 use Rattle.judgment.specs.Terms.{Term, part, after_parts}
 use Rattle.judgment.specs.Board.{chk, Rule, push}
 use Rattle.judgment.specs.Rules.{Env, push_vars, check_patterns, check_arms}
 use Rattle.board.proofs.Terms.{firsts, first_of, after-firsts}
-use mathlib.Core.List.{[], ◌∷◌}
 
 second : (e : Term) (n : ℕ) → part 1 (firsts (1 + (1 + n)) e) ≡ part 1 e
 second e n = ap (part 0) (after-firsts e 1 (1 + n)) ∙ first_of (after_parts 1 e) n

@@ -1,14 +1,10 @@
--- The values of a pattern's lines are words, so a Case on a sheet that is taken meets what `check_arms` asks. Assumes nothing.
-use mathlib.Core.Path.{◌≡◌, refl, ap, ◌∙◌, subst, subst⁻¹}
-use mathlib.Core.Bool.{Bool, true, false, not, ◌&&◌, ◌||◌, and-eq-true_iff}
-use mathlib.Core.List.{List, [], ◌∷◌, ◌++◌}
-use Prim.Native.Nat.{ℕ, zero, suc, ◌+◌, ◌*◌}
-use native.Mathlib.Omega.{arith}
-use lib.Dec.{eqb}
-use borrow.Author.Tests.{eqb-true}
+-- The values of a pattern's lines are words, so a Case on a sheet that is taken meets what `check_arms` asks. Assumes
+-- nothing.
+use Rattle.std.proofs.Common.{Some, ◌≡◌, refl, ap, ◌∙◌, subst, Bool, true, false, not, ◌&&◌, ◌||◌, List, [], ◌∷◌, ◌++◌, ℕ, zero, suc, ◌+◌, ◌*◌, arith, eqb, eqb-true}
+use mathlib.Core.Path.{subst⁻¹}
+use mathlib.Core.Bool.{and-eq-true_iff}
 use Rattle.nodes.specs.Lists.{All}
 use Rattle.spelling.specs.declared.Triple.{Triple}
-use Rattle.spelling.specs.declared.Line.TheVariants.{Spelt}
 use Rattle.kinds.specs.declared.Row.{Row}
 use Rattle.kinds.specs.Kinds.{a_pattern, nothing, number, table, row_of}
 use Rattle.grammar.specs.Grammar.{Item, part as item, entries, ok, due, repeated, following}
@@ -39,7 +35,7 @@ row-patterns ty te e c h =
     by false q z = let w = eqb-true e a_pattern z in rw w (only-replicate a_pattern c)
 
 -- a line that begins a pattern
-line-pattern : (t : Triple) → ok (item a_pattern) (Spelt t) ≡ true → Only a_pattern (due (item a_pattern) (Spelt t)) × Narrow t
+line-pattern : (t : Triple) → ok (item a_pattern) (Some t) ≡ true → Only a_pattern (due (item a_pattern) (Some t)) × Narrow t
 unfolding table
 line-pattern t e =
     let d = due-following a_pattern t e in
@@ -57,9 +53,9 @@ patterns-all [] ahead f p = tt
 patterns-all (t ∷ ts) [] f p = absurd f
 patterns-all (t ∷ ts) (entries k n ∷ ahead) f p = absurd p
 patterns-all (t ∷ ts) (item x ∷ ahead) f p =
-    let g : (ok (item a_pattern) (Spelt t) ≡ true) × Forms ts (due (item a_pattern) (Spelt t) ++ ahead) = rw p.0 at f in
+    let g : (ok (item a_pattern) (Some t) ≡ true) × Forms ts (due (item a_pattern) (Some t) ++ ahead) = rw p.0 at f in
     let l = line-pattern t g.0 in
-    (l.1, patterns-all ts (due (item a_pattern) (Spelt t) ++ ahead) g.1 (only-append a_pattern (due (item a_pattern) (Spelt t)) ahead l.0 p.1))
+    (l.1, patterns-all ts (due (item a_pattern) (Some t) ++ ahead) g.1 (only-append a_pattern (due (item a_pattern) (Some t)) ahead l.0 p.1))
 
 pub pattern-narrow : (ts : List Triple) → IsPart a_pattern ts → All Narrow ts
 pattern-narrow ts f = patterns-all ts (item a_pattern ∷ []) f (refl, tt)

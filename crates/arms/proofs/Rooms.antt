@@ -1,11 +1,5 @@
 -- The room that the arms of a Case are lent. Assumes nothing.
-use mathlib.Core.Path.{◌≡◌, refl, sym, ap, ◌∙◌}
-use mathlib.Core.Bool.{true, false}
-use mathlib.Core.List.{List}
-use Prim.Native.Nat.{ℕ, zero, suc, ◌+◌, ◌-◌, ◌≤◌, ◌<◌}
-use native.Mathlib.Nat.{add-zero, not-suc-le-zero}
-use native.Mathlib.Omega.{arith}
-use lib.ListN.{length}
+use Rattle.std.proofs.Common.{◌≡◌, refl, sym, ap, ◌∙◌, true, false, List, ℕ, zero, suc, ◌+◌, ◌-◌, ◌≤◌, ◌<◌, add-zero, arith, length}
 use Rattle.nodes.specs.Nodes.{Ty}
 use Rattle.spelling.specs.declared.Triple.{Triple}
 use Rattle.sheet.specs.Plan.{part_line}
@@ -68,10 +62,9 @@ room-arm ls u t first c w v l r e p ec el eq = rw (eq, add-zero (length t), ec, 
 
 -- ---- all arms: what is left of them is the whole
 module _ (ls : List Triple) (u : ℕ) (t : Ty) where
-  pub room-turn : (s : Room) {s' s₀ : Room} (left at : ℕ) {next : ℕ} → 0 < left → going s.run.halt ≡ true → arms_room ls u t left at s ≡ s₀ → next ≡ after_arm ls at → s' ≡ arm_room ls u t at s → arms_room ls u t (left - 1) next s' ≡ s₀
+  pub room-turn : (s : Room) {s' s₀ : Room} (left rest at : ℕ) {next : ℕ} → left ≡ suc rest → going s.run.halt ≡ true → arms_room ls u t left at s ≡ s₀ → next ≡ after_arm ls at → s' ≡ arm_room ls u t at s → arms_room ls u t rest next s' ≡ s₀
   unfolding arms_room
-  room-turn s zero at l g h en es = absurd (not-suc-le-zero l)
-  room-turn s (suc left) at l g h en es = let e : suc left - 1 ≡ left = omega arith in rw (e, en, es) (sym (rw g) ∙ h)
+  room-turn s left rest at l g h en es = rw (en, es) (sym (rw (l, g)) ∙ h)
 
   arms-halt : (s : Room) (left at : ℕ) → going s.run.halt ≡ false → arms_room ls u t left at s ≡ s
   unfolding arms_room

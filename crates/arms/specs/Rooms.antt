@@ -20,7 +20,8 @@ pub record Room : Type 0 where
 abbrev pub room : Run → List ℕ → List ℕ → List ℕ → List ℕ → Room
 room c w v l r = record { run = c; frames = w; bindings = v; left = l; right = r }
 
--- the Vars of the n bindings from row i on: the run after they are pushed, and the buffer to which the types are written one after the other
+-- the Vars of the n bindings from row i on: the run after they are pushed, and the buffer to which the types are
+-- written one after the other
 unfoldable pub vars_run : List Triple → List ℕ → ℕ → ℕ → Run → Run
 vars_run ls v i zero c = c
 vars_run ls v i (suc n) c = vars_run ls v (i + 1) n (push_run c (length (type_of ls (ref_at v i))))
@@ -32,7 +33,8 @@ vars_out ls v i (suc n) c l =
     let r = vars_out ls v (i + 1) n (push_run c (length (type_of ls (ref_at v i)))) (instance_out ls (ref_at v i) l) in
     cond (going c.halt) r l
 
--- the arm that starts at line `first`, against the unknown u: its pattern, its Vars, the Chk of its body, which must have type t
+-- the arm that starts at line `first`, against the unknown u: its pattern, its Vars, the Chk of its body, which must
+-- have type t
 unfoldable pub arm_room : List Triple → ℕ → Ty → ℕ → Room → Room
 arm_room ls u t first s =
     let p = pattern_rooms ls first (part_line ls first 1 - first) u s.run s.frames s.bindings s.left s.right in

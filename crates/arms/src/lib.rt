@@ -1,4 +1,5 @@
-// A Case (worklist.rs: `solve_inference` for a Case): its scrutinee, and of each arm the pattern, its variables, its body.
+// A Case (worklist.rs: `solve_inference` for a Case): its scrutinee, and of each arm the pattern, its variables, its
+// body.
 #![tactic(auto)]
 
 ghost use Rattle.std.specs.Prelude.{◌≡◌, List, ℕ, ◌+◌, ◌*◌, ◌<◌};
@@ -17,7 +18,7 @@ ghost use Rattle.arms.specs.Arms.{VarsAsk, ArmAsk, Armed, ArmsAsk, CaseAsk};
 ghost use Rattle.arms.specs.Rooms.{room, vars_run, vars_out, arm_room, after_arm, arms_room, case_room};
 
 use operations::{Run, fresh_evar, is_going, push_chk, push_tvar, push_var};
-use patterns::check_pattern;
+use patterns::{Checked, check_pattern};
 use references::instance;
 use sheet::part_line;
 use tables::get;
@@ -28,17 +29,14 @@ fn push_vars(board: &mut [u32], c: Run, s: &[u64], v: &[usize], n: usize, l: &mu
     ensures { Turn {A = ℕ} (rows s.now) board.old c (λ f. push_vars (bindings_at (rows s.now) v.now 0 n) (f 0)) board.new result (λ f. f 0) × (result ≡ vars_run (rows s.now) v.now 0 n c) × (l.new ≡ vars_out (rows s.now) v.now 0 n c l.old) }
 {
     let mut run = c;
-    let mut i: usize = 0;
-    while i < n {
+    for i in 0..n {
         if !is_going(run.halt) {
             return run;
         }
         let q = get(v, i);
         let name = v[6 * i] as u32;
-        let count = q.count;
         instance(l, s, q);
-        run = push_var(board, run, name, l, 0, count);
-        i += 1;
+        run = push_var(board, run, name, l, 0, q.count);
     }
     run
 }
@@ -50,7 +48,8 @@ pub struct Arm {
     pub next: usize,
 }
 
-// The arm that starts at line `first`, against the unknown u; its body must have the type of tn nodes at word ta of t. w, v, l and r are scratch.
+// The arm that starts at line `first`, against the unknown u; its body must have the type of tn nodes at word ta of t.
+// w, v, l and r are scratch.
 fn check_arm(
     board: &mut [u32],
     c: Run,
@@ -70,10 +69,9 @@ fn check_arm(
 {
     let body = part_line(s, first, 1);
     let lines = body - first;
-    let o = check_pattern(board, c, s, first, lines, u, w, v, l, r);
-    let read = o.run;
-    let bound = push_vars(board, read, s, v, o.bound, l);
-    let run = push_chk(board, bound, body as u32, t, ta, tn);
+    let Checked { run: read, bound } = check_pattern(board, c, s, first, lines, u, w, v, l, r);
+    let named = push_vars(board, read, s, v, bound, l);
+    let run = push_chk(board, named, body as u32, t, ta, tn);
     let next = part_line(s, body, 1);
     Arm { run, next }
 }
@@ -99,20 +97,17 @@ pub fn check_arms(
 {
     let mut run = c;
     let mut at = line;
-    let mut left = n;
-    while 0 < left {
+    for _ in 0..n {
         if !is_going(run.halt) {
             return run;
         }
-        let o = check_arm(board, run, s, at, u, w, v, l, r, t, ta, tn);
-        run = o.run;
-        at = o.next;
-        left -= 1;
+        Arm { run, next: at } = check_arm(board, run, s, at, u, w, v, l, r, t, ta, tn);
     }
     run
 }
 
-// Case: the scrutinee's type is a fresh unknown, which every arm's pattern must have. `e` is the scrutinee's line, `line` that of the first arm.
+// Case: the scrutinee's type is a fresh unknown, which every arm's pattern must have. `e` is the scrutinee's line,
+// `line` that of the first arm.
 pub fn infer_case(
     board: &mut [u32],
     c: Run,

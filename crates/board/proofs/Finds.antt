@@ -1,23 +1,13 @@
 -- What a walk over the entries of a board finds, from the newest down. Assumes nothing.
-use mathlib.Core.Path.{◌≡◌, refl, sym, ap, ap₂, ◌∙◌}
-use mathlib.Core.Bool.{Bool, true, false, cond}
-use mathlib.Core.Option.{none, some}
-use mathlib.Core.List.{List}
-use Prim.Native.Nat.{ℕ, zero, suc, ◌+◌, ◌*◌, ◌-◌, ◌<◌}
-use native.Mathlib.Nat.{add-zero}
-use native.Mathlib.Omega.{arith}
-use lib.ListN.{get_or}
-use lib.Dec.{eqb}
-use borrow.Author.Tests.{eqb-true, eqb-false, eq-eqb, ne_eqb}
+use Rattle.std.proofs.Common.{None, Some, Option, ◌≡◌, refl, sym, ap, ap₂, ◌∙◌, Bool, true, false, cond, List, ℕ, zero, suc, ◌+◌, ◌*◌, ◌-◌, ◌<◌, add-zero, arith, get_or, eqb, eqb-true, eq-eqb, ne_eqb}
+use Rattle.nodes.specs.declared.Place.{Place}
+use borrow.Author.Tests.{eqb-false}
 use Rattle.sizes.specs.Sizes.{board_stride}
 use Rattle.nodes.specs.Nodes.{Node, node, Ty, nodes_at}
 use Rattle.nodes.proofs.ListLaws.{cond_ind}
 use Rattle.spelling.specs.declared.Triple.{Triple}
 use Rattle.judgment.specs.Types.{is_node}
 use Rattle.judgment.specs.Board.{Entry, tvar, var, sub, inf, chk, inf_app, var_named, or_else, find_var, is_t_var, has_t_var, before}
-use Rattle.board.specs.declared.Place.{Place}
-use Rattle.board.specs.declared.Found.{Found}
-use Rattle.board.specs.declared.Found.TheVariants.{At}
 use Rattle.board.specs.Board.{term_at, entry_of, word, left_at, entry_at, entries_of, var_place, type_in}
 
 -- ---- what an entry is, by its kind
@@ -29,7 +19,7 @@ tvar-is ls k n l r h = rw (ne_eqb k 2 (omega arith), ne_eqb k 3 (omega arith), n
 
 -- neither a TVar nor a Var
 abbrev Silent : Entry → Type 0
-Silent e = (x : ℕ) → (is_t_var x e ≡ false) × (var_named x e ≡ none)
+Silent e = (x : ℕ) → (is_t_var x e ≡ false) × (var_named x e ≡ None)
 
 -- a fact of an entry, shown of each kind
 by_kind : (P : Entry → Type 0) (ls : List Triple) (k n : ℕ) (l r : Ty)
@@ -51,14 +41,14 @@ is-tvar ls x k n l r =
     by_kind (λ (e : Entry). is_t_var x e ≡ is_node 17 x (node k n)) ls k n l r
     (λ e. sym (not-node 17 x k n (λ z. omega arith))) (λ e q a b. (q x).0 ∙ sym (not-node 17 x k n (λ z. omega arith))) (λ _. refl)
 
-is-var : (ls : List Triple) (x k n : ℕ) (l r : Ty) → var_named x (entry_of ls k n l r) ≡ cond (is_node 2 x (node k n)) (some l) none
+is-var : (ls : List Triple) (x k n : ℕ) (l r : Ty) → var_named x (entry_of ls k n l r) ≡ cond (is_node 2 x (node k n)) (Some l) None
 is-var ls x k n l r =
-    let other : (2 ≡ k → ⊥) → none ≡ cond (is_node 2 x (node k n)) (some l) none = λ f. rw (not-node 2 x k n f) in
-    by_kind (λ (e : Entry). var_named x e ≡ cond (is_node 2 x (node k n)) (some l) none) ls k n l r
+    let other : (2 ≡ k → ⊥) → None ≡ cond (is_node 2 x (node k n)) (Some l) None = λ f. rw (not-node 2 x k n f) in
+    by_kind (λ (e : Entry). var_named x e ≡ cond (is_node 2 x (node k n)) (Some l) None) ls k n l r
     (λ e. rw (eq-eqb 2 k (sym e))) (λ e q a b. (q x).1 ∙ other (λ z. omega arith)) (λ f. other (λ z. f (sym z)))
 
-chosen : (w : List ℕ) (b : Bool) (p : Place) (o : Found)
-    → or_else (cond b (some (nodes_at w p.start p.count)) none) (type_in w o) ≡ type_in w (cond b (At p) o)
+chosen : (w : List ℕ) (b : Bool) (p : Place) (o : Option Place)
+    → or_else (cond b (Some (nodes_at w p.start p.count)) None) (type_in w o) ≡ type_in w (cond b (Some p) o)
 chosen w true p o = refl
 chosen w false p o = refl
 
@@ -100,9 +90,9 @@ module _ (w : List ℕ) where
       (is-tvar-at ls x (i - 1) ∙ e) (is-tvar-at ls y (i - 1) ∙ f)
 
   pub find-turn : (i : ℕ) → 0 < i → (x : ℕ) {a : Bool} → is_node 2 x (name_at w (i - 1)) ≡ a
-      → var_place x w i ≡ cond a (At (record { start = left_at w (i - 1); count = word w (i - 1) 2 })) (var_place x w (i - 1))
+      → var_place x w i ≡ cond a (Some (record { start = left_at w (i - 1); count = word w (i - 1) 2 })) (var_place x w (i - 1))
   unfolding var_place
   find-turn i h x e =
       let z : i ≡ suc (i - 1) = omega arith in
       ap (var_place x w) z
-      ∙ ap (λ (b : Bool). cond b (At (record { start = left_at w (i - 1); count = word w (i - 1) 2 })) (var_place x w (i - 1))) (ap (is_node 2 x) (named w (i - 1)) ∙ e)
+      ∙ ap (λ (b : Bool). cond b (Some (record { start = left_at w (i - 1); count = word w (i - 1) 2 })) (var_place x w (i - 1))) (ap (is_node 2 x) (named w (i - 1)) ∙ e)

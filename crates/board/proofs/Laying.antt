@@ -1,9 +1,6 @@
--- Entries whose nodes are stored first, and then the words of each entry itself: as if they were laid one after the other. Assumes nothing.
-use mathlib.Core.Path.{◌≡◌, sym, ap, ◌∙◌}
-use mathlib.Core.List.{List, [], ◌∷◌, ◌++◌, append-nil}
-use Prim.Native.Nat.{ℕ, ◌+◌, ◌*◌, ◌≤◌, ◌<◌}
-use native.Mathlib.Omega.{arith}
-use lib.ListN.{length, length-append}
+-- Entries whose nodes are stored first, and then the words of each entry itself: as if they were laid one after the
+-- other. Assumes nothing.
+use Rattle.std.proofs.Common.{◌≡◌, sym, ap, ◌∙◌, List, [], ◌∷◌, ◌++◌, append-nil, ℕ, ◌+◌, ◌*◌, ◌≤◌, ◌<◌, arith, length, length-append}
 use lib.Seq.{sets}
 use Rattle.sizes.specs.Sizes.{most_entries, board_base, board_stride}
 use Rattle.nodes.specs.Nodes.{Ty, words}

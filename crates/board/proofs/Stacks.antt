@@ -1,16 +1,6 @@
 -- What the words of a board hold, and how a push and a pop change that. Assumes nothing.
-use mathlib.Core.Path.{◌≡◌, refl, sym, ap, ◌∙◌}
-use mathlib.Core.Bool.{true}
-use mathlib.Core.List.{List, [], ◌∷◌, ◌++◌}
-use Prim.Native.Nat.{ℕ, zero, suc, ◌+◌, ◌*◌, ◌-◌, ◌≤◌, ◌<◌}
-use native.Mathlib.Nat.{not-suc-le-zero, add-zero}
-use native.Mathlib.Numerals.{add-one, towards_suc}
-use native.Mathlib.Omega.{arith}
-use lib.ListN.{length, get_or, set, take, drop, length-append}
+use Rattle.std.proofs.Common.{◌≡◌, refl, sym, ap, ◌∙◌, true, List, [], ◌∷◌, ◌++◌, ℕ, zero, suc, ◌+◌, ◌*◌, ◌-◌, ◌≤◌, ◌<◌, not-suc-le-zero, add-zero, add-one, arith, length, get_or, take, drop, length-append, leb, ltb, leb-true, ltb-true, below_more}
 use lib.Seq.{sets, length-sets, take-append_seam, drop-append_seam}
-use lib.Dec.{leb, ltb}
-use borrow.Author.Tests.{leb-true, ltb-true}
-use borrow.Author.Count.{below_more}
 use Rattle.sizes.specs.Sizes.{most_entries, most_nodes, board_base, board_size, board_stride}
 use Rattle.nodes.specs.Nodes.{Ty, words, nodes_at, zeros}
 use Rattle.nodes.proofs.Laws.{length-words, words_append, length-nodes_at, sets-append, getD-sets-below, getD-sets-above, getD-sets-in, nodes_at-same, nodes_at-agree, take-nodes_at, drop-nodes_at}
@@ -112,11 +102,7 @@ length-laid w b k n t u =
     let s : List ℕ = k ∷ n ∷ length t ∷ length u ∷ [] in
     length-sets (sets w (board_stride * b.entries) s) (board_base + 2 * b.nodes) (words (t ++ u)) ∙ length-sets w (board_stride * b.entries) s
 
--- what the code of `lay` leaves: four words
-pub headed-by : (w : List ℕ) (b : Board) (k n ln rn : ℕ) → (let i = board_stride * b.entries in set (set (set (set w i k) (i + 1) n) (i + 2) ln) (i + 3) rn ≡ headed w b k n ln rn)
-headed-by w b k n ln rn = simp towards_suc
-
--- what the code of `push` leaves: these, and then the nodes of the two types
+-- what the code of `push` leaves: the words of the entry, and then the nodes of its two types
 pub laid_by : (w : List ℕ) (b : Board) (k n : ℕ) (l : List ℕ) (la ln : ℕ) (r : List ℕ) (ra rn : ℕ) (w₀ w₁ w₂ : List ℕ)
     → w₀ ≡ headed w b k n ln rn
     → w₁ ≡ sets w₀ (board_base + 2 * b.nodes) (words (nodes_at l la ln))

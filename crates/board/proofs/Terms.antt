@@ -1,12 +1,6 @@
--- A term by its first line: its head is that line, and its parts are the terms that start where the parts of that line do. Assumes nothing.
-use mathlib.Core.Path.{◌≡◌, refl, sym, ap, ap₂, ◌∙◌}
-use mathlib.Core.List.{List, ◌∷◌}
-use Prim.Native.Nat.{ℕ, zero, suc, ◌+◌, ◌-◌, ◌<◌}
-use native.Mathlib.Nat.{add-zero, not-suc-le-zero}
-use native.Mathlib.Numerals.{add-one}
-use native.Mathlib.Omega.{arith}
-use lib.ListN.{length, get_or, take, drop}
-use lib.Seq.{drop-cons}
+-- A term by its first line: its head is that line, and its parts are the terms that start where the parts of that line
+-- do. Assumes nothing.
+use Rattle.std.proofs.Common.{◌≡◌, refl, sym, ap, ap₂, ◌∙◌, List, ◌∷◌, ℕ, zero, suc, ◌+◌, ◌-◌, ◌<◌, add-zero, not-suc-le-zero, add-one, arith, length, get_or, take, drop, drop-cons}
 use Rattle.nodes.specs.Parts.{take_parts}
 use Rattle.nodes.proofs.PartLaws.{take-take, drop-take, is-take}
 use Rattle.spelling.specs.declared.Triple.{Triple}

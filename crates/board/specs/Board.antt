@@ -1,8 +1,8 @@
 -- The board's words, and the entries that they hold. Assumes nothing: these are definitions.
--- Entry i has words 8 i to 8 i + 3: what it is, its number, and how many nodes its two types have. The nodes of all types stand from word 4,096 on, two words each,
--- entry by entry, up to word 12,287, the last.
-use Rattle.std.specs.Prelude.{◌≡◌, Bool, cond, ◌&&◌, List, [], ◌∷◌, ◌++◌, ℕ, zero, suc, ◌+◌, ◌*◌, ◌-◌, ◌≤◌, ◌<◌, length, get_or, drop, eqb, leb, ltb}
-use Rattle.std.proofs.Math.Option.{Option, none, some}
+-- Entry i has words 8 i to 8 i + 3: what it is, its number, and how many nodes its two types have. The nodes of all
+-- types stand from word 4,096 on, two words each, entry by entry, up to word 12,287, the last.
+use Rattle.nodes.specs.declared.Place.{Place}
+use Rattle.std.specs.Prelude.{◌≡◌, Bool, cond, ◌&&◌, List, [], ◌∷◌, ◌++◌, ℕ, zero, suc, ◌+◌, ◌*◌, ◌-◌, ◌≤◌, ◌<◌, length, get_or, drop, eqb, leb, ltb, Option, None, Some}
 use Rattle.std.proofs.lemmas.List.Edits.{sets}
 use Rattle.sizes.specs.Sizes.{most_entries, most_nodes, board_base, board_size, board_stride}
 use Rattle.nodes.specs.Nodes.{node, Ty, kind, number, words, nodes_at}
@@ -15,8 +15,6 @@ use Rattle.judgment.specs.Board.{Entry, tvar, var, sub, inf, chk, inf_app, entry
 use Rattle.judgment.specs.Board.{Board as Entries}
 use Rattle.board.specs.declared.Board.{Board}
 use Rattle.board.specs.declared.Top.{Top}
-use Rattle.board.specs.declared.Found.{Found}
-use Rattle.board.specs.declared.Found.TheVariants.{At, Nothing}
 
 -- what stands from a line on, and the term that starts there
 abbrev pub from_line : List Triple → ℕ → Term
@@ -25,8 +23,8 @@ from_line ls p = record { line = p; lines = drop p ls }
 unfoldable pub term_at : List Triple → ℕ → Term
 term_at ls p = record { line = p; lines = take_parts parts_of (drop p ls) 1 }
 
--- What an entry is: 2 Var, 3 Sub, 4 Inf, 5 Chk, 6 InfApp; any other kind is that of the node that a TVar names. Its number is a Var's name, a term's first line,
--- or the number of that node.
+-- What an entry is: 2 Var, 3 Sub, 4 Inf, 5 Chk, 6 InfApp; any other kind is that of the node that a TVar names. Its
+-- number is a Var's name, a term's first line, or the number of that node.
 unfoldable pub entry_of : List Triple → ℕ → ℕ → Ty → Ty → Entry
 entry_of ls k n l r =
     cond (eqb k 2) (var n l) (cond (eqb k 3) (sub l r) (cond (eqb k 4) (inf (term_at ls n) l) (cond (eqb k 5) (chk (term_at ls n) l)
@@ -127,12 +125,12 @@ top_of w b =
 
 -- ---- find_var
 -- where the type of the newest Var of that name stands, among the entries below entry i
-unfoldable pub var_place : ℕ → List ℕ → ℕ → Found
-var_place x w zero = Nothing
+unfoldable pub var_place : ℕ → List ℕ → ℕ → Option Place
+var_place x w zero = None
 var_place x w (suc i) =
     let older = var_place x w i in
-    cond (is_node 2 x (node (word w i 0) (word w i 1))) (At (record { start = left_at w i; count = word w i 2 })) older
+    cond (is_node 2 x (node (word w i 0) (word w i 1))) (Some (record { start = left_at w i; count = word w i 2 })) older
 
-abbrev pub type_in : List ℕ → Found → Option Ty
-type_in w (At p) = some (nodes_at w p.start p.count)
-type_in w Nothing = none
+abbrev pub type_in : List ℕ → Option Place → Option Ty
+type_in w (Some p) = Some (nodes_at w p.start p.count)
+type_in w None = None

@@ -1,9 +1,9 @@
 // The board (worklist.rs, `Worklist`): entries and their types as words of a lent buffer, newest last.
 #![tactic(auto)]
 
-ghost use Rattle.std.specs.Prelude.{◌≡◌, List, ◌+◌, ◌*◌, ◌≤◌, ◌<◌, length};
+ghost use Rattle.std.specs.Prelude.{◌≡◌, List, ◌+◌, ◌*◌, ◌≤◌, ◌<◌, leb, length};
 ghost use Rattle.std.proofs.lemmas.List.Edits.{sets};
-ghost use Rattle.sizes.specs.Sizes.{most_entries, board_size};
+ghost use Rattle.sizes.specs.Sizes.{most_entries, most_nodes, board_size};
 ghost use Rattle.nodes.specs.Nodes.{nodes_at};
 ghost use Rattle.spelling.specs.declared.Triple.{Triple};
 ghost use Rattle.judgment.specs.Board.{has_t_var, before as is_before};
@@ -11,7 +11,7 @@ ghost use Rattle.judgment.specs.Result.{board_words};
 ghost use Rattle.board.specs.Board.{entries_of, Stacked, fitting, fitting_three, headed, laid, grown, LayAsk, PushAsk, top_of, var_place};
 
 use core_types::is_node;
-use nodes::{clear_words, copy_nodes, wide};
+use nodes::{Place, clear_words, copy_nodes, wide};
 use sizes::{BOARD_BASE, BOARD_SIZE, BOARD_STRIDE, MOST_ENTRIES, MOST_NODES};
 
 // How many entries stand on the board, and how many nodes their types have.
@@ -39,41 +39,26 @@ impl Board {
     pub fn fits(self, n: usize) -> bool
         ensures { result ≡ fitting self n }
     {
-        if self.entries < Board::ENTRIES {
-            if n <= Board::NODES {
-                return self.nodes <= Board::NODES - n;
-            }
-        }
-        false
+        self.entries < Board::ENTRIES && self.has_room(n)
     }
 
     // Three more entries, of n nodes together, pass neither limit.
     pub fn fits_three(self, n: usize) -> bool
         ensures { result ≡ fitting_three self n }
     {
-        if self.entries < Board::ENTRIES - 2 {
-            if n <= Board::NODES {
-                return self.nodes <= Board::NODES - n;
-            }
-        }
-        false
+        self.entries < Board::ENTRIES - 2 && self.has_room(n)
+    }
+
+    // n more nodes do not pass their limit.
+    fn has_room(self, n: usize) -> bool
+        ensures { result ≡ leb (self.nodes + n) most_nodes }
+    {
+        n <= Board::NODES && self.nodes <= Board::NODES - n
     }
 }
 
-// Where the nodes of a type stand.
-#[derive(Clone, Copy)]
-pub struct Place {
-    pub start: usize,
-    pub count: usize,
-}
-
-#[derive(Clone, Copy)]
-pub enum Found {
-    At(Place),
-    Nothing,
-}
-
-// The newest entry: what it is, the word at which its types stand one after the other, their nodes, and the board without it.
+// The newest entry: what it is, the word at which its types stand one after the other, their nodes, and the board
+// without it.
 #[derive(Clone, Copy)]
 pub struct Top {
     pub kind: u32,
@@ -90,10 +75,7 @@ pub fn lay(board: &mut [u32], b: Board, kind: u32, number: u32, ln: usize, rn: u
     ensures { (board.new ≡ headed board.old b kind number ln rn) × (result ≡ grown b (ln + rn)) }
 {
     let slot = BOARD_STRIDE * b.entries;
-    board[slot] = kind;
-    board[slot + 1] = number;
-    board[slot + 2] = ln as u32;
-    board[slot + 3] = rn as u32;
+    board[slot..slot + 4].copy_from_slice(&[kind, number, ln as u32, rn as u32]);
     Board {
         entries: b.entries + 1,
         nodes: b.nodes + (ln + rn),
@@ -148,22 +130,20 @@ pub fn pop(board: &[u32], b: Board) -> Top
 }
 
 // Where the type of the newest Var of that name stands.
-pub fn find_var(board: &[u32], b: Board, name: u32) -> Found
+pub fn find_var(board: &[u32], b: Board, name: u32) -> Option<Place>
     requires { Stacked board.now b }
     ensures { result ≡ var_place name board.now b.entries }
 {
-    let mut i = b.entries;
     let mut start = BOARD_BASE + 2 * b.nodes;
-    while 0 < i {
-        i -= 1;
+    for i in (0..b.entries).rev() {
         let slot = BOARD_STRIDE * i;
         let count = wide(board[slot + 2]);
         start -= 2 * (count + wide(board[slot + 3]));
         if is_node(2, name, board[slot], board[slot + 1]) {
-            return Found::At(Place { start, count });
+            return Some(Place { start, count });
         }
     }
-    Found::Nothing
+    None
 }
 
 // A TVar of unknown k stands among the first n entries.
@@ -171,9 +151,7 @@ fn has_tvar(board: &[u32], n: usize, k: u32) -> bool
     requires { (n ≤ most_entries) × (board_size ≤ length board.now) }
     ensures { (ls : List Triple) → result ≡ has_t_var k (entries_of ls board.now n) }
 {
-    let mut i = n;
-    while 0 < i {
-        i -= 1;
+    for i in (0..n).rev() {
         let slot = BOARD_STRIDE * i;
         if is_node(17, k, board[slot], board[slot + 1]) {
             return true;
@@ -187,9 +165,7 @@ pub fn before(board: &[u32], b: Board, x: u32, y: u32) -> bool
     requires { Stacked board.now b }
     ensures { (ls : List Triple) → result ≡ is_before x y (entries_of ls board.now b.entries) }
 {
-    let mut i = b.entries;
-    while 0 < i {
-        i -= 1;
+    for i in (0..b.entries).rev() {
         let slot = BOARD_STRIDE * i;
         let kind = board[slot];
         let number = board[slot + 1];

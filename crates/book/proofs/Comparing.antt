@@ -1,15 +1,12 @@
--- Types compared while solutions are followed, on plain values: a verdict by what stands in front, the first types of a side, and a turn of the comparison.
--- Assumes nothing.
-use mathlib.Core.Path.{◌≡◌, refl, sym, ap, ap₂, ◌∙◌, subst, subst⁻¹}
-use mathlib.Core.Logic.{◌≢◌}
-use mathlib.Core.Bool.{Bool, true, false, cond, not, true≢false}
-use mathlib.Core.List.{List, [], ◌∷◌, ◌++◌}
-use Prim.Native.Nat.{ℕ, zero, suc, ◌+◌, ◌*◌, ◌-◌, ◌^◌, ◌≤◌, ◌<◌}
-use native.Mathlib.Omega.{arith}
-use lib.ListN.{length, get_or, take, drop, length-append}
-use lib.Seq.{take_all, take-append-le, take-append-add, length-take-le}
-use lib.Dec.{eqb, leb, ltb}
-use borrow.Author.Tests.{leb-true, leb-false, le-leb, lt-leb, ltb-true, ltb-false, eqb-true, eqb-false, ne_eqb, not-true}
+-- Types compared while solutions are followed, on plain values: a verdict by what stands in front, the first types of a
+-- side, and a turn of the comparison. Assumes nothing.
+use Rattle.std.proofs.Common.{Option, Some, None, Result, Ok, Err, ◌≡◌, refl, sym, ap, ap₂, ◌∙◌, subst, ◌≢◌, Bool, true, false, cond, not, true≢false, List, [], ◌∷◌, ◌++◌, ℕ, zero, suc, ◌+◌, ◌*◌, ◌-◌, ◌^◌, ◌≤◌, ◌<◌, arith, length, get_or, take, drop, length-append, take_all, length-take-le, eqb, leb, ltb, leb-true, leb-false, le-leb, ltb-true, ltb-false, eqb-true, ne_eqb}
+use Rattle.book.specs.declared.Unlike.TheVariants.{Differ, Over}
+use Rattle.book.specs.declared.Unlike.{Unlike}
+use Rattle.nodes.specs.declared.Place.{Place}
+use mathlib.Core.Path.{subst⁻¹}
+use lib.Seq.{take-append-le, take-append-add}
+use borrow.Author.Tests.{lt-leb, eqb-false, not-true}
 use Rattle.sizes.specs.Sizes.{book_size}
 use Rattle.nodes.specs.Nodes.{Node, node, Ty, kind as node_kind, node_parts, node_at, nodes_at}
 use Rattle.nodes.specs.Parts.{take_parts, drop_parts, Whole}
@@ -24,12 +21,7 @@ use Rattle.judgment.proofs.TypeLaws.{eq_ty-true, eq_ty-same, eq_ty-not, eq_ty-fr
 use Rattle.judgment.proofs.SolutionLaws.{written-append, written-free, solved}
 use Rattle.judgment.proofs.WholeTypes.{unknown-whole, written-whole}
 use Rattle.judgment.proofs.Visits.{visits, visits-append, visits-free, visits-solved}
-use Rattle.book.specs.declared.Place.{Place}
-use Rattle.book.specs.declared.Found.{Found}
-use Rattle.book.specs.declared.Found.TheVariants.{At, Nothing}
 use Rattle.book.specs.declared.Rest.{Rest}
-use Rattle.book.specs.declared.Met.{Met}
-use Rattle.book.specs.declared.Met.TheVariants.{Same, Differ, Over}
 use Rattle.book.specs.Book.{sols, place_of}
 use Rattle.book.specs.Compared.{half, nodes_from, parts_from, verdict, passed, compared, next, node_met, alike_at, skipped, onward, first_by, first_met, apart_by, apart_at, Sides, MeetAsk, FirstAsk, NextAsk}
 use Rattle.book.proofs.Turns.{Solved, Unsolved, told_at, told_none, unsolved-free, solved-in}
@@ -38,7 +30,7 @@ use Rattle.book.proofs.Turns.{Solved, Unsolved, told_at, told_none, unsolved-fre
 -- the same nodes in front, counted
 verdict-on : (x s t : Ty) (n m : ℕ) (after : Rest) → length x + m ≡ n → verdict s t m after ≡ verdict (x ++ s) (x ++ t) n after
 verdict-on x s t n m after e =
-    ap₂ (λ (p q : Bool). cond p (cond q (Same after) Over) Differ) (sym agree) few
+    ap₂ (λ (p q : Bool). cond p (cond q (Ok after) (Err Over)) (Err Differ)) (sym agree) few
   where
     cut : (z : Ty) → take (suc n) (x ++ z) ≡ x ++ take (suc m) z
     cut z = let f : suc n ≡ length x + suc m = omega arith in ap (λ (k : ℕ). take k (x ++ z)) f ∙ take-append-add x z (suc m)
@@ -54,12 +46,12 @@ verdict-on x s t n m after e =
 
 module _ (x y : Ty) (n : ℕ) (after : Rest) where
   -- what a verdict tells
-  abbrev pub Tells : Met → Type 0
-  Tells (Same d) = (x ≡ y) × (length x ≤ n) × (after ≡ d)
-  Tells Differ = take (suc n) x ≢ take (suc n) y
-  Tells Over = (take (suc n) x ≡ take (suc n) y) × (n < length x) × (n < length y)
+  abbrev pub Tells : Result Rest Unlike → Type 0
+  Tells (Ok d) = (x ≡ y) × (length x ≤ n) × (after ≡ d)
+  Tells (Err Differ) = take (suc n) x ≢ take (suc n) y
+  Tells (Err Over) = (take (suc n) x ≡ take (suc n) y) × (n < length x) × (n < length y)
 
-  pub tells : (o : Met) → verdict x y n after ≡ o → Tells o
+  pub tells : (o : Result Rest Unlike) → verdict x y n after ≡ o → Tells o
   tells o e = subst Tells e (go (eq_ty (take (suc n) x) (take (suc n) y)) (leb (length x) n) refl refl)
     where
       short : take (suc n) x ≡ take (suc n) y → length x ≤ n → (b : Bool) → leb (length y) n ≡ b → x ≡ y
@@ -74,24 +66,24 @@ module _ (x y : Ty) (n : ℕ) (after : Rest) where
           absurd (omega (arith, ap {B = ℕ} length (take_all (suc n) y (omega arith)), ap {B = ℕ} length s, length-take-le (suc n) x (omega arith)))
       long s l false q = leb-false (length y) n q
 
-      go : (p q : Bool) → eq_ty (take (suc n) x) (take (suc n) y) ≡ p → leb (length x) n ≡ q → Tells (cond p (cond q (Same after) Over) Differ)
+      go : (p q : Bool) → eq_ty (take (suc n) x) (take (suc n) y) ≡ p → leb (length x) n ≡ q → Tells (cond p (cond q (Ok after) (Err Over)) (Err Differ))
       go true true a b = let s = eq_ty-true (take (suc n) x) (take (suc n) y) a in let l = leb-true (length x) n b in (short s l (leb (length y) n) refl, l, refl)
       go true false a b = let s = eq_ty-true (take (suc n) x) (take (suc n) y) a in let l = leb-false (length x) n b in (s, l, long s l (leb (length y) n) refl)
       go false q a b = λ s. true≢false (sym (eq_ty-same (take (suc n) x)) ∙ ap (eq_ty (take (suc n) x)) s ∙ a)
 
-  is-differ : take (suc n) x ≢ take (suc n) y → Differ ≡ verdict x y n after
-  is-differ h = sym (ap (λ (p : Bool). cond p (cond (leb (length x) n) (Same after) Over) Differ) (eq_ty-not (take (suc n) x) (take (suc n) y) h))
+  is-differ : take (suc n) x ≢ take (suc n) y → (Err Differ) ≡ verdict x y n after
+  is-differ h = sym (ap (λ (p : Bool). cond p (cond (leb (length x) n) (Ok after) (Err Over)) (Err Differ)) (eq_ty-not (take (suc n) x) (take (suc n) y) h))
 
-  is-over : take (suc n) x ≡ take (suc n) y → n < length x → Over ≡ verdict x y n after
+  is-over : take (suc n) x ≡ take (suc n) y → n < length x → (Err Over) ≡ verdict x y n after
   is-over s l = sym
-      (ap₂ (λ (p q : Bool). cond p (cond q (Same after) Over) Differ) (ap (eq_ty (take (suc n) x)) (sym s) ∙ eq_ty-same (take (suc n) x)) (lt-leb (length x) n l))
+      (ap₂ (λ (p q : Bool). cond p (cond q (Ok after) (Err Over)) (Err Differ)) (ap (eq_ty (take (suc n) x)) (sym s) ∙ eq_ty-same (take (suc n) x)) (lt-leb (length x) n l))
 
 -- two types in front that differ, or that are too long
 module _ (x y s t : Ty) (n : ℕ) (after : Rest) where
-  differ-front : Whole node_parts x 1 → Whole node_parts y 1 → take (suc n) x ≢ take (suc n) y → Differ ≡ verdict (x ++ s) (y ++ t) n after
+  differ-front : Whole node_parts x 1 → Whole node_parts y 1 → take (suc n) x ≢ take (suc n) y → (Err Differ) ≡ verdict (x ++ s) (y ++ t) n after
   differ-front h g d = is-differ (x ++ s) (y ++ t) n after (λ e. d (prefix-free node_parts (suc n) x y s t 1 h g e))
 
-  over-front : take (suc n) x ≡ take (suc n) y → n < length x → n < length y → Over ≡ verdict (x ++ s) (y ++ t) n after
+  over-front : take (suc n) x ≡ take (suc n) y → n < length x → n < length y → (Err Over) ≡ verdict (x ++ s) (y ++ t) n after
   over-front e l m = is-over (x ++ s) (y ++ t) n after
       (take-append-le (suc n) x s (omega arith) ∙ e ∙ sym (take-append-le (suc n) y t (omega arith)))
       (omega (arith, length-append x s))
@@ -253,16 +245,16 @@ module _ {l r k : List ℕ} {c : Rest} (ask : MeetAsk l r k c) {xs ys : Ty} wher
 
   -- types that differ, or that are too long, are gone over
   module _ {q i m j : ℕ} (F : Gone l c.left c.parts xs q i) (G : Gone r c.right c.parts ys m j) where
-    front : (o : Met) → o ≡ verdict (write_out (sols k) xs ++ write_out (sols k) (parts_from l q i)) (write_out (sols k) ys ++ write_out (sols k) (parts_from r m j)) c.budget (passed l r k c) → o ≡ compared l r k c
+    front : (o : Result Rest Unlike) → o ≡ verdict (write_out (sols k) xs ++ write_out (sols k) (parts_from l q i)) (write_out (sols k) ys ++ write_out (sols k) (parts_from r m j)) c.budget (passed l r k c) → o ≡ compared l r k c
     unfolding compared
     front o e = e
         ∙ sym (ap₂ (λ (u v : Ty). verdict u v c.budget (passed l r k c)) (ap (write_out (sols k)) F.parts ∙ written-append (sols k) xs (parts_from l q i)) (ap (write_out (sols k)) G.parts ∙ written-append (sols k) ys (parts_from r m j)))
 
 -- what comes of a turn
-abbrev pub Comes : List ℕ → List ℕ → List ℕ → Rest → Met → Type 0
-Comes l r k c (Same e) = Turned l r k c e
-Comes l r k c Differ = Differ ≡ compared l r k c
-Comes l r k c Over = Over ≡ compared l r k c
+abbrev pub Comes : List ℕ → List ℕ → List ℕ → Rest → Result Rest Unlike → Type 0
+Comes l r k c (Ok e) = Turned l r k c e
+Comes l r k c (Err Differ) = (Err Differ) ≡ compared l r k c
+Comes l r k c (Err Over) = (Err Over) ≡ compared l r k c
 
 -- where a whole type of either side is compared
 module _ {l r k : List ℕ} {c : Rest} (ask : MeetAsk l r k c) {xs ys : Ty} {q m j : ℕ} (F : Gone l c.left c.parts xs q j) (G : Gone r c.right c.parts ys m j) (hx : Whole node_parts xs 1) (hy : Whole node_parts ys 1) (some : 0 < visits (sols k) xs + visits (sols k) ys) where
@@ -272,16 +264,16 @@ module _ {l r k : List ℕ} {c : Rest} (ask : MeetAsk l r k c) {xs ys : Ty} {q m
   abbrev Y : Ty
   Y = write_out (sols k) ys
 
-  part-comes : (f : Rest → Rest) (after : Rest) → (length X ≤ c.budget → f after ≡ record { left = q; right = m; parts = j; budget = c.budget - length X }) → (o : Met) → Tells X Y c.budget after o
+  part-comes : (f : Rest → Rest) (after : Rest) → (length X ≤ c.budget → f after ≡ record { left = q; right = m; parts = j; budget = c.budget - length X }) → (o : Result Rest Unlike) → Tells X Y c.budget after o
       → Comes l r k c (onward f o)
-  part-comes f after at (Same d) h =
+  part-comes f after at (Ok d) h =
       let e : f d ≡ record { left = q; right = m; parts = j; budget = c.budget - length X } = ap f (sym h.2) ∙ at h.1 in
       let z = h.1 in
       subst⁻¹ (Turned l r k c) e (gone_same ask F G h.0 (omega arith) some)
-  part-comes f after at Differ h =
-      front ask F G Differ (differ-front X Y (write_out (sols k) (parts_from l q j)) (write_out (sols k) (parts_from r m j)) c.budget (passed l r k c) (written-whole (sols k) xs ask.solutions hx) (written-whole (sols k) ys ask.solutions hy) h)
-  part-comes f after at Over h =
-      front ask F G Over (over-front X Y (write_out (sols k) (parts_from l q j)) (write_out (sols k) (parts_from r m j)) c.budget (passed l r k c) h.0 h.1 h.2)
+  part-comes f after at (Err Differ) h =
+      front ask F G (Err Differ) (differ-front X Y (write_out (sols k) (parts_from l q j)) (write_out (sols k) (parts_from r m j)) c.budget (passed l r k c) (written-whole (sols k) xs ask.solutions hx) (written-whole (sols k) ys ask.solutions hy) h)
+  part-comes f after at (Err Over) h =
+      front ask F G (Err Over) (over-front X Y (write_out (sols k) (parts_from l q j)) (write_out (sols k) (parts_from r m j)) c.budget (passed l r k c) h.0 h.1 h.2)
 
 -- a solved unknown in front of a side: it is gone over, and its solution is one type of the book
 module _ {l r k : List ℕ} {c : Rest} (ask : MeetAsk l r k c) {d v : ℕ} {p : Place} (f : Solved k d v p) where
@@ -421,10 +413,10 @@ module _ {l r k : List ℕ} {c : Rest} (ask : MeetAsk l r k c) (some : c.parts �
         one = omega (arith, visits-free (sols k) x (unsolved-free ask.book.1 f))
 
         same : x ≡ y → (b : Bool) → eqb c.budget 0 ≡ b
-            → Comes l r k c (cond b Over (Same (next l c)))
+            → Comes l r k c (cond b (Err Over) (Ok (next l c)))
         same e true z =
             let n = eqb-true c.budget 0 z in
-            front ask ours-node theirs-node Over
+            front ask ours-node theirs-node (Err Over)
             (rw (x-out, y-out) (is-over (x ∷ s) (y ∷ t) c.budget (passed l r k c) (ap (λ (i : ℕ). x ∷ take i s) n ∙ ap (λ (a : Node). a ∷ []) e ∙ sym (ap (λ (i : ℕ). y ∷ take i t) n)) (omega arith)))
         same e false z =
             let q : write_out (sols k) (x ∷ []) ≡ write_out (sols k) (y ∷ []) = ap (λ (n : Node). write_out (sols k) (n ∷ [])) e in
@@ -432,61 +424,61 @@ module _ {l r k : List ℕ} {c : Rest} (ask : MeetAsk l r k c) (some : c.parts �
             (let n = eqb-false c.budget 0 z in omega (arith, ap {B = ℕ} length x-out)) one
 
         go : (b : Bool) → eq_node x y ≡ b
-            → Comes l r k c (cond b (cond (eqb c.budget 0) Over (Same (next l c))) Differ)
+            → Comes l r k c (cond b (cond (eqb c.budget 0) (Err Over) (Ok (next l c))) (Err Differ))
         go true e = same (sym (is_node-true (get_or l c.left 0) (get_or l (c.left + 1) 0) y e)) (eqb c.budget 0) refl
         go false e =
-            front ask ours-node theirs-node Differ
+            front ask ours-node theirs-node (Err Differ)
             (rw (x-out, y-out) (is-differ (x ∷ s) (y ∷ t) c.budget (passed l r k c) (λ q. true≢false (sym (eq_node-same x) ∙ ap (eq_node x) (heads q) ∙ e))))
 
   pub first-comes : Comes l r k c (first_met l r k c)
   unfolding first_met
   first-comes = go (place_of k (get_or l c.left 0) (get_or l (c.left + 1) 0)) (place_of k (get_or r c.right 0) (get_or r (c.right + 1) 0)) refl refl
     where
-      go : (a b : Found) → a ≡ place_of k (get_or l c.left 0) (get_or l (c.left + 1) 0) → b ≡ place_of k (get_or r c.right 0) (get_or r (c.right + 1) 0) → Comes l r k c (first_by l r k c a b)
-      go (At p) b e f = left-comes (told_at k (get_or l c.left 0) (get_or l (c.left + 1) 0) e refl)
-      go Nothing (At q) e f = right-comes (told_at k (get_or r c.right 0) (get_or r (c.right + 1) 0) f refl)
-      go Nothing Nothing e f = node-comes (told_none k (get_or l c.left 0) (get_or l (c.left + 1) 0) e refl) (told_none k (get_or r c.right 0) (get_or r (c.right + 1) 0) f refl)
+      go : (a b : Option Place) → a ≡ place_of k (get_or l c.left 0) (get_or l (c.left + 1) 0) → b ≡ place_of k (get_or r c.right 0) (get_or r (c.right + 1) 0) → Comes l r k c (first_by l r k c a b)
+      go (Some p) b e f = left-comes (told_at k (get_or l c.left 0) (get_or l (c.left + 1) 0) e refl)
+      go None (Some q) e f = right-comes (told_at k (get_or r c.right 0) (get_or r (c.right + 1) 0) f refl)
+      go None None e f = node-comes (told_none k (get_or l c.left 0) (get_or l (c.left + 1) 0) e refl) (told_none k (get_or r c.right 0) (get_or r (c.right + 1) 0) f refl)
 
 -- ---- a turn as the code comes to it
 module _ (l r k : List ℕ) (c : Rest) where
-  abbrev our_place : Found
+  abbrev our_place : Option Place
   our_place = place_of k (get_or l c.left 0) (get_or l (c.left + 1) 0)
 
-  abbrev their_place : Found
+  abbrev their_place : Option Place
   their_place = place_of k (get_or r c.right 0) (get_or r (c.right + 1) 0)
 
   -- i is what is compared with the solution at p, o what that has met, and m where it goes on
-  module _ {p : Place} {i : Rest} {o m : Met} where
-    pub by_left : At p ≡ our_place → i ≡ record { left = p.start; right = c.right; parts = 1; budget = c.budget } → o ≡ compared k r k i
+  module _ {p : Place} {i : Rest} {o m : (Result Rest Unlike)} where
+    pub by_left : Some p ≡ our_place → i ≡ record { left = p.start; right = c.right; parts = 1; budget = c.budget } → o ≡ compared k r k i
         → m ≡ onward (λ d. record { left = c.left + 2; right = d.right; parts = c.parts - 1; budget = d.budget }) o → m ≡ first_met l r k c
     unfolding first_met
     by_left a e q u =
-        u ∙ ap (onward (λ d. record { left = c.left + 2; right = d.right; parts = c.parts - 1; budget = d.budget })) (q ∙ ap (compared k r k) e) ∙ ap (λ (f : Found). first_by l r k c f their_place) a
+        u ∙ ap (onward (λ d. record { left = c.left + 2; right = d.right; parts = c.parts - 1; budget = d.budget })) (q ∙ ap (compared k r k) e) ∙ ap (λ (f : Option Place). first_by l r k c f their_place) a
 
-    pub by_right : Nothing ≡ our_place → At p ≡ their_place → i ≡ record { left = c.left; right = p.start; parts = 1; budget = c.budget } → o ≡ compared l k k i
+    pub by_right : None ≡ our_place → Some p ≡ their_place → i ≡ record { left = c.left; right = p.start; parts = 1; budget = c.budget } → o ≡ compared l k k i
         → m ≡ onward (λ d. record { left = d.left; right = c.right + 2; parts = c.parts - 1; budget = d.budget }) o → m ≡ first_met l r k c
     unfolding first_met
     by_right a b e q u =
         u ∙ ap (onward (λ d. record { left = d.left; right = c.right + 2; parts = c.parts - 1; budget = d.budget })) (q ∙ ap (compared l k k) e) ∙ ap₂ (first_by l r k c) a b
 
-  pub by-node : {o : Met} → Nothing ≡ our_place → Nothing ≡ their_place → o ≡ node_met l r c → o ≡ first_met l r k c
+  pub by-node : {o : (Result Rest Unlike)} → None ≡ our_place → None ≡ their_place → o ≡ node_met l r c → o ≡ first_met l r k c
   unfolding first_met
   by-node a b q = q ∙ ap₂ (first_by l r k c) a b
 
   -- what the calls for a solution ask; t is the measure
   module _ (ask : MeetAsk l r k c) (first : FirstAsk l r c) {p : Place} {i : Rest} (t : ℕ) (m : 2 * visits_of l r k c ≡ t) where
-    pub in_left : At p ≡ our_place → i ≡ record { left = p.start; right = c.right; parts = 1; budget = c.budget } → (2 * visits_of k r k i + 1 < t) × MeetAsk k r k i
+    pub in_left : Some p ≡ our_place → i ≡ record { left = p.start; right = c.right; parts = 1; budget = c.budget } → (2 * visits_of k r k i + 1 < t) × MeetAsk k r k i
     in_left a e =
         let f = told_at k (get_or l c.left 0) (get_or l (c.left + 1) 0) a refl in
         rw e (let z = left-falls ask first.some f in omega arith, left-asks ask first.some f)
 
-    pub in_right : At p ≡ their_place → i ≡ record { left = c.left; right = p.start; parts = 1; budget = c.budget } → (2 * visits_of l k k i + 1 < t) × MeetAsk l k k i
+    pub in_right : Some p ≡ their_place → i ≡ record { left = c.left; right = p.start; parts = 1; budget = c.budget } → (2 * visits_of l k k i + 1 < t) × MeetAsk l k k i
     in_right b e =
         let f = told_at k (get_or r c.right 0) (get_or r (c.right + 1) 0) b refl in
         rw e (let z = right-falls ask first.some f in omega arith, right-asks ask first.some f)
 
 -- no type is left
-pub none-compared : (l r k : List ℕ) (c : Rest) → c.parts ≡ 0 → Same c ≡ compared l r k c
+pub none-compared : (l r k : List ℕ) (c : Rest) → c.parts ≡ 0 → Ok c ≡ compared l r k c
 unfolding compared parts_from
 none-compared l r k c z =
     let none : (w : List ℕ) (p : ℕ) → take_parts node_parts (nodes_from w p) c.parts ≡ [] = λ w p. ap (take_parts node_parts (nodes_from w p)) z ∙ part-laws.take_none node_parts (nodes_from w p) in
@@ -498,7 +490,7 @@ none-compared l r k c z =
     let e : after [] [] ≡ c = rw (a, b, d, sym z) refl in
     sym
     (ap₂ (λ (s t : Ty). verdict (write_out (sols k) s) (write_out (sols k) t) c.budget (after s t)) (none l c.left) (none r c.right)
-    ∙ ap₂ (λ (u : Ty) (q : Rest). verdict u u c.budget q) out e ∙ ap (λ (q : Bool). cond q (Same c) Over) (le-leb 0 c.budget (omega arith)))
+    ∙ ap₂ (λ (u : Ty) (q : Rest). verdict u u c.budget q) out e ∙ ap (λ (q : Bool). cond q (Ok c) (Err Over)) (le-leb 0 c.budget (omega arith)))
 
 -- ---- nodes that are the same and no unknowns
 -- what the test tells
@@ -585,7 +577,7 @@ skip-goes (suc n) {l} {r} {k} {b} {c} g = cond_ind (Going l r k b) (alike_at l r
         let t = alike-tells l r c e in
         let kind : get_or l c.left 0 ≡ get_or r c.right 0 = ap node_kind t.3 in
         let h = node-comes g.asks t.0 (λ q _. absurd (t.2 q)) (λ q _. absurd (t.2 (kind ∙ q))) in
-        let met : node_met l r c ≡ Same (next l c) = rw (ap (eq_node (node_at l c.left)) (sym t.3) ∙ eq_node-same (node_at l c.left), ne_eqb c.budget 0 t.1) refl in
+        let met : node_met l r c ≡ Ok (next l c) = rw (ap (eq_node (node_at l c.left)) (sym t.3) ∙ eq_node-same (node_at l c.left), ne_eqb c.budget 0 t.1) refl in
         subst (Comes l r k c) met h
 
     further : alike_at l r c ≡ true → Going l r k b (next l c)
@@ -598,7 +590,7 @@ pub first-going : {l r k : List ℕ} {c d : Rest} → MeetAsk l r k c → d ≡ 
 first-going {c = c} a e = rw e (skip-goes c.budget (here-going a))
 
 module _ {l r k : List ℕ} {c d : Rest} (g : Going l r k c d) where
-  pub last-going : d.parts ≡ 0 → Same d ≡ compared l r k c
+  pub last-going : d.parts ≡ 0 → Ok d ≡ compared l r k c
   last-going z = none-compared l r k d z ∙ g.same
 
   module _ (some : 0 < d.parts) where
@@ -608,11 +600,11 @@ module _ {l r k : List ℕ} {c d : Rest} (g : Going l r k c d) where
     pub turn-asks : (t : ℕ) → 2 * visits_of l r k c + 1 ≡ t → (2 * visits_of l r k d < t) × (MeetAsk l r k d × FirstAsk l r d)
     turn-asks t e = (let z = g.less in omega arith, (g.asks, node-asks g.asks types))
 
-    module _ {o : Met} (q : o ≡ first_met l r k d) where
-      comes : {m : Met} → o ≡ m → Comes l r k d m
+    module _ {o : (Result Rest Unlike)} (q : o ≡ first_met l r k d) where
+      comes : {m : (Result Rest Unlike)} → o ≡ m → Comes l r k d m
       comes e = subst (Comes l r k d) (sym q ∙ e) (first-comes g.asks types)
 
-      module _ {e : Rest} (u : o ≡ Same e) where
+      module _ {e : Rest} (u : o ≡ Ok e) where
         pub turn-sides : Sides l r e
         turn-sides = (comes u).asks.sides
 
@@ -622,30 +614,28 @@ module _ {l r k : List ℕ} {c d : Rest} (g : Going l r k c d) where
         pub turn-going : {f : Rest} → f ≡ skipped e.budget l r e → Going l r k c f
         turn-going w = let t = comes u in then-going g (then-going (turned-going t) (first-going t.asks w))
 
-      pub turn-differs : o ≡ Differ → Differ ≡ compared l r k c
-      turn-differs u = comes u ∙ g.same
-
-      pub turn-over : o ≡ Over → Over ≡ compared l r k c
-      turn-over u = comes u ∙ g.same
+      pub turn-ends : (x : Unlike) → o ≡ Err x → Err x ≡ compared l r k c
+      turn-ends Differ u = comes u ∙ g.same
+      turn-ends Over u = comes u ∙ g.same
 
 -- ---- types that their first nodes tell apart
 pub apart-rooms : {l r k : List ℕ} {c : Rest} → MeetAsk l r k c → (c.parts ≢ 0 → (c.left + 2 ≤ length l) × (c.right + 2 ≤ length r)) × (book_size ≤ length k)
 apart-rooms a = (alike-rooms a.sides, a.book.1.room)
 
-pub apart-differs : {l r k : List ℕ} {c d : Rest} → Going l r k c d → apart_at l r k d ≡ true → Differ ≡ compared l r k c
+pub apart-differs : {l r k : List ℕ} {c d : Rest} → Going l r k c d → apart_at l r k d ≡ true → (Err Differ) ≡ compared l r k c
 apart-differs {l} {r} {k} {c} {d} g e = by (our_place l r k d) (their_place l r k d) refl refl t.1 ∙ g.same
   where
     t : (not (eqb d.parts 0) ≡ true) × (apart_by (our_place l r k d) (their_place l r k d) (eq_node (node_at l d.left) (node_at r d.right)) ≡ true)
     t = both (not (eqb d.parts 0)) _ e
 
-    by : (a b : Found) → a ≡ our_place l r k d → b ≡ their_place l r k d → apart_by a b (eq_node (node_at l d.left) (node_at r d.right)) ≡ true → Differ ≡ compared l r k d
-    by (At p) b u v h = absurd (true≢false (sym h))
-    by Nothing (At q) u v h = absurd (true≢false (sym h))
-    by Nothing Nothing u v h =
-        let met : node_met l r d ≡ Differ = rw (not-true (eq_node (node_at l d.left) (node_at r d.right)) h) refl in
+    by : (a b : Option Place) → a ≡ our_place l r k d → b ≡ their_place l r k d → apart_by a b (eq_node (node_at l d.left) (node_at r d.right)) ≡ true → (Err Differ) ≡ compared l r k d
+    by (Some p) b u v h = absurd (true≢false (sym h))
+    by None (Some q) u v h = absurd (true≢false (sym h))
+    by None None u v h =
+        let met : node_met l r d ≡ Err Differ = rw (not-true (eq_node (node_at l d.left) (node_at r d.right)) h) refl in
         let f = told_none k (get_or l d.left 0) (get_or l (d.left + 1) 0) u refl in
         let h₂ = told_none k (get_or r d.right 0) (get_or r (d.right + 1) 0) v refl in
         subst (Comes l r k d) met (node-comes g.asks (eqb-false d.parts 0 (not-true (eqb d.parts 0) t.0)) f h₂)
 
-pub compare-is : {l r k : List ℕ} {c d : Rest} {o : Met} → Going l r k c d → o ≡ compared l r k d → o ≡ compared l r k c
+pub compare-is : {l r k : List ℕ} {c d : Rest} {o : (Result Rest Unlike)} → Going l r k c d → o ≡ compared l r k d → o ≡ compared l r k c
 compare-is g e = e ∙ g.same

@@ -1,18 +1,7 @@
 -- What the words of a book hold, and how one more solution changes that. Assumes nothing.
-use mathlib.Core.Path.{◌≡◌, refl, sym, ap, ◌∙◌, subst}
-use mathlib.Core.Logic.{◌≢◌, ◌⊎◌, inl, inr}
-use mathlib.Core.Bool.{Bool, true, false}
-use mathlib.Core.Option.{none, some}
-use mathlib.Core.List.{List, [], ◌∷◌, ◌++◌}
-use Prim.Native.Nat.{ℕ, zero, suc, ◌+◌, ◌*◌, ◌≤◌, ◌<◌}
+use Rattle.std.proofs.Common.{None, Some, ◌≡◌, refl, sym, ap, ◌∙◌, subst, ◌≢◌, ◌⊎◌, inl, inr, Bool, true, false, List, [], ◌∷◌, ◌++◌, ℕ, zero, suc, ◌+◌, ◌*◌, ◌≤◌, ◌<◌, not-suc-le-zero, add-one, arith, length, get_or, set, length-set, get_or-set_same, get_or-set_other, ltb, eq-eqb, ne_eqb, ltb-true, ltb-false}
 use native.Mathlib.Decide.{ℕ_discrete}
-use native.Mathlib.Nat.{not-suc-le-zero}
-use native.Mathlib.Numerals.{add-one}
-use native.Mathlib.Omega.{arith}
-use lib.ListN.{length, get_or, set, length-set}
-use lib.Seq.{sets, length-sets, get_or-set_same, get_or-set_other}
-use lib.Dec.{ltb}
-use borrow.Author.Tests.{eq-eqb, ne_eqb, ltb-true, ltb-false}
+use lib.Seq.{sets, length-sets}
 use Rattle.sizes.specs.Sizes.{most_nodes, most_numbers, book_base, book_size, book_stride}
 use Rattle.nodes.specs.Nodes.{node, Ty, words, nodes_at}
 use Rattle.nodes.specs.Lists.{All, In}
@@ -49,16 +38,16 @@ unfolding Holds solution_nodes
 nodes-count w e p [] h = let q = h.0 in omega arith
 nodes-count w e p (◌≔◌ j t ∷ r) h = let ih = nodes-count w e (p + 2 * length t) r h.1 in omega arith
 
-who-none : (w : List ℕ) (p n : ℕ) → ((j : ℕ) → j < n → start_of w j ≢ p) → who w p n ≡ none
+who-none : (w : List ℕ) (p n : ℕ) → ((j : ℕ) → j < n → start_of w j ≢ p) → who w p n ≡ None
 unfolding who
 who-none w p zero h = refl
 who-none w p (suc n) h = rw (ne_eqb (start_of w n) p (h n (omega arith)), who-none w p n (λ j l. h j (omega arith)))
 
-who-found : (w : List ℕ) (p n k : ℕ) → k < n → start_of w k ≡ p → ((j : ℕ) → j < n → j ≢ k → start_of w j ≢ p) → who w p n ≡ some k
+who-found : (w : List ℕ) (p n k : ℕ) → k < n → start_of w k ≡ p → ((j : ℕ) → j < n → j ≢ k → start_of w j ≢ p) → who w p n ≡ Some k
 unfolding who
 who-found w p zero k l q h = absurd (not-suc-le-zero l)
 who-found w p (suc n) k l q h = by-eq n k
-    (λ i. rw (eq-eqb (start_of w n) p (ap (λ (x : ℕ). start_of w x) i ∙ q)) (ap some i))
+    (λ i. rw (eq-eqb (start_of w n) p (ap (λ (x : ℕ). start_of w x) i ∙ q)) (ap Some i))
     (λ f.
     rw (ne_eqb (start_of w n) p (h n (omega arith) f))
     (who-found w p n k (omega arith) q (λ j l2. h j (omega arith))))
@@ -71,7 +60,7 @@ sols-from w e p [] (suc n) h l = rw (who-none w p most_numbers (λ j i q. let z 
 sols-from w e p (◌≔◌ k t ∷ r) zero h l = absurd (not-suc-le-zero l)
 sols-from w e p (◌≔◌ k t ∷ r) (suc n) h l =
     let h0 = h.0 in
-    let f : who w p most_numbers ≡ some k =
+    let f : who w p most_numbers ≡ Some k =
     who-found w p most_numbers k h0.small h0.starts (λ j i g q. let z = h0.others j i g (omega arith) in let y = h0.some in omega arith) in
     let ih : sols_from w (p + 2 * length t) n ≡ r = sols-from w e (p + 2 * length t) r n h.1 (omega arith) in
     rw (f, h0.counts, h0.nodes, ih)
@@ -211,7 +200,7 @@ module _ (w : List ℕ) (b : Book) (k : ℕ) (t : Ty) (small : k < most_numbers)
       )
 
 -- what the book holds after it
-module _ (w : List ℕ) (b : Book) (k : ℕ) (t : Ty) (h : Booked w b) (small : k < most_numbers) (fits : b.nodes + length t ≤ most_nodes) (some : 0 < length t)
+module _ (w : List ℕ) (b : Book) (k : ℕ) (t : Ty) (h : Booked w b) (small : k < most_numbers) (fits : b.nodes + length t ≤ most_nodes) (Some : 0 < length t)
     (new : Free (solved_unknowns (sols w)) (node 17 k)) where
   abbrev w' : List ℕ
   w' = given w b k t
@@ -222,7 +211,7 @@ module _ (w : List ℕ) (b : Book) (k : ℕ) (t : Ty) (h : Booked w b) (small : 
   held : Holds w' (book_base + 2 * (b.nodes + length t)) book_base (sols w ++ (◌≔◌ k t ∷ []))
   held =
       let q : book_base + 2 * (b.nodes + length t) ≡ book_base + 2 * b.nodes + 2 * length t = omega arith in
-      rw q (holds-snoc w b k t small within some (free-start w b k h small new) book_base (sols w) (omega arith) h.holds)
+      rw q (holds-snoc w b k t small within Some (free-start w b k h small new) book_base (sols w) (omega arith) h.holds)
 
   pub given-sols : sols w' ≡ sols w ++ (◌≔◌ k t ∷ [])
   given-sols = sols-are w' (book_base + 2 * (b.nodes + length t)) (sols w ++ (◌≔◌ k t ∷ [])) held (omega arith)

@@ -1,17 +1,9 @@
--- The levels that a book holds: what a level given (`levelled`) and levels lowered (`lowered`) keep of its words and its solutions, and the levels
--- after these, after one more solution (`given`) and of an empty book, as equations of levels; and a turn of the loops that lower and that write
--- levels. Assumes nothing.
-use mathlib.Core.Path.{◌≡◌, refl, sym, ap, ap₂, ◌∙◌, fun_ext, subst, subst⁻¹}
-use mathlib.Core.Logic.{◌≢◌}
-use mathlib.Core.Bool.{Bool, true, false, cond, ◌||◌, true≢false}
-use mathlib.Core.List.{List, [], ◌∷◌}
-use Prim.Native.Nat.{ℕ, zero, suc, ◌+◌, ◌*◌, ◌-◌, ◌≤◌, ◌<◌}
-use native.Mathlib.Numerals.{add-one}
-use native.Mathlib.Omega.{arith}
-use lib.ListN.{length, get_or, set, length-set}
-use lib.Seq.{sets, get_or-set_same, get_or-set_other}
-use lib.Dec.{eqb, ltb}
-use borrow.Author.Tests.{eqb-true, eq-eqb, ne_eqb, ltb-true, lt-ltb, le-ltb}
+-- The levels that a book holds: what a level given (`levelled`) and levels lowered (`lowered`) keep of its words and
+-- its solutions, and the levels after these, after one more solution (`given`) and of an empty book, as equations of
+-- levels; and a turn of the loops that lower and that write levels. Assumes nothing.
+use Rattle.std.proofs.Common.{◌≡◌, refl, sym, ap, ap₂, ◌∙◌, subst, ◌≢◌, Bool, true, false, cond, ◌||◌, true≢false, List, [], ◌∷◌, ℕ, zero, suc, ◌+◌, ◌*◌, ◌-◌, ◌≤◌, ◌<◌, add-one, arith, length, get_or, set, length-set, get_or-set_same, get_or-set_other, eqb, ltb, eqb-true, eq-eqb, ne_eqb, ltb-true, lt-ltb, le-ltb}
+use mathlib.Core.Path.{fun_ext, subst⁻¹}
+use lib.Seq.{sets}
 use Rattle.sizes.specs.Sizes.{most_nodes, most_numbers, book_base, book_size, book_stride}
 use Rattle.nodes.specs.Nodes.{Node, node, Ty, kind, number, node_at, nodes_at}
 use Rattle.nodes.specs.Lists.{All}
@@ -163,14 +155,6 @@ same-level w v j f = go (ltb j most_numbers) refl
 -- the level that was given
 level-new : (w : List ℕ) (k m : ℕ) → book_size ≤ length w → k < most_numbers → level_of (levelled w k m) k ≡ m
 level-new w k m room small = rw (lt-ltb k most_numbers small, level-same w k m room small ∙ add-one m)
-
--- what a word says that is not 0
-pub word-level : (w : List ℕ) (k : ℕ) → k < most_numbers → level_word_of w k ≢ 0 → level_word_of w k - 1 ≡ level_of w k
-word-level w k l f = rw (lt-ltb k most_numbers l) (go (level_word_of w k) f)
-  where
-    go : (x : ℕ) → x ≢ 0 → x - 1 ≡ level_by x k
-    go zero g = absurd (g refl)
-    go (suc m) g = omega arith
 
 by_word : (x k : ℕ) → k < most_numbers → x ≤ most_numbers → level_by x k < most_numbers
 by_word zero k l h = l

@@ -1,11 +1,7 @@
--- No chain in a well-formed book passes 1,000 links, whoever made the book, and the chain 0 → 1 → … → 999 → Int has as many (`longest`). Assumes nothing.
-use mathlib.Core.Path.{◌≡◌, refl, ◌∙◌, ap, subst, subst⁻¹}
-use mathlib.Core.Bool.{true}
-use mathlib.Core.List.{List, [], ◌∷◌, ◌++◌}
-use Prim.Native.Nat.{ℕ, zero, suc, ◌+◌, ◌*◌, ◌≤◌, ◌<◌}
-use native.Mathlib.Numerals.{add-one}
-use native.Mathlib.Omega.{arith}
-use lib.ListN.{length}
+-- No chain in a well-formed book passes 1,000 links, whoever made the book, and the chain 0 → 1 → … → 999 → Int has as
+-- many (`longest`). Assumes nothing.
+use Rattle.std.proofs.Common.{◌≡◌, refl, ◌∙◌, ap, subst, true, List, [], ◌∷◌, ◌++◌, ℕ, zero, suc, ◌+◌, ◌*◌, ◌≤◌, ◌<◌, add-one, arith, length}
+use mathlib.Core.Path.{subst⁻¹}
 use lib.Seq.{sets}
 use Rattle.sizes.specs.Sizes.{most_numbers, book_base, book_size}
 use Rattle.nodes.specs.Nodes.{Node, node}

@@ -1,16 +1,9 @@
--- A turn of `write_out` on plain values: the write-out of a type by its first node, the number that falls, and how what two calls leave goes together.
--- Assumes nothing.
-use mathlib.Core.Path.{◌≡◌, refl, sym, ap, ap₂, ◌∙◌, subst}
-use mathlib.Core.Logic.{◌≢◌}
-use mathlib.Core.Bool.{Bool, true, false, cond, true≢false}
-use mathlib.Core.List.{List, [], ◌∷◌, ◌++◌}
-use Prim.Native.Nat.{ℕ, ◌+◌, ◌*◌, ◌-◌, ◌≤◌, ◌<◌}
-use native.Mathlib.Numerals.{add-one}
-use native.Mathlib.Omega.{arith}
-use lib.ListN.{length, get_or, set, take, length-append, length-set}
-use lib.Seq.{sets, take_all, take-append-le, take-append-add}
-use lib.Dec.{leb, ltb, eqb}
-use borrow.Author.Tests.{leb-true, leb-false, ltb-true, ltb-false, eqb-true, eqb-false, le-leb, lt-leb}
+-- A turn of `write_out` on plain values: the write-out of a type by its first node, the number that falls, and how what
+-- two calls leave goes together. Assumes nothing.
+use Rattle.std.proofs.Common.{Option, Some, None, ◌≡◌, refl, sym, ap, ap₂, ◌∙◌, subst, ◌≢◌, Bool, true, false, cond, true≢false, List, [], ◌∷◌, ◌++◌, ℕ, ◌+◌, ◌*◌, ◌-◌, ◌≤◌, ◌<◌, add-one, arith, length, get_or, set, take, length-append, length-set, take_all, leb, ltb, eqb, leb-true, leb-false, ltb-true, ltb-false, eqb-true, le-leb}
+use Rattle.nodes.specs.declared.Place.{Place}
+use lib.Seq.{sets, take-append-le, take-append-add}
+use borrow.Author.Tests.{eqb-false, lt-leb}
 use Rattle.sizes.specs.Sizes.{most_numbers, book_base}
 use Rattle.nodes.specs.Nodes.{Node, node, Ty, words, nodes_at}
 use Rattle.nodes.specs.Lists.{In}
@@ -21,11 +14,6 @@ use Rattle.judgment.specs.Good.{Free}
 use Rattle.judgment.proofs.SolutionLaws.{other-free, written-append, written-free, solved}
 use Rattle.judgment.proofs.Visits.{visits, visits-append, visits-free, visits-solved}
 use Rattle.book.specs.declared.Book.{Book}
-use Rattle.book.specs.declared.Place.{Place}
-use Rattle.book.specs.declared.Found.{Found}
-use Rattle.book.specs.declared.Found.TheVariants.{At, Nothing}
-use Rattle.book.specs.declared.Wrote.{Wrote}
-use Rattle.book.specs.declared.Wrote.TheVariants.{Fits, Over}
 use Rattle.book.specs.Book.{start_of, count_of, sols, Booked, place_of, WriteAsk, wrote, written_to}
 use Rattle.book.proofs.Holdings.{found_in, free_of}
 
@@ -40,31 +28,31 @@ pub record Solved (w : List ℕ) (d v : ℕ) (p : Place) : Type 0 where
 abbrev pub Unsolved : List ℕ → ℕ → ℕ → Type 0
 Unsolved w d v = d ≡ 17 → v < most_numbers → start_of w v < book_base
 
-abbrev Told : List ℕ → ℕ → ℕ → Found → Type 0
-Told w d v (At p) = Solved w d v p
-Told w d v Nothing = Unsolved w d v
+abbrev Told : List ℕ → ℕ → ℕ → Option Place → Type 0
+Told w d v (Some p) = Solved w d v p
+Told w d v None = Unsolved w d v
 
-told : (w : List ℕ) (d v : ℕ) (r : Found) → r ≡ place_of w d v → Told w d v r
+told : (w : List ℕ) (d v : ℕ) (r : Option Place) → r ≡ place_of w d v → Told w d v r
 unfolding place_of
 told w d v r e = rw e (go (eqb d 17) refl)
   where
-    go₃ : d ≡ 17 → v < most_numbers → (c : Bool) → ltb (start_of w v) book_base ≡ c → Told w d v (cond c Nothing (At (record { start = start_of w v; count = count_of w v })))
+    go₃ : d ≡ 17 → v < most_numbers → (c : Bool) → ltb (start_of w v) book_base ≡ c → Told w d v (cond c None (Some (record { start = start_of w v; count = count_of w v })))
     go₃ i l true q = λ _ _. ltb-true (start_of w v) book_base q
     go₃ i l false q = record { unknown = i; small = l; high = ltb-false (start_of w v) book_base q; start = refl; count = refl }
 
-    go₂ : d ≡ 17 → (c : Bool) → ltb v most_numbers ≡ c → Told w d v (cond c (cond (ltb (start_of w v) book_base) Nothing (At (record { start = start_of w v; count = count_of w v }))) Nothing)
+    go₂ : d ≡ 17 → (c : Bool) → ltb v most_numbers ≡ c → Told w d v (cond c (cond (ltb (start_of w v) book_base) None (Some (record { start = start_of w v; count = count_of w v }))) None)
     go₂ i true q = go₃ i (ltb-true v most_numbers q) (ltb (start_of w v) book_base) refl
     go₂ i false q = λ _ l. absurd (let m = ltb-false v most_numbers q in omega arith)
 
     go : (c : Bool) → eqb d 17 ≡ c
-        → Told w d v (cond c (cond (ltb v most_numbers) (cond (ltb (start_of w v) book_base) Nothing (At (record { start = start_of w v; count = count_of w v }))) Nothing) Nothing)
+        → Told w d v (cond c (cond (ltb v most_numbers) (cond (ltb (start_of w v) book_base) None (Some (record { start = start_of w v; count = count_of w v }))) None) None)
     go true q = go₂ (eqb-true d 17 q) (ltb v most_numbers) refl
     go false q = λ i _. absurd (eqb-false d 17 q i)
 
-pub told_at : (w : List ℕ) (d v : ℕ) {r : Found} {p : Place} → r ≡ place_of w d v → r ≡ At p → Solved w d v p
+pub told_at : (w : List ℕ) (d v : ℕ) {r : (Option Place)} {p : Place} → r ≡ place_of w d v → r ≡ Some p → Solved w d v p
 told_at w d v {r} e q = subst (Told w d v) q (told w d v r e)
 
-pub told_none : (w : List ℕ) (d v : ℕ) {r : Found} → r ≡ place_of w d v → r ≡ Nothing → Unsolved w d v
+pub told_none : (w : List ℕ) (d v : ℕ) {r : (Option Place)} → r ≡ place_of w d v → r ≡ None → Unsolved w d v
 told_none w d v {r} e q = subst (Told w d v) q (told w d v r e)
 
 -- a node that is no solved unknown
@@ -84,17 +72,17 @@ solved-in {w} {b} {d} {v} {p} h f =
 
 -- ---- what two calls leave
 module _ (x y : Ty) (n end : ℕ) (o : List ℕ) where
-  pub fits_told : (m : ℕ) → wrote x n end ≡ Fits m → (n + length x ≤ end) × (m ≡ n + length x)
+  pub fits_told : (m : ℕ) → wrote x n end ≡ Some m → (n + length x ≤ end) × (m ≡ n + length x)
   fits_told m e = go (leb (n + length x) end) refl e
     where
-      go : (c : Bool) → leb (n + length x) end ≡ c → cond c (Fits (n + length x)) Over ≡ Fits m → (n + length x ≤ end) × (m ≡ n + length x)
+      go : (c : Bool) → leb (n + length x) end ≡ c → cond c (Some (n + length x)) None ≡ Some m → (n + length x ≤ end) × (m ≡ n + length x)
       go true q e = (leb-true (n + length x) end q, cc)
       go false q e = absurd (true≢false cc)
 
-  pub over-told : wrote x n end ≡ Over → end < n + length x
+  pub over-told : wrote x n end ≡ None → end < n + length x
   over-told e = go (leb (n + length x) end) refl e
     where
-      go : (c : Bool) → leb (n + length x) end ≡ c → cond c (Fits (n + length x)) Over ≡ Over → end < n + length x
+      go : (c : Bool) → leb (n + length x) end ≡ c → cond c (Some (n + length x)) None ≡ None → end < n + length x
       go true q e = absurd (true≢false cc)
       go false q e = leb-false (n + length x) end q
 
@@ -115,7 +103,7 @@ module _ (x y : Ty) (n end : ℕ) (o : List ℕ) where
       ∙ ap (λ (t : Ty). sets o (2 * n) (words t)) (sym (ap (λ (k : ℕ). take k (x ++ y)) e ∙ take-append-add x y (end - (n + length x))))
 
   -- the first passes the end
-  over-wrote : end < n + length x → wrote (x ++ y) n end ≡ Over
+  over-wrote : end < n + length x → wrote (x ++ y) n end ≡ None
   over-wrote h = rw (lt-leb (n + length (x ++ y)) end (omega (arith, length-append x y)))
 
   over-written : end < n + length x → written_to x n end o ≡ written_to (x ++ y) n end o
@@ -128,7 +116,7 @@ one_written d v n end o h =
     ap (λ (t : Ty). sets o (2 * n) (words t)) (take_all (end - n) (node d v ∷ []) (omega arith)) ∙ ap (λ (k : ℕ). set (set o (2 * n) d) k v) (sym (add-one (2 * n)))
 
 -- no room for it
-none-wrote : (x : Node) (y : Ty) (n end : ℕ) → end ≤ n → wrote ((x ∷ []) ++ y) n end ≡ Over
+none-wrote : (x : Node) (y : Ty) (n end : ℕ) → end ≤ n → wrote ((x ∷ []) ++ y) n end ≡ None
 none-wrote x y n end h = over-wrote (x ∷ []) y n end [] (omega arith)
 
 none_written : (t : Ty) (n end : ℕ) (o : List ℕ) → end ≤ n → o ≡ written_to t n end o
@@ -136,7 +124,7 @@ unfolding words
 none_written t n end o h = let e : end - n ≡ 0 = omega arith in rw e
 
 -- what a call leaves that writes t out, up to node `end`
-abbrev pub Leaves : ℕ → Ty → ℕ → List ℕ → Wrote → List ℕ → Type 0
+abbrev pub Leaves : ℕ → Ty → ℕ → List ℕ → Option ℕ → List ℕ → Type 0
 Leaves end t m o₁ r o₂ = (r ≡ wrote t m end) × (o₂ ≡ written_to t m end o₁)
 
 -- ---- the first node of a call at which nodes are left. t is its measure
@@ -178,10 +166,10 @@ module _ {s : List ℕ} {at left : ℕ} {w o : List ℕ} {n end : ℕ} (ask : Wr
         let one = visits-free σ (node d v) free in
         omega arith
 
-    pub miss-full : end ≤ n → Leaves end (write_out σ (nodes_at s at left)) n o Over o
+    pub miss-full : end ≤ n → Leaves end (write_out σ (nodes_at s at left)) n o None o
     miss-full h = rw miss-out (sym (none-wrote (node d v) (write_out σ others) n end h), none_written ((node d v ∷ []) ++ write_out σ others) n end o h)
 
-    pub miss-on : {r : Wrote} {o₂ : List ℕ} → n < end → Leaves end (write_out σ others) (n + 1) (set (set o (2 * n) d) (2 * n + 1) v) r o₂ → Leaves end (write_out σ (nodes_at s at left)) n o r o₂
+    pub miss-on : {r : (Option ℕ)} {o₂ : List ℕ} → n < end → Leaves end (write_out σ others) (n + 1) (set (set o (2 * n) d) (2 * n + 1) v) r o₂ → Leaves end (write_out σ (nodes_at s at left)) n o r o₂
     miss-on h l =
         let x : Ty = node d v ∷ [] in
         let y : Ty = write_out σ others in
@@ -219,10 +207,10 @@ module _ {s : List ℕ} {at left : ℕ} {w o : List ℕ} {n end : ℕ} (ask : Wr
       most = ask.most;
     }
 
-    pub hit-fits : {r₁ : Wrote} {o₁ : List ℕ} {m : ℕ} → Leaves end (write_out σ solution) n o r₁ o₁ → r₁ ≡ Fits m → m ≤ end
+    pub hit-fits : {r₁ : (Option ℕ)} {o₁ : List ℕ} {m : ℕ} → Leaves end (write_out σ solution) n o r₁ o₁ → r₁ ≡ Some m → m ≤ end
     hit-fits {m = m} a q = let k = fits_told (write_out σ solution) [] n end o m (sym a.0 ∙ q) in let z = k.0 in let y = k.1 in omega arith
 
-    pub hit-on : {r₁ r₂ : Wrote} {o₁ o₂ : List ℕ} {m : ℕ} → Leaves end (write_out σ solution) n o r₁ o₁ → r₁ ≡ Fits m → Leaves end (write_out σ others) m o₁ r₂ o₂
+    pub hit-on : {r₁ r₂ : (Option ℕ)} {o₁ o₂ : List ℕ} {m : ℕ} → Leaves end (write_out σ solution) n o r₁ o₁ → r₁ ≡ Some m → Leaves end (write_out σ others) m o₁ r₂ o₂
         → Leaves end (write_out σ (nodes_at s at left)) n o r₂ o₂
     hit-on {m = m} a q l =
         let x = write_out σ solution in
@@ -233,7 +221,7 @@ module _ {s : List ℕ} {at left : ℕ} {w o : List ℕ} {n end : ℕ} (ask : Wr
           l.1 ∙ ap₂ (λ (j : ℕ) (b : List ℕ). written_to y j end b) k.1 a.1 ∙ then-written x y n end o k.0,
         )
 
-    pub hit-over : {r₁ : Wrote} {o₁ : List ℕ} → Leaves end (write_out σ solution) n o r₁ o₁ → r₁ ≡ Over → Leaves end (write_out σ (nodes_at s at left)) n o Over o₁
+    pub hit-over : {r₁ : (Option ℕ)} {o₁ : List ℕ} → Leaves end (write_out σ solution) n o r₁ o₁ → r₁ ≡ None → Leaves end (write_out σ (nodes_at s at left)) n o None o₁
     hit-over a q =
         let x = write_out σ solution in
         let y = write_out σ others in
@@ -242,7 +230,7 @@ module _ {s : List ℕ} {at left : ℕ} {w o : List ℕ} {n end : ℕ} (ask : Wr
 
 -- a call at which no node is left
 empty-leaves : {s : List ℕ} {at left : ℕ} {w o : List ℕ} {n end : ℕ} → WriteAsk s at left w o n end → left ≡ 0
-    → (Fits n ≡ wrote (write_out (sols w) (nodes_at s at left)) n end) × (o ≡ written_to (write_out (sols w) (nodes_at s at left)) n end o)
+    → (Some n ≡ wrote (write_out (sols w) (nodes_at s at left)) n end) × (o ≡ written_to (write_out (sols w) (nodes_at s at left)) n end o)
 unfolding nodes_at words
 empty-leaves {s} {at} {left} {w} {o} {n} {end} ask z =
     let e : write_out (sols w) (nodes_at s at left) ≡ [] = ap (λ (k : ℕ). write_out (sols w) (nodes_at s at k)) z ∙ written-free (sols w) [] tt in
@@ -254,22 +242,19 @@ pub record Turning (s : List ℕ) (at left : ℕ) (w o : List ℕ) (n end : ℕ)
   pub ask : WriteAsk s p l w o' m end
   pub same : length o' ≡ length o
   pub less : visits (sols w) (nodes_at s p l) ≤ visits (sols w) (nodes_at s at left)
-  pub whole : (r : Wrote) (o₂ : List ℕ) → Leaves end (write_out (sols w) (nodes_at s p l)) m o' r o₂ → Leaves end (write_out (sols w) (nodes_at s at left)) n o r o₂
+  pub whole : (r : Option ℕ) (o₂ : List ℕ) → Leaves end (write_out (sols w) (nodes_at s p l)) m o' r o₂ → Leaves end (write_out (sols w) (nodes_at s at left)) n o r o₂
 
 module _ {s : List ℕ} {at left : ℕ} {w o : List ℕ} {n end : ℕ} where
-  pub first-turn : WriteAsk s at left w o n end → Turning s at left w o n end o at left n
-  first-turn a = record { ask = a; same = refl; less = omega arith; whole = λ r o₂ x. x }
-
   module _ {o' : List ℕ} {p l m : ℕ} (i : Turning s at left w o n end o' p l m) where
-    pub last_turn : l ≡ 0 → Leaves end (write_out (sols w) (nodes_at s at left)) n o (Fits m) o'
-    last_turn z = i.whole (Fits m) o' (empty-leaves i.ask z)
+    pub last_turn : l ≡ 0 → Leaves end (write_out (sols w) (nodes_at s at left)) n o (Some m) o'
+    last_turn z = i.whole (Some m) o' (empty-leaves i.ask z)
 
     module _ (some : 0 < l) where
       left-some : l ≢ 0
       left-some e = omega arith
 
-      pub miss-ends : Unsolved w (get_or s p 0) (get_or s (p + 1) 0) → end ≤ m → Leaves end (write_out (sols w) (nodes_at s at left)) n o Over o'
-      miss-ends f h = i.whole Over o' (miss-full i.ask left-some f h)
+      pub miss-ends : Unsolved w (get_or s p 0) (get_or s (p + 1) 0) → end ≤ m → Leaves end (write_out (sols w) (nodes_at s at left)) n o None o'
+      miss-ends f h = i.whole None o' (miss-full i.ask left-some f h)
 
       pub miss-turn : Unsolved w (get_or s p 0) (get_or s (p + 1) 0) → m < end
           → Turning s at left w o n end (set (set o' (2 * m) (get_or s p 0)) (2 * m + 1) (get_or s (p + 1) 0)) (p + 2) (l - 1) (m + 1)
@@ -286,11 +271,11 @@ module _ {s : List ℕ} {at left : ℕ} {w o : List ℕ} {n end : ℕ} where
         pub in-turn : (t : ℕ) → visits (sols w) (nodes_at s at left) ≡ t → (visits (sols w) (nodes_at w q.start q.count) < t) × WriteAsk w q.start q.count w o' m end
         in-turn t e = (let a = in-falls i.ask left-some f (visits (sols w) (nodes_at s p l)) refl in let b = i.less in omega arith, in-ask i.ask left-some f)
 
-        module _ {r₁ : Wrote} {o₁ : List ℕ} (a : Leaves end (write_out (sols w) (nodes_at w q.start q.count)) m o' r₁ o₁) where
-          pub hit-ends : r₁ ≡ Over → Leaves end (write_out (sols w) (nodes_at s at left)) n o Over o₁
-          hit-ends u = i.whole Over o₁ (hit-over i.ask left-some f a u)
+        module _ {r₁ : (Option ℕ)} {o₁ : List ℕ} (a : Leaves end (write_out (sols w) (nodes_at w q.start q.count)) m o' r₁ o₁) where
+          pub hit-ends : r₁ ≡ None → Leaves end (write_out (sols w) (nodes_at s at left)) n o None o₁
+          hit-ends u = i.whole None o₁ (hit-over i.ask left-some f a u)
 
-          pub hit-turn : (k : ℕ) → length o₁ ≡ length o' → r₁ ≡ Fits k → Turning s at left w o n end o₁ (p + 2) (l - 1) k
+          pub hit-turn : (k : ℕ) → length o₁ ≡ length o' → r₁ ≡ Some k → Turning s at left w o n end o₁ (p + 2) (l - 1) k
           hit-turn k e u = record {
             ask = on-ask i.ask left-some o₁ k e (hit-fits i.ask left-some f a u);
             same = e ∙ i.same;

@@ -1,16 +1,8 @@
--- The words of a book, with its levels as a caller reads them, are the definition's for the solutions and the levels that it holds (`book-words`);
--- and an empty book. Assumes nothing.
-use mathlib.Core.Path.{◌≡◌, refl, sym, ap, ap₂, ◌∙◌}
-use mathlib.Core.Logic.{◌≢◌, ◌⊎◌, inl, inr}
-use mathlib.Core.Bool.{Bool, true, false}
-use mathlib.Core.List.{List, [], ◌∷◌, ◌++◌}
-use Prim.Native.Nat.{ℕ, zero, suc, ◌+◌, ◌*◌, ◌-◌, ◌≤◌, ◌<◌}
-use native.Mathlib.Nat.{not-suc-le-zero}
-use native.Mathlib.Omega.{arith}
-use lib.Dec.{ltb}
-use lib.ListN.{length, get_or, take, replicate, length-set, length-append, get_or-replicate, get_or-append}
-use lib.Seq.{sets, length-sets, get_or-set_same, get_or-set_other, ext_get_or, get_or-take, get_or-append-add, length-take-le}
-use borrow.Author.Tests.{eq-eqb, ne_eqb, ltb-true, ltb-false}
+-- The words of a book, with its levels as a caller reads them, are the definition's for the solutions and the levels
+-- that it holds (`book-words`); and an empty book. Assumes nothing.
+use Rattle.std.proofs.Common.{◌≡◌, refl, sym, ap, ap₂, ◌∙◌, ◌≢◌, ◌⊎◌, inl, inr, Bool, true, false, List, [], ◌∷◌, ◌++◌, ℕ, zero, suc, ◌+◌, ◌*◌, ◌-◌, ◌≤◌, ◌<◌, not-suc-le-zero, arith, ltb, length, get_or, take, replicate, length-set, length-append, get_or-set_same, get_or-set_other, ext_get_or, get_or-take, get_or-append-add, length-take-le, eq-eqb, ne_eqb, ltb-true, ltb-false}
+use lib.ListN.{get_or-replicate, get_or-append}
+use lib.Seq.{sets, length-sets}
 use Rattle.sizes.specs.Sizes.{most_numbers, book_base, book_size, book_stride}
 use Rattle.nodes.specs.Nodes.{words, nodes_at, zeros}
 use Rattle.nodes.proofs.ListLaws.{cond_ind}

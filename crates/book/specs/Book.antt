@@ -1,7 +1,8 @@
 -- The book's words, and the solutions that they hold. Assumes nothing: these are definitions.
--- Words 3 k and 3 k + 1 are the start and the node count of unknown k's solution, word 3 k + 2 is for k's level; the nodes stand from word 3,000 on, in order of solving.
-use Rattle.std.specs.Prelude.{◌≡◌, ◌≢◌, Bool, cond, List, [], ◌∷◌, ℕ, zero, suc, ◌+◌, ◌*◌, ◌-◌, ◌≤◌, ◌<◌, length, get_or, set, take, eqb, leb, ltb}
-use Rattle.std.proofs.Math.Option.{Option, none, some}
+-- Words 3 k and 3 k + 1 are the start and the node count of unknown k's solution, word 3 k + 2 is for k's level; the
+-- nodes stand from word 3,000 on, in order of solving.
+use Rattle.nodes.specs.declared.Place.{Place}
+use Rattle.std.specs.Prelude.{◌≡◌, ◌≢◌, Bool, cond, List, [], ◌∷◌, ℕ, zero, suc, ◌+◌, ◌*◌, ◌-◌, ◌≤◌, ◌<◌, length, get_or, set, take, eqb, leb, ltb, Option, None, Some}
 use Rattle.std.proofs.lemmas.List.Edits.{sets}
 use Rattle.sizes.specs.Sizes.{most_nodes, most_numbers, book_base, book_size, book_stride}
 use Rattle.nodes.specs.Nodes.{Node, Ty, kind, number, words, nodes_at}
@@ -9,10 +10,6 @@ use Rattle.judgment.specs.Solutions.{◌≔◌, Solutions}
 use Rattle.judgment.specs.Levels.{Levels}
 use Rattle.judgment.specs.Good.{Fine}
 use Rattle.book.specs.declared.Book.{Book}
-use Rattle.book.specs.declared.Found.{Found}
-use Rattle.book.specs.declared.Found.TheVariants.{At, Nothing}
-use Rattle.book.specs.declared.Wrote.{Wrote}
-use Rattle.book.specs.declared.Wrote.TheVariants.{Fits, Over}
 
 abbrev pub start_of : List ℕ → ℕ → ℕ
 start_of w k = get_or w (book_stride * k) 0
@@ -23,12 +20,12 @@ count_of w k = get_or w (book_stride * k + 1) 0
 -- ---- the solutions that the words hold
 -- the unknown below n whose solution starts at word p
 unfoldable pub who : List ℕ → ℕ → ℕ → Option ℕ
-who w p zero = none
-who w p (suc k) = cond (eqb (start_of w k) p) (some k) (who w p k)
+who w p zero = None
+who w p (suc k) = cond (eqb (start_of w k) p) (Some k) (who w p k)
 
 abbrev pub after : Option ℕ → (ℕ → Solutions) → Solutions
-after none f = []
-after (some k) f = f k
+after None f = []
+after (Some k) f = f k
 
 -- the solutions from word p on, n at most, in order of solving
 unfoldable pub sols_from : List ℕ → ℕ → ℕ → Solutions
@@ -53,7 +50,8 @@ Holds w e p [] = (p ≡ e) × ((j : ℕ) → j < most_numbers → start_of w j <
 Holds w e p (◌≔◌ k t ∷ r) = Head w p k t × Holds w e (p + 2 * length t) r
 
 -- ---- levels
--- While a run goes on the word 0 stands for a number's own level and m + 1 for the level m, so a number of its own level needs no word.
+-- While a run goes on the word 0 stands for a number's own level and m + 1 for the level m, so a number of its own
+-- level needs no word.
 abbrev pub level_word_of : List ℕ → ℕ → ℕ
 level_word_of w k = get_or w (book_stride * k + 2) 0
 
@@ -118,9 +116,9 @@ pub record SolveAsk (w : List ℕ) (b : Book) (k : ℕ) (s : List ℕ) («from»
 
 -- ---- find
 -- where the solution of a node stands, if it is a solved unknown
-unfoldable pub place_of : List ℕ → ℕ → ℕ → Found
+unfoldable pub place_of : List ℕ → ℕ → ℕ → Option Place
 place_of w d v =
-    cond (eqb d 17) (cond (ltb v most_numbers) (cond (ltb (start_of w v) book_base) Nothing (At (record { start = start_of w v; count = count_of w v }))) Nothing) Nothing
+    cond (eqb d 17) (cond (ltb v most_numbers) (cond (ltb (start_of w v) book_base) None (Some (record { start = start_of w v; count = count_of w v }))) None) None
 
 -- ---- write_out
 pub record WriteAsk (s : List ℕ) (at left : ℕ) (w o : List ℕ) (n end : ℕ) : Type 0 where
@@ -129,9 +127,10 @@ pub record WriteAsk (s : List ℕ) (at left : ℕ) (w o : List ℕ) (n end : ℕ
   pub room : 2 * end ≤ length o
   pub most : n ≤ end
 
--- what writing t out from node n of o on, up to node `end`, leaves: the number of nodes that then stand there, or that there are more
-abbrev pub wrote : Ty → ℕ → ℕ → Wrote
-wrote t n end = cond (leb (n + length t) end) (Fits (n + length t)) Over
+-- what writing t out from node n of o on, up to node `end`, leaves: the number of nodes that then stand there, or that
+-- there are more
+abbrev pub wrote : Ty → ℕ → ℕ → Option ℕ
+wrote t n end = cond (leb (n + length t) end) (Some (n + length t)) None
 
 abbrev pub written_to : Ty → ℕ → ℕ → List ℕ → List ℕ
 written_to t n end o = sets o (2 * n) (words (take (end - n) t))

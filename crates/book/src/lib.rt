@@ -1,4 +1,5 @@
-// The solution book (worklist.rs, `solved_evars`): the solutions of unknowns as words of a lent buffer, and what follows them: writing out (`zonk`) and comparing.
+// The solution book (worklist.rs, `solved_evars`): the solutions of unknowns as words of a lent buffer, and what
+// follows them: writing out (`zonk`) and comparing.
 #![tactic(auto)]
 
 ghost use Rattle.std.specs.Prelude.{◌≡◌, ◌≢◌, [], ◌+◌, ◌*◌, ◌≤◌, ◌<◌, length};
@@ -13,7 +14,7 @@ ghost use Rattle.book.specs.Book.{level_of, levelled, lowered_node, lowered, Lis
 ghost use Rattle.book.specs.Compared.{next, node_met, alike_at, skipped, first_met, compared, apart_at, Sides, MeetAsk, FirstAsk, NextAsk};
 
 use core_types::{is_node, node_parts};
-use nodes::{clear_words, copy_nodes, wide};
+use nodes::{Place, clear_words, copy_nodes, wide};
 use sizes::{BOOK_BASE, BOOK_SIZE, BOOK_STRIDE, MOST_NODES, MOST_NUMBERS};
 
 // How many nodes the solutions have.
@@ -37,33 +38,12 @@ impl Book {
     pub fn fits(self, n: usize) -> bool
         ensures { result ≡ fitting self n }
     {
-        if n <= Book::NODES {
-            return self.nodes <= Book::NODES - n;
-        }
-        false
+        n <= Book::NODES && self.nodes <= Book::NODES - n
     }
 }
 
-// Where the nodes of a solution stand.
-#[derive(Clone, Copy)]
-pub struct Place {
-    pub start: usize,
-    pub count: usize,
-}
-
-#[derive(Clone, Copy)]
-pub enum Found {
-    At(Place),
-    Nothing,
-}
-
-#[derive(Clone, Copy)]
-pub enum Wrote {
-    Fits(usize),
-    Over,
-}
-
-// What is still to be compared: the words at which the two sides go on, how many types from there, and how many nodes these may have when written out.
+// What is still to be compared: the words at which the two sides go on, how many types from there, and how many nodes
+// these may have when written out.
 #[derive(Clone, Copy)]
 pub struct Rest {
     pub left: usize,
@@ -85,10 +65,9 @@ impl Rest {
     }
 }
 
-// What a comparison has met: the same nodes up to what is still to be compared, a node that differs, or more nodes than the budget and none that differs.
+// Why a comparison ends early: a node differs, or there are more nodes than the budget and none that differs.
 #[derive(Clone, Copy)]
-pub enum Met {
-    Same(Rest),
+pub enum Unlike {
     Differ,
     Over,
 }
@@ -111,11 +90,7 @@ pub fn level(book: &[u32], k: u32) -> u32
     requires { (book_size ≤ length book.now) × (k < most_numbers) }
     ensures { result ≡ level_of book.now k }
 {
-    let word = book[BOOK_STRIDE * wide(k) + 2];
-    if word == 0 {
-        return k;
-    }
-    word - 1
+    book[BOOK_STRIDE * wide(k) + 2].checked_sub(1).unwrap_or(k)
 }
 
 // Gives number k the level m.
@@ -131,10 +106,8 @@ fn lower_node(book: &mut [u32], m: u32, kind: u32, number: u32)
     requires { (book_size ≤ length book.old) × (m < most_numbers) × (kind ≡ 17 → number < most_numbers) }
     ensures { book.new ≡ lowered_node m kind number book.old }
 {
-    if kind == 17 {
-        if m < level(book, number) {
-            set_level(book, number, m);
-        }
+    if kind == 17 && m < level(book, number) {
+        set_level(book, number, m);
     }
 }
 
@@ -143,11 +116,9 @@ pub fn lower(book: &mut [u32], m: u32, src: &[u32], from: usize, n: usize)
     requires { (book_size ≤ length book.old) × (m < most_numbers) × (from + 2 * n ≤ length src.now) × All Listed (nodes_at src.now from n) }
     ensures { book.new ≡ lowered m (nodes_at src.now from n) book.old }
 {
-    let mut i = 0;
-    while i < n {
+    for i in 0..n {
         let at = from + 2 * i;
         lower_node(book, m, src[at], src[at + 1]);
-        i += 1;
     }
 }
 
@@ -156,43 +127,41 @@ pub fn write_levels(book: &mut [u32], n: u32)
     requires { (book_size ≤ length book.old) × (n ≤ most_numbers) }
     ensures { book.new ≡ levels_written book.old n }
 {
-    let mut k = 0;
-    while k < n {
-        let own = level(book, k);
-        book[BOOK_STRIDE * wide(k) + 2] = own;
-        k += 1;
+    for k in 0..n {
+        book[BOOK_STRIDE * wide(k) + 2] = level(book, k);
     }
 }
 
-// Where the solution of unknown k stands, if it has one. Whatever follows a chain goes on by this, its numbers in 16 bits.
-fn link(book: &[u32], k: u16) -> Found
+// Where the solution of unknown k stands, if it has one. Whatever follows a chain goes on by this, its numbers in 16
+// bits.
+#[tactic(auto, unfolding(crate::specs::Book::place_of))]
+fn link(book: &[u32], k: u16) -> Option<Place>
     requires { (book_size ≤ length book.now) × (k < most_numbers) }
     ensures { result ≡ place_of book.now 17 k }
 {
-    let pair = BOOK_STRIDE * (k as usize);
+    let pair = BOOK_STRIDE * usize::from(k);
     let start = wide(book[pair]);
     if start < BOOK_BASE {
-        return Found::Nothing;
+        return None;
     }
     let count = wide(book[pair + 1]);
-    Found::At(Place { start, count })
+    Some(Place { start, count })
 }
 
 // Where the solution of a node stands, if it is a solved unknown.
-pub fn find(book: &[u32], kind: u32, number: u32) -> Found
+#[tactic(auto, unfolding(crate::specs::Book::place_of))]
+pub fn find(book: &[u32], kind: u32, number: u32) -> Option<Place>
     requires { book_size ≤ length book.now }
     ensures { result ≡ place_of book.now kind number }
 {
-    if kind != 17 {
-        return Found::Nothing;
-    }
-    if Book::NUMBERS <= wide(number) {
-        return Found::Nothing;
+    if kind != 17 || Book::NUMBERS <= wide(number) {
+        return None;
     }
     link(book, number as u16)
 }
 
-// Writes out the `left` nodes at word `at` of src, from node n of out on and up to node `end`, following each solved unknown into its solution.
+// Writes out the `left` nodes at word `at` of src, from node n of out on and up to node `end`, following each solved
+// unknown into its solution.
 pub fn write_out(
     src: &[u32],
     at: usize,
@@ -201,32 +170,20 @@ pub fn write_out(
     out: &mut [u32],
     n: usize,
     end: usize,
-) -> Wrote
+) -> Option<usize>
     requires { WriteAsk src.now at left book.now out.old n end }
     ensures { (result ≡ wrote (write_out (sols book.now) (nodes_at src.now at left)) n end) × (out.new ≡ written_to (write_out (sols book.now) (nodes_at src.now at left)) n end out.old) }
 {
-    let mut p = at;
-    let mut l = left;
     let mut m = n;
-    while 0 < l {
+    for i in 0..left {
+        let p = at + 2 * i;
         let kind = src[p];
         let number = src[p + 1];
         match find(book, kind, number) {
-            Found::At(q) => {
-                let start = q.start;
-                let count = q.count;
-                match write_out(book, start, count, book, out, m, end) {
-                    Wrote::Fits(k) => {
-                        m = k;
-                    }
-                    Wrote::Over => {
-                        return Wrote::Over;
-                    }
-                }
-            }
-            Found::Nothing => {
+            Some(q) => m = write_out(book, q.start, q.count, book, out, m, end)?,
+            None => {
                 if end <= m {
-                    return Wrote::Over;
+                    return None;
                 }
                 let two = 2 * m;
                 out[two] = kind;
@@ -234,10 +191,8 @@ pub fn write_out(
                 m += 1;
             }
         }
-        p += 2;
-        l -= 1;
     }
-    Wrote::Fits(m)
+    Some(m)
 }
 
 // A node further on both sides.
@@ -255,19 +210,9 @@ fn alike(l: &[u32], r: &[u32], c: Rest) -> bool
     requires { c.parts ≢ 0 → (c.left + 2 ≤ length l.now) × (c.right + 2 ≤ length r.now) }
     ensures { result ≡ alike_at l.now r.now c }
 {
-    if c.parts == 0 {
-        return false;
-    }
-    if c.budget == 0 {
-        return false;
-    }
     let x = c.left;
     let y = c.right;
-    let kind = l[x];
-    if kind == 17 {
-        return false;
-    }
-    is_node(kind, l[x + 1], r[y], r[y + 1])
+    c.parts != 0 && c.budget != 0 && l[x] != 17 && is_node(l[x], l[x + 1], r[y], r[y + 1])
 }
 
 // Goes past such nodes: a loop of its own, since most nodes of most types are no unknowns.
@@ -283,69 +228,70 @@ fn skip_same(l: &[u32], r: &[u32], c: Rest) -> Rest
 }
 
 // Compares the first nodes, neither of which is a solved unknown.
-fn same_node(l: &[u32], r: &[u32], c: Rest) -> Met
+fn same_node(l: &[u32], r: &[u32], c: Rest) -> Result<Rest, Unlike>
     requires { FirstAsk l.now r.now c }
     ensures { result ≡ node_met l.now r.now c }
 {
     let x = c.left;
     let y = c.right;
-    if is_node(l[x], l[x + 1], r[y], r[y + 1]) {
-        if c.budget == 0 {
-            return Met::Over;
-        }
-        return Met::Same(next_node(l, c));
+    if !is_node(l[x], l[x + 1], r[y], r[y + 1]) {
+        Err(Unlike::Differ)
+    } else if c.budget == 0 {
+        Err(Unlike::Over)
+    } else {
+        Ok(next_node(l, c))
     }
-    Met::Differ
 }
 
 // Compares the first nodes or, where one of them is a solved unknown, its solution with the type against it.
 #[cycle(same_first_same_parts)]
-fn same_first(l: &[u32], r: &[u32], book: &[u32], c: Rest) -> Met
+fn same_first(l: &[u32], r: &[u32], book: &[u32], c: Rest) -> Result<Rest, Unlike>
     requires { MeetAsk l.now r.now book.now c × FirstAsk l.now r.now c }
     ensures { result ≡ first_met l.now r.now book.now c }
 {
     let x = c.left;
     let y = c.right;
     let parts = c.parts - 1;
-    let budget = c.budget;
-    match find(book, l[x], l[x + 1]) {
-        Found::At(p) => match same_parts(book, r, book, Rest::new(p.start, y, 1, budget)) {
-            Met::Same(d) => Met::Same(Rest::new(x + 2, d.right, parts, d.budget)),
-            Met::Differ => Met::Differ,
-            Met::Over => Met::Over,
-        },
-        Found::Nothing => match find(book, r[y], r[y + 1]) {
-            Found::At(q) => match same_parts(l, book, book, Rest::new(x, q.start, 1, budget)) {
-                Met::Same(d) => Met::Same(Rest::new(d.left, y + 2, parts, d.budget)),
-                Met::Differ => Met::Differ,
-                Met::Over => Met::Over,
-            },
-            Found::Nothing => same_node(l, r, c),
-        },
+    if let Some(p) = find(book, l[x], l[x + 1]) {
+        let of_left = Rest {
+            left: p.start,
+            parts: 1,
+            ..c
+        };
+        let d = same_parts(book, r, book, of_left)?;
+        return Ok(Rest {
+            left: x + 2,
+            parts,
+            ..d
+        });
     }
+    if let Some(q) = find(book, r[y], r[y + 1]) {
+        let of_right = Rest {
+            right: q.start,
+            parts: 1,
+            ..c
+        };
+        let d = same_parts(l, book, book, of_right)?;
+        return Ok(Rest {
+            right: y + 2,
+            parts,
+            ..d
+        });
+    }
+    same_node(l, r, c)
 }
 
 // Compares types of l with types of r as they are when written out, following each solved unknown into its solution.
 #[cycle(same_first_same_parts)]
-fn same_parts(l: &[u32], r: &[u32], book: &[u32], c: Rest) -> Met
+fn same_parts(l: &[u32], r: &[u32], book: &[u32], c: Rest) -> Result<Rest, Unlike>
     requires { MeetAsk l.now r.now book.now c }
     ensures { result ≡ compared l.now r.now book.now c }
 {
     let mut d = skip_same(l, r, c);
     while 0 < d.parts {
-        match same_first(l, r, book, d) {
-            Met::Same(e) => {
-                d = skip_same(l, r, e);
-            }
-            Met::Differ => {
-                return Met::Differ;
-            }
-            Met::Over => {
-                return Met::Over;
-            }
-        }
+        d = skip_same(l, r, same_first(l, r, book, d)?);
     }
-    Met::Same(d)
+    Ok(d)
 }
 
 // The first nodes tell two types apart: there are some, none is a solved unknown, and they are not the same.
@@ -353,28 +299,23 @@ fn apart(l: &[u32], r: &[u32], book: &[u32], c: Rest) -> bool
     requires { (c.parts ≢ 0 → (c.left + 2 ≤ length l.now) × (c.right + 2 ≤ length r.now)) × (book_size ≤ length book.now) }
     ensures { result ≡ apart_at l.now r.now book.now c }
 {
-    if c.parts == 0 {
-        return false;
-    }
     let p = c.left;
     let q = c.right;
-    match find(book, l[p], l[p + 1]) {
-        Found::At(_) => false,
-        Found::Nothing => match find(book, r[q], r[q + 1]) {
-            Found::At(_) => false,
-            Found::Nothing => !is_node(l[p], l[p + 1], r[q], r[q + 1]),
-        },
-    }
+    c.parts != 0
+        && find(book, l[p], l[p + 1]).is_none()
+        && find(book, r[q], r[q + 1]).is_none()
+        && !is_node(l[p], l[p + 1], r[q], r[q + 1])
 }
 
-// The same comparison; most types differ in a node that no solution stands for, and need no call of a recursive function.
-pub fn compare(l: &[u32], r: &[u32], book: &[u32], c: Rest) -> Met
+// The same comparison; most types differ in a node that no solution stands for, and need no call of a recursive
+// function.
+pub fn compare(l: &[u32], r: &[u32], book: &[u32], c: Rest) -> Result<Rest, Unlike>
     requires { MeetAsk l.now r.now book.now c }
     ensures { result ≡ compared l.now r.now book.now c }
 {
     let d = skip_same(l, r, c);
     if apart(l, r, book, d) {
-        return Met::Differ;
+        return Err(Unlike::Differ);
     }
     same_parts(l, r, book, d)
 }

@@ -1,4 +1,7 @@
 -- The entry call by its tests, one after the other. Assumes nothing.
+use Rattle.grammar.specs.declared.SheetError.TheVariants.{Length, Misspelt, Unfit}
+use Rattle.grammar.specs.declared.SheetError.{SheetError}
+use Rattle.std.specs.Prelude.{Result, Ok, Err}
 use mathlib.Core.Path.{◌≡◌, refl, sym, ap, ◌∙◌}
 use mathlib.Core.Logic.{◌⊎◌, inl, inr}
 use mathlib.Core.Bool.{Bool, true, false, ◌||◌}
@@ -11,14 +14,12 @@ use lib.ListN.{length, take, drop, take-append-drop}
 use lib.Seq.{sets, sets-eq}
 use borrow.Author.Tests.{lt-ltb, le-ltb, ltb-false}
 use Rattle.sizes.specs.Sizes.{highest_ceiling, highest_limit, board_size, book_size, report_stride}
-use Rattle.grammar.specs.declared.Check.{Check}
-use Rattle.grammar.specs.declared.Check.TheVariants.{Plan, Length, Misspelt, Unfit}
-use Rattle.grammar.specs.Check.{length_ok, check, check_line}
+use Rattle.grammar.specs.Check.{length_ok, check, check_line, refusal_line}
 use Rattle.grammar.proofs.Lines.{line_small}
 use Rattle.sheet.specs.Plan.{triples}
 use Rattle.judgment.specs.declared.Answer.{Answer}
 use Rattle.judgment.specs.Levels.{Mode}
-use Rattle.judgment.specs.Result.{Result, Buffers, Called, limits_for, judge, refused_at, limit_bad, too_short, by_check, call, board_words, book_words, report_words}
+use Rattle.judgment.specs.Result.{Judged, Buffers, Called, limits_for, judge, refused_at, limit_bad, too_short, by_check, call, board_words, book_words, report_words}
 use Rattle.judgment.proofs.Narrow.{limit-good}
 use Rattle.judgment.proofs.Promised.{promise}
 use Rattle.judgment.proofs.Words.{length-board, length-book, length-report}
@@ -30,7 +31,7 @@ front : (l e ws : List ℕ) (n : ℕ) → length ws ≡ n → n ≤ length l →
 front l e ws n h m q =
     rw q (sym (sets-eq ws l 0 (omega arith) ∙ ap (λ (k : ℕ). ws ++ drop k l) (zero-add (length ws) ∙ h)))
 
-fronted : {limit : ℕ} {s b k rep : List ℕ} (a : FrontAsk limit s b k rep) (o : Result) {b' k' rep' : List ℕ} {r : Answer} → Ran limit o b' k' rep' r
+fronted : {limit : ℕ} {s b k rep : List ℕ} (a : FrontAsk limit s b k rep) (o : Judged) {b' k' rep' : List ℕ} {r : Answer} → Ran limit o b' k' rep' r
     → Fronted limit o b k rep (b' ++ drop board_size b) (k' ++ drop book_size k) (rep' ++ drop (report_stride * limit) rep) r
 fronted {limit} {s} {b} {k} {rep} a o {b'} {k'} {rep'} q = record {
   answer = q.answer;
@@ -43,7 +44,7 @@ fronted {limit} {s} {b} {k} {rep} a o {b'} {k'} {rep'} q = record {
 rejoined : (l e : List ℕ) (n : ℕ) → e ≡ take n l → e ++ drop n l ≡ l
 rejoined l e n q = rw q (take-append-drop n l)
 
-kept-fronts : (limit : ℕ) {v : Check} {b k rep b' k' rep' : List ℕ} {r : Answer} → Kept v (take board_size b) (take book_size k) (take (report_stride * limit) rep) b' k' rep' r
+kept-fronts : (limit : ℕ) {v : (Result Unit SheetError)} {b k rep b' k' rep' : List ℕ} {r : Answer} → Kept v (take board_size b) (take book_size k) (take (report_stride * limit) rep) b' k' rep' r
     → Kept v b k rep (b' ++ drop board_size b) (k' ++ drop book_size k) (rep' ++ drop (report_stride * limit) rep) r
 kept-fronts limit {v} {b} {k} {rep} {b'} {k'} {rep'} q = record {
   answer = q.answer;
@@ -52,13 +53,11 @@ kept-fronts limit {v} {b} {k} {rep} {b'} {k'} {rep'} q = record {
   report = rejoined rep rep' (report_stride * limit) q.report;
 }
 
-each-check : (v : Check) (A B C D : Type 0) → (A → C) → (B → D) → ByCheck v A B → ByCheck v C D
-each-check Plan A B C D f g x = f x
-each-check Length A B C D f g x = g x
-each-check (Misspelt l) A B C D f g x = g x
-each-check (Unfit l) A B C D f g x = g x
+each-check : (v : Result Unit SheetError) (A B C D : Type 0) → (A → C) → (B → D) → ByCheck v A B → ByCheck v C D
+each-check (Ok _) A B C D f g x = f x
+each-check (Err e) A B C D f g x = g x
 
-pub fronts : {limit : ℕ} {s b k rep : List ℕ} (a : FrontAsk limit s b k rep) (o : Result) (b' k' rep' : List ℕ) (r : Answer)
+pub fronts : {limit : ℕ} {s b k rep : List ℕ} (a : FrontAsk limit s b k rep) (o : Judged) (b' k' rep' : List ℕ) (r : Answer)
     → ByCheck (check s) (Ran limit o b' k' rep' r) (Kept (check s) (take board_size b) (take book_size k) (take (report_stride * limit) rep) b' k' rep' r)
     → ByCheck (check s) (Fronted limit o b k rep (b' ++ drop board_size b) (k' ++ drop book_size k) (rep' ++ drop (report_stride * limit) rep) r) (Kept (check s) b k rep (b' ++ drop board_size b) (k' ++ drop book_size k) (rep' ++ drop (report_stride * limit) rep) r)
 fronts {limit} {s} {b} {k} {rep} a o b' k' rep' r =
@@ -92,13 +91,13 @@ module _ (m : Mode) (s : List ℕ) (c w : ℕ) (b : Buffers) where
     short-buffer t q e = called (rw (le-ltb highest_ceiling c h, sym l ∙ p, sym t ∙ q, e) refl)
 
     module _ {x : Bool} (t : x ≡ too_short w b) (q : x ≡ false) where
-      by-check : (v : Check) → check s ≡ v → call m s c w b ≡ by_check m s c w b v
+      by-check : (v : Result Unit SheetError) → check s ≡ v → call m s c w b ≡ by_check m s c w b v
       unfolding call
       by-check v z = rw (le-ltb highest_ceiling c h, sym l ∙ p, sym t ∙ q, z) refl
 
       pub bad-length : {a : Answer} {n : Bool} → n ≡ length_ok (length s) → n ≡ false → a ≡ refused_at 3 0 → Answered m s c w b a b
       unfolding check
-      bad-length z p e = called (by-check Length (rw (sym z ∙ p)) ∙ rw e refl)
+      bad-length z p e = called (by-check (Err Length) (rw (sym z ∙ p)) ∙ rw e refl)
 
       long-enough : too_short w b ≡ false → (board_size ≤ length b.board) × (book_size ≤ length b.book) × (report_stride * w ≤ length b.report)
       long-enough = go (ltb (length b.board) board_size) (ltb (length b.book) book_size) (ltb (length b.report) (report_stride * w)) refl refl refl
@@ -118,13 +117,14 @@ module _ (m : Mode) (s : List ℕ) (c w : ℕ) (b : Buffers) where
           → Answered m s c w b a d
       answered {a} {d} = go (check s) refl
         where
-          go : (v : Check) → check s ≡ v → ByCheck v (Fronted w (judge (limits_for m w) c (triples s)) b.board b.book b.report d.board d.book d.report a) (Kept v b.board b.book b.report d.board d.book d.report a)
+          go : (v : Result Unit SheetError) → check s ≡ v → ByCheck v (Fronted w (judge (limits_for m w) c (triples s)) b.board b.book b.report d.board d.book d.report a) (Kept v b.board b.book b.report d.board d.book d.report a)
               → Answered m s c w b a d
-          go Plan z f = called (by-check Plan z ∙ sym (rw (f.answer, f.board, f.book, f.report) refl))
-          go Length z f = called (by-check Length z ∙ sym (rw (f.answer, f.board, f.book, f.report) refl))
-          go (Misspelt l) z f = called (by-check (Misspelt l) z ∙ sym (rw (f.answer, f.board, f.book, f.report) refl))
-          go (Unfit l) z f = called (by-check (Unfit l) z ∙ sym (rw (f.answer, f.board, f.book, f.report) refl))
+          go (Ok _) z f = called (by-check (Ok tt) z ∙ sym (rw (f.answer, f.board, f.book, f.report) refl))
+          go (Err e) z f = called (by-check (Err e) z ∙ sym (rw (f.answer, f.board, f.book, f.report) refl))
 
 -- a refused line is a word
-pub line_word : (s : List ℕ) {v : Check} → v ≡ check s → {l : ℕ} → (v ≡ Misspelt l) ⊎ (v ≡ Unfit l) → l < 4294967296
-line_word s {v} e {l} q = let n = line_small s in elim q [ inl z ↦ let m = ap check_line (sym e ∙ z) in omega arith | inr z ↦ let m = ap check_line (sym e ∙ z) in omega arith ]
+pub line_word : (s : List ℕ) {v : Result Unit SheetError} → v ≡ check s → {x : SheetError} → v ≡ Err x → refusal_line x < 4294967296
+line_word s {v} e {x} q =
+    let n = line_small s in
+    let m = ap check_line (sym e ∙ q) in
+    omega arith

@@ -1,4 +1,6 @@
 -- The seven numbers and the buffers, read off the end of a run. Assumes nothing.
+use Rattle.std.specs.Prelude.{Option, Some, None}
+use Rattle.judgment.specs.declared.TypeError.{TypeError}
 use mathlib.Core.Path.{◌≡◌, refl, sym, ap, subst, ◌∙◌}
 use mathlib.Core.Bool.{Bool, true, false, cond}
 use mathlib.Core.List.{List, [], ◌++◌, append-nil}
@@ -23,13 +25,12 @@ use Rattle.judgment.specs.Levels.{Levels, own_levels, levels_after, Mode}
 use Rattle.judgment.specs.Run.{events, run_from, check_type}
 use Rattle.judgment.specs.Run.{Run as Steps, run as steps}
 use Rattle.judgment.specs.Chain.{Told, told}
-use Rattle.judgment.specs.Result.{start_of, Result, end_report, result_of, run_of, judge, limits_for, padded, book_words, report_words, board_words}
+use Rattle.judgment.specs.Result.{start_of, Judged, end_report, result_of, run_of, judge, limits_for, padded, book_words, report_words, board_words}
 use Rattle.judgment.proofs.Words.{length-board}
 use Rattle.book.specs.Book.{sols, levels_of, levels_written}
 use Rattle.book.proofs.Words.{words-at, book-words, length-written}
-use Rattle.operations.specs.declared.Halt.{Halt}
 use Rattle.operations.specs.declared.Run.{Run}
-use Rattle.operations.specs.State.{reported, error_of, going, state_of, WellFormed}
+use Rattle.operations.specs.State.{reported, state_of, WellFormed}
 use Rattle.applying.specs.Applying.{env_on}
 use Rattle.ending.specs.Ending.{end_by, end_of, report_end, answer_by}
 use Rattle.checker.specs.Calling.{Ran}
@@ -41,7 +42,7 @@ counter_of (state Γ σ n) = n
 abbrev solutions_of : State → Solutions
 solutions_of (state Γ σ n) = σ
 
-abbrev result_told : Bool → Told → Result
+abbrev result_told : Bool → Told → Judged
 result_told plain t = record {
   answer = answer_by plain t.end t.taken (counter_of t.last);
   report = end_report t.end;
@@ -140,27 +141,28 @@ front-0 size true e = refl
 front-0 size false e = let x = ltb-false 0 size e in omega arith
 
 -- at any end
-pub ended-report : (limit : ℕ) (rep : List ℕ) → length rep ≡ report_stride * limit → (h : Halt) (i : ℕ)
+pub ended-report : (limit : ℕ) (rep : List ℕ) → length rep ≡ report_stride * limit → (h : Option TypeError) (i : ℕ)
     → (let e = report_end (report_stride * limit) h in sets rep e (zeros (report_stride * limit - e)) ≡ report_words limit (end_report (end_by h i rep)))
 unfolding nodes_at report_end
-ended-report limit rep len h i = go (going h) refl i
+ended-report limit rep len h i = go h i
   where
     none : sets rep 0 (zeros (report_stride * limit - 0)) ≡ report_words limit []
     none = let s = report_stride * limit in subst (λ (e : ℕ). sets rep e (zeros (s - e)) ≡ report_words limit []) (front-0 s (ltb 0 s) refl) (report-is limit rep len 0)
 
-    go : (g : Bool) → going h ≡ g → (i : ℕ) → (let e = report_end (report_stride * limit) h in sets rep e (zeros (report_stride * limit - e)) ≡ report_words limit (end_report (end_by h i rep)))
-    go true g zero = rw g none
-    go true g (suc i) = rw g none
-    go false g i = rw g (report-is limit rep len (reported (error_of h)))
+    go : (h : Option TypeError) (i : ℕ) → (let e = report_end (report_stride * limit) h in sets rep e (zeros (report_stride * limit - e)) ≡ report_words limit (end_report (end_by h i rep)))
+    go None zero = none
+    go None (suc i) = none
+    go (Some e) i = report-is limit rep len (reported e)
 
-pub end-within : {n size : ℕ} (h : Halt) → n ≡ report_end size h → n ≤ size
+pub end-within : {n size : ℕ} (h : Option TypeError) → n ≡ report_end size h → n ≤ size
 unfolding report_end
-end-within {n} {size} h e =
-    let x : report_end size h ≤ size = cond_ind (λ (n : ℕ). n ≤ size) (going h) (λ _. omega arith)
-    (λ _. cond_ind (λ (n : ℕ). n ≤ size) (ltb (2 * reported (error_of h)) size) (λ q. let x = ltb-true (2 * reported (error_of h)) size q in omega arith) (λ _. omega arith)) in
-    rw e x
+end-within {n} {size} h e = rw e (go h)
+  where
+    go : (h : Option TypeError) → report_end size h ≤ size
+    go None = omega arith
+    go (Some x) = cond_ind (λ (n : ℕ). n ≤ size) (ltb (2 * reported x) size) (λ q. let y = ltb-true (2 * reported x) size q in omega arith) (λ _. omega arith)
 
-pub end-clears : {n size l : ℕ} (h : Halt) → n ≡ report_end size h → size ≡ l → n + (size - n) ≤ l
+pub end-clears : {n size l : ℕ} (h : Option TypeError) → n ≡ report_end size h → size ≡ l → n + (size - n) ≤ l
 end-clears h e q = let x = end-within h e in omega arith
 
 -- ---- all of it
@@ -173,9 +175,9 @@ ran m s C limit {b} {k} rep c {size} {n} h lk ek lr eb es en er ep ea =
     let j = judged m s C limit b k rep c h.1 in
     let z : size ≡ report_stride * limit = es ∙ lr in
     record {
-      answer = ea rep ∙ ap (λ (p : Bool). answer_by p (end_of rep c) c.counters.taken c.counters.fresh) ep ∙ sym (ap (λ (r : Result). r.answer) j);
+      answer = ea rep ∙ ap (λ (p : Bool). answer_by p (end_of rep c) c.counters.taken c.counters.fresh) ep ∙ sym (ap (λ (r : Judged). r.answer) j);
       board = eb;
-      book = ek ∙ whole-book h.0 lk ∙ sym (ap (λ (r : Result). book_words r.solutions r.levels r.answer.fresh) j);
+      book = ek ∙ whole-book h.0 lk ∙ sym (ap (λ (r : Judged). book_words r.solutions r.levels r.answer.fresh) j);
       report = er ∙ ap (λ (m : ℕ). sets rep m (zeros (size - m))) en ∙ ap (λ (m : ℕ). sets rep (report_end m c.halt) (zeros (m - report_end m c.halt))) z
-          ∙ ended-report limit rep lr c.halt c.counters.board.entries ∙ sym (ap (λ (r : Result). report_words limit r.report) j);
+          ∙ ended-report limit rep lr c.halt c.counters.board.entries ∙ sym (ap (λ (r : Judged). report_words limit r.report) j);
     }

@@ -1,4 +1,7 @@
 -- A sheet that is taken, and its rows: what is known of the one is known of the other. Assumes nothing.
+use Rattle.grammar.specs.declared.SheetError.TheVariants.{Length, Misspelt, Unfit}
+use Rattle.grammar.specs.declared.SheetError.{SheetError}
+use Rattle.std.specs.Prelude.{Result, Ok, Err}
 use mathlib.Core.Path.{◌≡◌, refl, sym, ap, ◌∙◌, subst}
 use mathlib.Core.Bool.{Bool, true, false, false≢true}
 use mathlib.Core.List.{List}
@@ -7,28 +10,24 @@ use lib.ListN.{length, take}
 use lib.Seq.{length-take-le}
 use Rattle.sizes.specs.Sizes.{line_length}
 use Rattle.spelling.specs.declared.Triple.{Triple}
-use Rattle.grammar.specs.declared.Check.{Check}
-use Rattle.grammar.specs.declared.Check.TheVariants.{Plan, Length, Misspelt, Unfit}
 use Rattle.grammar.specs.Check.{check, check_number, check_line}
 use Rattle.sheet.specs.Plan.{triples}
 use Rattle.sheet.specs.Rows.{rows, Ended}
 use Rattle.sheet.specs.Fit.{is_plan}
 use Rattle.judgment.specs.declared.Answer.{Answer}
-use Rattle.judgment.specs.Result.{Result, refused_at, limits_for, judge}
+use Rattle.judgment.specs.Result.{Judged, refused_at, limits_for, judge}
 use Rattle.judgment.specs.Levels.{Mode}
 use Rattle.inferring.specs.Inferring.{has_case, CaseLent}
-use Rattle.stepping.specs.Stepping.{Read}
+use Rattle.stepping.specs.Stepping.{Read, longest}
 use Rattle.checker.specs.Calling.{PlanAsk, ReadAsk, TypedAsk, RunAsk, RowsAsk, Ran, Kept, ByCheck}
 
 -- ---- by what the sheet is
-by-check : (v : Check) (A B : Type 0) → (v ≡ Plan → A) → (is_plan v ≡ false → B) → ByCheck v A B
-by-check Plan A B f g = f refl
-by-check Length A B f g = g refl
-by-check (Misspelt l) A B f g = g refl
-by-check (Unfit l) A B f g = g refl
+by-check : (v : Result Unit SheetError) (A B : Type 0) → (v ≡ Ok tt → A) → (is_plan v ≡ false → B) → ByCheck v A B
+by-check (Ok _) A B f g = f refl
+by-check (Err e) A B f g = g refl
 
 -- the sheet was found to be no plan, or a plan
-module _ (limit : ℕ) (o : Result) (s b k rep : List ℕ) {a : Answer} {r : Bool} (e : r ≡ is_plan (check s)) where
+module _ (limit : ℕ) (o : Judged) (s b k rep : List ℕ) {a : Answer} {r : Bool} (e : r ≡ is_plan (check s)) where
   pub not-run : r ≡ false → a ≡ refused_at (check_number (check s)) (check_line (check s)) → ByCheck (check s) (Ran limit o b k rep a) (Kept (check s) b k rep b k rep a)
   not-run f q =
       by-check (check s) (Ran limit o b k rep a) (Kept (check s) b k rep b k rep a) (λ z. absurd (false≢true (sym f ∙ e ∙ ap is_plan z))) (λ _. record { answer = q; board = refl; book = refl; report = refl })
@@ -37,11 +36,11 @@ module _ (limit : ℕ) (o : Result) (s b k rep : List ℕ) {a : Answer} {r : Boo
   was-run {b'} {k'} {rep'} f q = by-check (check s) (Ran limit o b' k' rep' a) (Kept (check s) b k rep b' k' rep' a) (λ _. q) (λ z. absurd (false≢true (sym z ∙ sym e ∙ f)))
 
 -- ---- from the sheet to its rows
-pub was_read : (s : List ℕ) {d : List ℕ} → check s ≡ Plan → (rows d ≡ triples s) × Ended d → Read d
+pub was_read : (s : List ℕ) {d : List ℕ} → check s ≡ Ok tt → (rows d ≡ triples s) × Ended d → Read d
 was_read s h q = record { sheet = s; plan = h; same = q.0; ended = q.1 }
 
 -- of a sheet that was read
-pub read-asks : {limit : ℕ} (s : List ℕ) {b k rep d d' : List ℕ} → check s ≡ Plan → RowsAsk limit s b k rep d → (rows d' ≡ triples s) × Ended d' → ReadAsk limit d' b k rep
+pub read-asks : {limit : ℕ} (s : List ℕ) {b k rep d d' : List ℕ} → check s ≡ Ok tt → RowsAsk limit s b k rep d → (rows d' ≡ triples s) × Ended d' → ReadAsk limit d' b k rep
 read-asks s h p q = record { plan = was_read s h q; limited = p.run.limited; board = p.run.board; book = p.run.book; report = p.run.report }
 
 -- ---- room
@@ -55,6 +54,10 @@ plan-asks p x = record {
   report = p.read.report;
   lent = record { type = p.type; left = p.left; lines = p.lines; room = x };
 }
+
+-- room for two types of any node count that the limit or the sheet allows
+pub typed-asks : {limit : ℕ} {d b k rep t l : List ℕ} → ReadAsk limit d b k rep → 2 * longest limit d ≤ length t → 2 * longest limit d ≤ length l → 2 * length (rows d) + 2 ≤ length l → TypedAsk limit d b k rep t l
+typed-asks p x y z = record { read = p; type = x; left = y; lines = z }
 
 pub no-case : {d r w v : List ℕ} → has_case (rows d) ≡ false → CaseLent d r w v
 no-case h e = absurd (false≢true (sym h ∙ e))

@@ -1,4 +1,6 @@
 -- Where the run of a sheet starts, in words. Assumes nothing.
+use Rattle.std.specs.Prelude.{Option, Some, None}
+use Rattle.judgment.specs.declared.TypeError.{TypeError}
 use mathlib.Core.Path.{◌≡◌, refl, sym, ap, ap₂, ◌∙◌, subst, subst⁻¹}
 use mathlib.Core.List.{List, [], ◌∷◌, ◌++◌, append-nil}
 use Prim.Native.Nat.{ℕ, ◌+◌, ◌*◌, ◌-◌, ◌≤◌, ◌<◌}
@@ -39,9 +41,8 @@ use Rattle.book.proofs.Levels.{new-levels, new-level-words}
 use Rattle.book.proofs.Words.{new-sols, new-booked, zero-at}
 use Rattle.inference.proofs.Heads.{part-within}
 use Rattle.inference.proofs.Written.{length-type_on, copied}
-use Rattle.operations.specs.declared.Halt.{Halt}
 use Rattle.operations.specs.declared.Run.{Run}
-use Rattle.operations.specs.State.{reported, no_halt, error_of, outcome_of, state_of, WellFormed, going}
+use Rattle.operations.specs.State.{outcome_by, outcome_of, state_of, WellFormed, going}
 use Rattle.stepping.specs.Stepping.{Read, longest, Standing}
 use Rattle.judgment.specs.Chain.{told}
 use Rattle.checker.specs.Calling.{StartAsk}
@@ -113,7 +114,7 @@ module _ (s : List ℕ) (h : Read s) where
     words-after = laid b none 5 (places_of ls).term T []
 
     abbrev begun : Run
-    begun = record { counters = record { taken = 0; fresh = 0; board = grown none (n + 0) }; book = record { nodes = 0 }; halt = no_halt }
+    begun = record { counters = record { taken = 0; fresh = 0; board = grown none (n + 0) }; book = record { nodes = 0 }; halt = None }
 
     few : 0 + (length T + 0) ≤ most_nodes
     few =
@@ -172,7 +173,7 @@ module _ {s b k t : List ℕ} (a : StartAsk s b k t) {p : Places} (ep : p ≡ pl
         let z : T ≡ nodes_of (take (part_line (rows s) (places_of (rows s)).expected 1 - (places_of (rows s)).expected) (drop (places_of (rows s)).expected (rows s))) = rw (ee, ep) refl in
         y ∙ z
 
-    pub begun-is : {b' k' : List ℕ} {q : Board} {bk : Book} → (b' ≡ laid b d 5 p.term (nodes_at t' 0 (e - p.expected)) (nodes_at t' 0 0)) × (q ≡ grown d (e - p.expected + 0)) → k' ≡ sets k 0 (book_words [] own_levels 0) → bk ≡ record { nodes = 0 } → {h : Halt} → h ≡ no_halt
+    pub begun-is : {b' k' : List ℕ} {q : Board} {bk : Book} → (b' ≡ laid b d 5 p.term (nodes_at t' 0 (e - p.expected)) (nodes_at t' 0 0)) × (q ≡ grown d (e - p.expected + 0)) → k' ≡ sets k 0 (book_words [] own_levels 0) → bk ≡ record { nodes = 0 } → {h : Option TypeError} → h ≡ None
         → (let r : Run = record { counters = record { taken = 0; fresh = 0; board = q }; book = bk; halt = h } in WellFormed b' k' r × (r.counters.taken ≡ 0) × (levels_of k' ≡ own_levels) × ((rep : List ℕ) → outcome_of (rows s) b' k' rep r ≡ finished (start_of (rows s))))
     unfolding nodes_at
     begun-is u ek eb eh =
@@ -191,12 +192,12 @@ goes_on (finished s) = true
 goes_on (refused e ts s) = false
 
 pub start_is : (s b k : List ℕ) (c : Run) → WellFormed b k c × (c.counters.taken ≡ 0) × (levels_of k ≡ own_levels) × ((rep : List ℕ) → outcome_of (rows s) b k rep c ≡ finished (start_of (rows s))) → (going c.halt ≡ true) × (state_of (rows s) b k c ≡ start_of (rows s))
-start_is s b k c q = go (going c.halt) refl (q.3 [])
+start_is s b k c q = go c.halt (q.3 [])
   where
-    go : (g : Bool) → going c.halt ≡ g → cond g (finished (state_of (rows s) b k c)) (refused (error_of c.halt) (nodes_at [] 0 (reported (error_of c.halt))) (state_of (rows s) b k c)) ≡ finished (start_of (rows s))
-        → (going c.halt ≡ true) × (state_of (rows s) b k c ≡ start_of (rows s))
-    go true p e = (p, ap state_in e)
-    go false p e = absurd (true≢false (sym (ap goes_on e)))
+    go : (h : Option TypeError) → outcome_by h [] (state_of (rows s) b k c) ≡ finished (start_of (rows s))
+        → (going h ≡ true) × (state_of (rows s) b k c ≡ start_of (rows s))
+    go None e = (refl, ap state_in e)
+    go (Some x) e = absurd (true≢false (sym (ap goes_on e)))
 
 pub start-stands : (m : ℕ) (s b k : List ℕ) (c : Run) → Read s → WellFormed b k c × (c.counters.taken ≡ 0) × (levels_of k ≡ own_levels) × ((rep : List ℕ) → outcome_of (rows s) b k rep c ≡ finished (start_of (rows s))) → Standing m s b k c × (going c.halt ≡ true)
 start-stands m s b k c h q =

@@ -1,6 +1,5 @@
 -- What the entry call's contract says. Assumes nothing: this is a definition.
-use Rattle.std.specs.Prelude.{◌≡◌, List, ℕ}
-use Rattle.grammar.specs.declared.Check.TheVariants.{Plan}
+use Rattle.std.specs.Prelude.{◌≡◌, List, ℕ, Ok}
 use Rattle.grammar.specs.Check.{check}
 use Rattle.sheet.specs.Plan.{triples, plan_of}
 use Rattle.judgment.specs.declared.Answer.{Answer}
@@ -13,4 +12,4 @@ use Rattle.judgment.specs.Promise.{Promise}
 pub record Answered (m : Mode) (s : List ℕ) (c w : ℕ) (before : Buffers) (a : Answer) (after : Buffers) : Type 0 where
   pub answer : a ≡ (call m s c w before).answer
   pub buffers : after ≡ (call m s c w before).after
-  pub promise : check s ≡ Plan → Promise (start_of (triples s)) (plan_of (triples s)).plain (run_of (limits_for m w) c (plan_of (triples s)))
+  pub promise : check s ≡ Ok tt → Promise (start_of (triples s)) (plan_of (triples s)).plain (run_of (limits_for m w) c (plan_of (triples s)))

@@ -1,25 +1,14 @@
 -- What the functions under the entry call ask and leave. Assumes nothing: these are definitions.
-use Rattle.std.specs.Prelude.{◌≡◌, true, List, ℕ, ◌*◌, ◌/◌, ◌≤◌, length}
+use Rattle.grammar.specs.declared.SheetError.{SheetError}
+use Rattle.std.specs.Prelude.{◌≡◌, true, List, ℕ, ◌+◌, ◌*◌, ◌/◌, ◌≤◌, length, Result, Ok, Err}
 use Rattle.std.proofs.lemmas.List.Edits.{sets}
 use Rattle.sizes.specs.Sizes.{line_length, highest_limit, board_size, book_size, report_stride}
-use Rattle.grammar.specs.declared.Check.{Check}
-use Rattle.grammar.specs.declared.Check.TheVariants.{Plan, Length, Misspelt, Unfit}
 use Rattle.grammar.specs.Check.{length_ok, check_number, check_line}
 use Rattle.sheet.specs.Rows.{rows}
 use Rattle.judgment.specs.declared.Answer.{Answer}
-use Rattle.judgment.specs.Result.{Result, refused_at, board_words, book_words, report_words}
-use Rattle.inferring.specs.Inferring.{TypeFits}
+use Rattle.judgment.specs.Result.{Judged, refused_at, board_words, book_words, report_words}
+use Rattle.inferring.specs.Inferring.{TypeFits, has_case}
 use Rattle.stepping.specs.Stepping.{Read, longest, Lent}
-
--- up to so many lines a sheet is lent less room than the longest one
-abbrev pub tiny_lines : ℕ
-tiny_lines = 24
-
-abbrev pub short_lines : ℕ
-short_lines = 64
-
-abbrev pub middle_lines : ℕ
-middle_lines = 256
 
 -- the buffers of a sheet that is taken, before its run
 pub record StartAsk (s b k t : List ℕ) : Type 0 where
@@ -52,6 +41,11 @@ pub record TypedAsk (limit : ℕ) (d b k rep t l : List ℕ) : Type 0 where
   pub left : 2 * longest limit d ≤ length l
   pub lines : TypeFits d l
 
+-- room of so many words for a Case, where the sheet has one: for a type, for the frames, for the bindings
+abbrev pub CaseFits : List ℕ → ℕ → ℕ → ℕ → Type 0
+CaseFits d type frames bindings =
+    has_case (rows d) ≡ true → (2 * length (rows d) + 2 ≤ type) × (6 * length (rows d) + 12 ≤ frames) × (6 * length (rows d) + 6 ≤ bindings)
+
 -- the same of a sheet that is still to be read, of a length that a sheet may have
 pub record RunAsk (limit : ℕ) (s b k rep : List ℕ) : Type 0 where
   pub sized : length_ok (length s) ≡ true
@@ -66,25 +60,23 @@ pub record RowsAsk (limit : ℕ) (s b k rep d : List ℕ) : Type 0 where
   pub rows : length d ≡ 4 * (length s / line_length)
 
 -- the answer and every word of the buffers
-pub record Ran (limit : ℕ) (o : Result) (b k rep : List ℕ) (a : Answer) : Type 0 where
+pub record Ran (limit : ℕ) (o : Judged) (b k rep : List ℕ) (a : Answer) : Type 0 where
   pub answer : a ≡ o.answer
   pub board : b ≡ board_words
   pub book : k ≡ book_words o.solutions o.levels o.answer.fresh
   pub report : rep ≡ report_words limit o.report
 
 -- a sheet that is refused: document 01's number and line, and nothing written
-pub record Kept (v : Check) (b k rep b' k' rep' : List ℕ) (a : Answer) : Type 0 where
+pub record Kept (v : Result Unit SheetError) (b k rep b' k' rep' : List ℕ) (a : Answer) : Type 0 where
   pub answer : a ≡ refused_at (check_number v) (check_line v)
   pub board : b' ≡ b
   pub book : k' ≡ k
   pub report : rep' ≡ rep
 
 -- by what the sheet is: a plan is run, another is refused
-abbrev pub ByCheck : Check → Type 0 → Type 0 → Type 0
-ByCheck Plan ran kept = ran
-ByCheck Length ran kept = kept
-ByCheck (Misspelt l) ran kept = kept
-ByCheck (Unfit l) ran kept = kept
+abbrev pub ByCheck : Result Unit SheetError → Type 0 → Type 0 → Type 0
+ByCheck (Ok _) ran kept = ran
+ByCheck (Err e) ran kept = kept
 
 -- what is asked of buffers that may be longer, and what is left of them
 pub record FrontAsk (limit : ℕ) (s b k rep : List ℕ) : Type 0 where
@@ -94,7 +86,7 @@ pub record FrontAsk (limit : ℕ) (s b k rep : List ℕ) : Type 0 where
   pub book : book_size ≤ length k
   pub report : report_stride * limit ≤ length rep
 
-pub record Fronted (limit : ℕ) (o : Result) (b k rep b' k' rep' : List ℕ) (a : Answer) : Type 0 where
+pub record Fronted (limit : ℕ) (o : Judged) (b k rep b' k' rep' : List ℕ) (a : Answer) : Type 0 where
   pub answer : a ≡ o.answer
   pub board : b' ≡ sets b 0 board_words
   pub book : k' ≡ sets k 0 (book_words o.solutions o.levels o.answer.fresh)

@@ -1,13 +1,6 @@
 -- Chk by the shape of its type and the head of its term. Assumes nothing.
-use mathlib.Core.Path.{◌≡◌, refl, sym, ap, ap₂, ◌∙◌, subst⁻¹}
-use mathlib.Core.Logic.{◌≢◌}
-use mathlib.Core.Bool.{Bool, cond}
-use mathlib.Core.Option.{Option, none, some}
-use mathlib.Core.List.{List}
-use Prim.Native.Nat.{ℕ, ◌+◌, ◌-◌, ◌≤◌, ◌<◌}
-use native.Mathlib.Omega.{arith}
-use lib.ListN.{length, get_or}
-use borrow.Author.Tests.{eq-eqb, ne_eqb}
+use Rattle.std.proofs.Common.{Option, None, Some, ◌≡◌, refl, sym, ap, ap₂, ◌∙◌, ◌≢◌, Bool, cond, List, ℕ, ◌+◌, ◌-◌, ◌≤◌, ◌<◌, arith, length, get_or, eq-eqb, ne_eqb}
+use mathlib.Core.Path.{subst⁻¹}
 use Rattle.sizes.specs.Sizes.{most_lines}
 use Rattle.nodes.specs.Nodes.{Ty}
 use Rattle.spelling.specs.declared.Triple.{Triple}
@@ -22,9 +15,10 @@ use Rattle.operations.specs.declared.Run.{Run}
 use Rattle.checking.specs.Checking.{copied_type, checked_type, checked_out, CheckAsk, arrow_type, arrow_out}
 use Rattle.inference.specs.Inference.{lambda_on}
 use Rattle.inference.proofs.Heads.{part-within, two-parts, first-lines, head-narrow}
+use Rattle.subtyping.specs.declared.Shape.TheVariants.{Arrow, Forall}
 use Rattle.subtyping.specs.Subtyping.{shape_of}
 
-pub check-other : (E : Env) (e : Term) (t : Ty) (v : View) → (shape_of v ≡ 1 → lambda_of e ≡ none) → shape_of v ≢ 3 → synthesize E e t ≡ check_by E e t v
+pub check-other : (E : Env) (e : Term) (t : Ty) (v : View) → (shape_of v ≡ Arrow → lambda_of e ≡ None) → shape_of v ≢ Forall → synthesize E e t ≡ check_by E e t v
 check-other E e t (is_arrow a b) f g = ap (check_arrow E e t a b) (sym (f refl))
 check-other E e t (is_app a b) f g = refl
 check-other E e t (is_forall x b) f g = absurd (g refl)
@@ -32,14 +26,14 @@ check-other E e t (is_unknown k) f g = refl
 check-other E e t is_other f g = refl
 
 -- every word of the rooms, where the view says no more than that the type is copied
-pub type-copied : (t : List ℕ) (c : Run) (T : Ty) (f : Option Lambda) (v : View) → (shape_of v ≡ 1 → f ≡ none) → shape_of v ≢ 3 → copied_type t T ≡ checked_type t c T f v
+pub type-copied : (t : List ℕ) (c : Run) (T : Ty) (f : Option Lambda) (v : View) → (shape_of v ≡ Arrow → f ≡ None) → shape_of v ≢ Forall → copied_type t T ≡ checked_type t c T f v
 type-copied t c T f (is_arrow a b) g h = ap (arrow_type t c T) (sym (g refl))
 type-copied t c T f (is_app a b) g h = refl
 type-copied t c T f (is_forall x b) g h = absurd (h refl)
 type-copied t c T f (is_unknown k) g h = refl
 type-copied t c T f is_other g h = refl
 
-pub out_stays : (out : List ℕ) (c : Run) (T : Ty) (f : Option Lambda) (v : View) → (shape_of v ≡ 1 → f ≡ none) → out ≡ checked_out out c T f v
+pub out_stays : (out : List ℕ) (c : Run) (T : Ty) (f : Option Lambda) (v : View) → (shape_of v ≡ Arrow → f ≡ None) → out ≡ checked_out out c T f v
 out_stays out c T f (is_arrow a b) h = ap (arrow_out out c T) (sym (h refl))
 out_stays out c T f (is_app a b) h = refl
 out_stays out c T f (is_forall x b) h = refl
@@ -50,22 +44,22 @@ module _ (s : List ℕ) (p : ℕ) (h : p < length (rows s)) where
   abbrev ls : List Triple
   ls = rows s
 
-  pub no-lambda : (line_of ls p).kind ≢ 23 → lambda_of (term_at ls p) ≡ none
+  pub no-lambda : (line_of ls p).kind ≢ 23 → lambda_of (term_at ls p) ≡ None
   unfolding lambda_of
   no-lambda f =
       ap lambda_of (term-head ls p h)
-      ∙ ap (λ (b : Bool). cond b (some (record { param = (line_of ls p).value; type = nodes_of (part 0 (body_at ls p)).lines; body = part 1 (body_at ls p) })) none) (ne_eqb (line_of ls p).kind 23 f)
+      ∙ ap (λ (b : Bool). cond b (Some (record { param = (line_of ls p).value; type = nodes_of (part 0 (body_at ls p)).lines; body = part 1 (body_at ls p) })) None) (ne_eqb (line_of ls p).kind 23 f)
 
   module _ (e : (line_of ls p).kind ≡ 23) where
     abbrev n : ℕ
     n = part_line ls (p + 1) 1 - (p + 1)
 
-    pub a-lambda : lambda_of (term_at ls p) ≡ some (lambda_on s (line_of ls p).value (p + 1) n (part_line ls (p + 1) 1))
+    pub a-lambda : lambda_of (term_at ls p) ≡ Some (lambda_on s (line_of ls p).value (p + 1) n (part_line ls (p + 1) 1))
     unfolding lambda_of
     a-lambda =
         ap lambda_of (term-head ls p h)
-        ∙ ap (λ (b : Bool). cond b (some (record { param = (line_of ls p).value; type = nodes_of (part 0 (body_at ls p)).lines; body = part 1 (body_at ls p) })) none) (eq-eqb (line_of ls p).kind 23 e)
-        ∙ ap₂ (λ (x : List Triple) (y : Term). some (record { param = (line_of ls p).value; type = nodes_of x; body = y })) (first-lines s p h e)
+        ∙ ap (λ (b : Bool). cond b (Some (record { param = (line_of ls p).value; type = nodes_of (part 0 (body_at ls p)).lines; body = part 1 (body_at ls p) })) None) (eq-eqb (line_of ls p).kind 23 e)
+        ∙ ap₂ (λ (x : List Triple) (y : Term). Some (record { param = (line_of ls p).value; type = nodes_of x; body = y })) (first-lines s p h e)
         (part_at ls p 1 (let z = two-parts (line_of ls p) e in omega arith))
 
 -- ---- what the code reads
@@ -89,6 +83,6 @@ module _ {b : List ℕ} {c : Run} {s : List ℕ} {line at tn : ℕ} {t out : Lis
 
 -- the Lambda that the code puts together
 pub lambda-read : (s : List ℕ) (line i pl : ℕ) (h : Triple) → line < length (rows s) → i ≡ line → h ≡ line_of (rows s) line → pl ≡ part_line (rows s) (i + 1) 1 → h.kind ≡ 23
-    → some (lambda_on s h.value (i + 1) (pl - (i + 1)) pl) ≡ lambda_of (term_at (rows s) line)
+    → Some (lambda_on s h.value (i + 1) (pl - (i + 1)) pl) ≡ lambda_of (term_at (rows s) line)
 lambda-read s line i pl h l e q z k =
     rw (z, e, q) (sym (a-lambda s line l (sym (ap (λ (x : Triple). x.kind) q) ∙ k)))

@@ -1,15 +1,8 @@
--- Chk by the taken type on the board and in the room that it is copied to: the rule, and what the rooms hold after. Assumes nothing.
-use mathlib.Core.Path.{◌≡◌, sym, ap, ap₂, ◌∙◌}
-use mathlib.Core.Logic.{◌≢◌}
-use mathlib.Core.Bool.{Bool, true, false, cond, ◌&&◌}
-use mathlib.Core.Option.{Option, none, some}
-use mathlib.Core.List.{List}
-use Prim.Native.Nat.{ℕ, ◌+◌, ◌*◌, ◌-◌, ◌≤◌, ◌<◌}
-use native.Mathlib.Omega.{arith}
-use lib.ListN.{length, get_or, take, drop}
-use lib.Seq.{sets, length-sets}
-use lib.Dec.{eqb}
-use borrow.Author.Tests.{eq-eqb, eqb-true, eqb-false}
+-- Chk by the taken type on the board and in the room that it is copied to: the rule, and what the rooms hold after.
+-- Assumes nothing.
+use Rattle.std.proofs.Common.{Option, None, Some, ◌≡◌, sym, ap, ap₂, ◌∙◌, ◌≢◌, Bool, true, false, cond, List, ℕ, ◌+◌, ◌*◌, ◌-◌, ◌≤◌, ◌<◌, arith, length, get_or, take, drop, eqb}
+use Rattle.std.proofs.Math.Seq.{sets, length-sets}
+use borrow.Author.Tests.{eqb-false}
 use Rattle.sizes.specs.Sizes.{most_lines, most_nodes}
 use Rattle.nodes.specs.Nodes.{node, Ty, words, nodes_at}
 use Rattle.nodes.proofs.Laws.{length-nodes_at, take-nodes_at, drop-nodes_at}
@@ -26,6 +19,8 @@ use Rattle.board.proofs.Stacks.{three-facts}
 use Rattle.board.proofs.Terms.{line_of}
 use Rattle.operations.specs.declared.Run.{Run}
 use Rattle.operations.specs.State.{going}
+use Rattle.subtyping.specs.declared.Shape.{Shape}
+use Rattle.subtyping.specs.declared.Shape.TheVariants.{Arrow, Forall, Other}
 use Rattle.subtyping.specs.Subtyping.{opened_at, shape_of}
 use Rattle.subtyping.proofs.Shapes.{forall-view, shaped-some}
 use Rattle.inference.specs.Inference.{type_on, lambda_on, LinesAsk, next_at, HereAsk}
@@ -61,17 +56,17 @@ module _ {b : List ℕ} {c : Run} {s : List ℕ} {line at tn : ℕ} {t out : Lis
   pub copied-length : {t' : List ℕ} → t' ≡ copied_type t T → length t' ≡ length t
   copied-length q = ap length q ∙ length-sets t 0 (words T)
 
-  pub shaped : {n : ℕ} → shape_of (view T) ≡ n → n < 5 → 0 < tn
-  shaped {n} e l = shaped-some b at tn (λ z. (let y : n ≡ 5 = sym e ∙ z in omega arith))
+  pub shaped : {v : Shape} → v ≡ shape_of (view T) → v ≢ Other → 0 < tn
+  shaped e l = shaped-some b at tn (λ z. l (e ∙ z))
 
   -- ---- a Forall
-  module _ {t' : List ℕ} (q : t' ≡ copied_type t T) (e : shape_of (view T) ≡ 3) where
+  module _ {t' : List ℕ} (q : t' ≡ copied_type t T) (e : Forall ≡ shape_of (view T)) where
     forall-is : view T ≡ is_forall (get_or t' 1 0) (nodes_at t' 2 (tn - 1))
-    forall-is = ap view (sym (copied-whole q)) ∙ forall-view t' 0 tn (ap (λ (X : Ty). shape_of (view X)) (copied-whole q) ∙ e)
+    forall-is = ap view (sym (copied-whole q)) ∙ forall-view t' 0 tn (ap (λ (X : Ty). shape_of (view X)) (copied-whole q) ∙ sym e)
 
     pub forall-asks : (1 < length t') × (2 + 2 * (tn - 1) ≤ length t') × (tn - 1 ≤ most_nodes)
     forall-asks =
-        let x = shaped e (omega arith) in
+        let x = shaped e (λ z. cc) in
         let y = a.type in
         let z = copied-length q in
         let w = a.short in
@@ -87,24 +82,16 @@ module _ {b : List ℕ} {c : Run} {s : List ℕ} {line at tn : ℕ} {t out : Lis
     )
 
   -- ---- no Forall, and a Lambda against no Arrow
-  module _ {t' : List ℕ} (q : t' ≡ copied_type t T) (g : shape_of (view T) ≡ 1 → f ≡ none) (h : shape_of (view T) ≢ 3) where
+  module _ {t' : List ℕ} (q : t' ≡ copied_type t T) (g : shape_of (view T) ≡ Arrow → f ≡ None) (h : shape_of (view T) ≢ Forall) where
     pub plain-rule : (E : Env) → synthesize E (term_at L line) (nodes_at t' 0 tn) ≡ check_by E (term_at L line) T (view T)
     plain-rule E = ap (synthesize E (term_at L line)) (copied-whole q) ∙ check-other E (term_at L line) T (view T) g h
 
     pub plain-rooms : (t' ≡ checked_type t c T f (view T)) × (out ≡ checked_out out c T f (view T))
     plain-rooms = (q ∙ type-copied t c T f (view T) g h, out_stays out c T f (view T) g)
 
-  -- what the code asks before a Lambda takes an Arrow's parts
-  module _ {b' : Bool} {k : ℕ} (p : b' ≡ (eqb k 1 && eqb (line_of L line).kind 23)) (e : k ≡ shape_of (view T)) where
-    pub takes : b' ≡ true → (shape_of (view T) ≡ 1) × ((line_of L line).kind ≡ 23)
-    takes h =
-        let y = both (eqb k 1) (eqb (line_of L line).kind 23) (sym p ∙ h) in
-        (sym e ∙ eqb-true k 1 y.0, eqb-true (line_of L line).kind 23 y.1)
-
-    pub takes_none : b' ≡ false → shape_of (view T) ≡ 1 → f ≡ none
-    takes_none h z =
-        let y : eqb (line_of L line).kind 23 ≡ false = sym (ap (λ (x : Bool). x && eqb (line_of L line).kind 23) (eq-eqb k 1 (e ∙ z))) ∙ sym p ∙ h in
-        no-lambda s line a.stands (eqb-false (line_of L line).kind 23 y)
+  -- no Lambda starts at the line
+  pub no-head : false ≡ eqb (line_of L line).kind 23 → f ≡ None
+  no-head h = no-lambda s line a.stands (eqb-false (line_of L line).kind 23 (sym h))
 
   -- ---- an Arrow, and a Lambda as the code reads it
   module _ {i pl : ℕ} {h : Triple} (w : i ≡ line) (e : h ≡ line_of L line) (q : pl ≡ part_line L (i + 1) 1) (k : h.kind ≡ 23) where
@@ -123,7 +110,7 @@ module _ {b : List ℕ} {c : Run} {s : List ℕ} {line at tn : ℕ} {t out : Lis
     lambda-some : 0 < n
     lambda-some = rw (q, w) (lines-some s line a.stands a.term at_head)
 
-    lambda-is : some lambda ≡ f
+    lambda-is : Some lambda ≡ f
     lambda-is = lambda-read s line i pl h a.stands w e q k
 
     pub line-bounds : (i + 1 ≤ pl) × (pl ≤ most_lines)
@@ -160,17 +147,17 @@ module _ {b : List ℕ} {c : Run} {s : List ℕ} {line at tn : ℕ} {t out : Lis
           let e : m + (tn - 1 - m) ≡ tn - 1 = omega arith in
           record { room = a.board.room; goes = y.0; few = x.0; fits = rw e x.1; some = lambda-some; lines = lambda-lines }
 
-      rule-as : (E : Env) {A B : Ty} → A ≡ first parts → B ≡ rest parts → check_arrow E (term_at L line) T A B (some lambda) ≡ check_arrow E (term_at L line) T (first parts) (rest parts) f
-      rule-as E x y = ap₂ (λ (A B : Ty). check_arrow E (term_at L line) T A B (some lambda)) x y ∙ ap (check_arrow E (term_at L line) T (first parts) (rest parts)) lambda-is
+      rule-as : (E : Env) {A B : Ty} → A ≡ first parts → B ≡ rest parts → check_arrow E (term_at L line) T A B (Some lambda) ≡ check_arrow E (term_at L line) T (first parts) (rest parts) f
+      rule-as E x y = ap₂ (λ (A B : Ty). check_arrow E (term_at L line) T A B (Some lambda)) x y ∙ ap (check_arrow E (term_at L line) T (first parts) (rest parts)) lambda-is
 
-      pub here-rule : (E : Env) → check_arrow E (term_at L line) T (nodes_at b (next_at c + 2) m) (nodes_at b (next_at c + 2 + 2 * m) (tn - 1 - m)) (some lambda) ≡ check_arrow E (term_at L line) T (first parts) (rest parts) f
+      pub here-rule : (E : Env) → check_arrow E (term_at L line) T (nodes_at b (next_at c + 2) m) (nodes_at b (next_at c + 2 + 2 * m) (tn - 1 - m)) (Some lambda) ≡ check_arrow E (term_at L line) T (first parts) (rest parts) f
       here-rule E =
           let place = a.place in
           rule-as E
           (ap (λ (p : ℕ). nodes_at b (p + 2) m) (sym place) ∙ first-nodes b (at + 2) (tn - 1) m d)
           (ap (λ (p : ℕ). nodes_at b (p + 2 + 2 * m) (tn - 1 - m)) (sym place) ∙ rest-nodes b (at + 2) (tn - 1) m d)
 
-      pub copied-rule : (E : Env) {t' : List ℕ} → t' ≡ copied_type t T → check_arrow E (term_at L line) T (nodes_at t' 2 m) (nodes_at t' (2 + 2 * m) (tn - 1 - m)) (some lambda) ≡ check_arrow E (term_at L line) T (first parts) (rest parts) f
+      pub copied-rule : (E : Env) {t' : List ℕ} → t' ≡ copied_type t T → check_arrow E (term_at L line) T (nodes_at t' 2 m) (nodes_at t' (2 + 2 * m) (tn - 1 - m)) (Some lambda) ≡ check_arrow E (term_at L line) T (first parts) (rest parts) f
       copied-rule E {t'} p =
           let l = within in
           let x : 2 + 2 * m ≡ 0 + 2 * (1 + m) = omega arith in

@@ -1,6 +1,5 @@
 -- What the code of Chk leaves in the rooms that it is lent, and what it asks. Assumes nothing: these are definitions.
-use Rattle.std.specs.Prelude.{◌≡◌, Bool, cond, ◌&&◌, List, ℕ, ◌+◌, ◌*◌, ◌-◌, ◌≤◌, ◌<◌, length}
-use Rattle.std.proofs.Math.Option.{Option, none, some}
+use Rattle.std.specs.Prelude.{◌≡◌, Bool, cond, ◌&&◌, List, ℕ, ◌+◌, ◌*◌, ◌-◌, ◌≤◌, ◌<◌, length, Option, None, Some}
 use Rattle.std.proofs.lemmas.List.Edits.{sets}
 use Rattle.sizes.specs.Sizes.{most_lines, most_nodes}
 use Rattle.nodes.specs.Nodes.{node, Ty, words}
@@ -15,7 +14,8 @@ use Rattle.operations.specs.State.{Bookable, going}
 use Rattle.subtyping.specs.Subtyping.{opened_at}
 use Rattle.inference.specs.Inference.{next_at}
 
--- the three entries of a Lambda whose type has an nodes, checked against an Arrow of tn nodes, fit on the board of a run that goes on
+-- the three entries of a Lambda whose type has an nodes, checked against an Arrow of tn nodes, fit on the board of a
+-- run that goes on
 abbrev pub all_fit : Run → ℕ → ℕ → Bool
 all_fit c an tn = going c.halt && fitting_three c.counters.board (2 * an + (tn - 1))
 
@@ -26,8 +26,8 @@ copied_type t T = sets t 0 (words T)
 
 -- of an Arrow, unless a Lambda takes its parts where they stand
 abbrev pub arrow_type : List ℕ → Run → Ty → Option Lambda → List ℕ
-arrow_type t c T none = copied_type t T
-arrow_type t c T (some f) = cond (all_fit c (length f.type) (length T)) t (copied_type t T)
+arrow_type t c T None = copied_type t T
+arrow_type t c T (Some f) = cond (all_fit c (length f.type) (length T)) t (copied_type t T)
 
 -- by its view: a Forall is opened in place
 abbrev pub checked_type : List ℕ → Run → Ty → Option Lambda → View → List ℕ
@@ -39,8 +39,8 @@ checked_type t c T f is_other = copied_type t T
 
 -- a Lambda's own type is copied to the front, unless it is written to the board at once
 abbrev pub arrow_out : List ℕ → Run → Ty → Option Lambda → List ℕ
-arrow_out out c T none = out
-arrow_out out c T (some f) = cond (all_fit c (length f.type) (length T)) out (sets out 0 (words f.type))
+arrow_out out c T None = out
+arrow_out out c T (Some f) = cond (all_fit c (length f.type) (length T)) out (sets out 0 (words f.type))
 
 -- the same, by the view of the taken type: against an Arrow alone
 abbrev pub checked_out : List ℕ → Run → Ty → Option Lambda → View → List ℕ
@@ -51,7 +51,8 @@ checked_out out c T f (is_unknown k) = out
 checked_out out c T f is_other = out
 
 -- ---- what a call asks
--- A whole term from this line of the sheet on, the taken type on the board where the next entry's types go, and room to copy it and any type of the sheet.
+-- A whole term from this line of the sheet on, the taken type on the board where the next entry's types go, and room to
+-- copy it and any type of the sheet.
 pub record CheckAsk (b : List ℕ) (c : Run) (s : List ℕ) (line at tn : ℕ) (t out : List ℕ) : Type 0 where
   pub formed : Bookable b c
   pub board : Stacked b c.counters.board

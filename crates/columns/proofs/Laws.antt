@@ -1,20 +1,16 @@
 -- Laws of fields and columns as they are written. Assumes nothing.
-use mathlib.Core.Path.{◌≡◌, refl, sym, ap, ◌∙◌}
-use mathlib.Core.Bool.{Bool, true, false, cond}
-use mathlib.Core.List.{List, [], ◌∷◌, ◌++◌}
-use Prim.Native.Nat.{ℕ, suc, ◌+◌, ◌-◌, ◌^◌, ◌<◌, ◌≤◌}
-use native.Mathlib.Omega.{arith}
-use lib.ListN.{length, set, length-append}
-use lib.Dec.{ltb}
-use lib.Seq.{sets, set_comm}
+use Rattle.std.proofs.Common.{◌≡◌, refl, sym, ap, ◌∙◌, false, List, [], ◌∷◌, ◌++◌, max, ℕ, zero, suc, ◌+◌, ◌-◌, ◌*◌, ◌^◌, ◌<◌, ◌≤◌, arith, add-one, length, get_or, set, drop, length-append, drop-cons}
+use Rattle.std.proofs.lemmas.Bool.Decides.{nat_tests}
+use Rattle.std.proofs.lemmas.List.{drop_all}
+use Rattle.std.proofs.lemmas.List.Edits.{sets}
+use Rattle.std.proofs.Math.Seq.{set_comm}
 use Rattle.nodes.proofs.Laws.{sets-append}
 use Rattle.spelling.specs.declared.Field.{Field}
 use Rattle.spelling.specs.declared.Field.TheVariants.{Number}
 use Rattle.spelling.specs.declared.Triple.{Triple}
 use Rattle.spelling.specs.Text.{last, front, field_text, line_text}
 use Rattle.spelling.proofs.Texts.{length-field}
-use Rattle.judgment.specs.declared.Answer.{Answer}
-use Rattle.columns.specs.Columns.{width, column, Written, columns_text, answer_text}
+use Rattle.columns.specs.Columns.{digits, width, column, Written, columns_text}
 
 -- a byte above a text may be written before it
 set-above : (l : List ℕ) (i k a : ℕ) (vs : List ℕ) → i + length vs ≤ k → sets (set l k a) i vs ≡ set (sets l i vs) k a
@@ -56,15 +52,28 @@ line-written t l₀ l₁ l₂ l₃ at p₁ p₂ p₃ =
     ∙ field-then l₀ l₁ at 3 (Number false t.kind) _ p₁
 
 -- ten digits are enough for 32 bits
+pub digits-few : (n : ℕ) → digits n ≤ 10
+digits-few n = grind (arith, nat_tests)
+
 pub width_small : (n : ℕ) → width n ≤ 10
-width_small n = go (ltb n (10 ^ 6)) (ltb n (10 ^ 7)) (ltb n (10 ^ 8)) (ltb n (10 ^ 9))
-  where
-    go : (a b c d : Bool) → cond a 6 (cond b 7 (cond c 8 (cond d 9 10))) ≤ 10
-    go true b c d = omega arith
-    go false true c d = omega arith
-    go false false true d = omega arith
-    go false false false true = omega arith
-    go false false false false = omega arith
+width_small n = grind (arith, nat_tests)
+
+-- the power of ten at or below a number tells its digits; 0 has one
+pub digits-log : (n m d : ℕ) → m ≡ max n 1 → d < 10 → 10 ^ d ≤ m → m < 10 * 10 ^ d → d + 1 ≡ digits n
+digits-log n m zero e h p q = grind (arith, nat_tests)
+digits-log n m (suc zero) e h p q = grind (arith, nat_tests)
+digits-log n m (suc (suc zero)) e h p q = grind (arith, nat_tests)
+digits-log n m (suc (suc (suc zero))) e h p q = grind (arith, nat_tests)
+digits-log n m (suc (suc (suc (suc zero)))) e h p q = grind (arith, nat_tests)
+digits-log n m (suc (suc (suc (suc (suc zero))))) e h p q = grind (arith, nat_tests)
+digits-log n m (suc (suc (suc (suc (suc (suc zero)))))) e h p q = grind (arith, nat_tests)
+digits-log n m (suc (suc (suc (suc (suc (suc (suc zero))))))) e h p q = grind (arith, nat_tests)
+digits-log n m (suc (suc (suc (suc (suc (suc (suc (suc zero)))))))) e h p q = grind (arith, nat_tests)
+digits-log n m (suc (suc (suc (suc (suc (suc (suc (suc (suc zero))))))))) e h p q = grind (arith, nat_tests)
+digits-log n m (suc (suc (suc (suc (suc (suc (suc (suc (suc (suc d)))))))))) e h p q = absurd (omega arith)
+
+pub width-digits : (n d w : ℕ) → d ≡ digits n → w ≡ max d 6 → w ≡ width n
+width-digits n d w e f = grind (arith, nat_tests)
 
 length-column : (n : ℕ) → length (column n) ≡ width n
 unfolding column
@@ -74,15 +83,20 @@ length-column n = length-field (width n) (Number false n)
 then : {l m : List ℕ} {i n j : ℕ} → Written l i n m j → (ws : List ℕ) → sets m j ws ≡ sets l i (column n ++ ws)
 then {l} {m} {i} {n} {j} w ws = rw (w.text, w.next, sym (length-column n)) (sym (sets-append l i (column n) ws))
 
-pub answer-length : (a : Answer) → length (answer_text a)
-    ≡ width a.number + width a.line + width a.taken + width a.fresh + width a.detail1 + width a.detail2 + width a.plain + 1
-unfolding answer_text columns_text
-answer-length a = simp (length-append, length-column) (omega arith)
+-- the columns from number i on: its column and those after it, or LF
+columns_more : (ns : List ℕ) (i : ℕ) → i < length ns → columns_text (drop i ns) ≡ column (get_or ns i 0) ++ columns_text (drop (i + 1) ns)
+unfolding columns_text
+columns_more ns i h = rw (add-one, drop-cons ns i 0 h) refl
 
--- the seven columns of an answer and LF
-module _ (a : Answer) {l₀ l₁ l₂ l₃ l₄ l₅ l₆ l₇ : List ℕ} {p₁ p₂ p₃ p₄ p₅ p₆ p₇ : ℕ} (c₁ : Written l₀ 0 a.number l₁ p₁) (c₂ : Written l₁ p₁ a.line l₂ p₂)
-    (c₃ : Written l₂ p₂ a.taken l₃ p₃) (c₄ : Written l₃ p₃ a.fresh l₄ p₄) (c₅ : Written l₄ p₄ a.detail1 l₅ p₅) (c₆ : Written l₅ p₅ a.detail2 l₆ p₆)
-    (c₇ : Written l₆ p₆ a.plain l₇ p₇) where
-  pub answer-written : (set l₇ p₇ 10 ≡ sets l₀ 0 (answer_text a)) × (p₇ + 1 ≡ length (answer_text a))
-  unfolding answer_text columns_text
-  answer-written = (then c₇ _ ∙ then c₆ _ ∙ then c₅ _ ∙ then c₄ _ ∙ then c₃ _ ∙ then c₂ _ ∙ then c₁ _, simp (length-append, length-column) (omega arith))
+pub columns_done : (ns : List ℕ) (i : ℕ) → length ns ≤ i → columns_text (drop i ns) ≡ 10 ∷ []
+unfolding columns_text
+columns_done ns i h = rw (drop_all i ns h) refl
+
+pub columns-length : (ns : List ℕ) (i : ℕ) → i < length ns
+    → length (columns_text (drop i ns)) ≡ width (get_or ns i 0) + length (columns_text (drop (i + 1) ns))
+columns-length ns i h = simp (columns_more ns i h, length-append, length-column)
+
+-- one turn of the loop
+pub columns-turn : {l m : List ℕ} {i j : ℕ} (ns : List ℕ) (k : ℕ) → k < length ns → Written l i (get_or ns k 0) m j
+    → sets m j (columns_text (drop (k + 1) ns)) ≡ sets l i (columns_text (drop k ns))
+columns-turn {l} {m} {i} ns k h w = then w _ ∙ ap (sets l i) (sym (columns_more ns k h))

@@ -1,12 +1,5 @@
 -- No answer has a number that six columns do not hold: `in-sixes`. Assumes nothing.
-use mathlib.Core.Path.{◌≡◌, refl, sym, ap, ◌∙◌}
-use mathlib.Core.Bool.{false}
-use mathlib.Core.List.{List, [], ◌∷◌, ◌++◌}
-use Prim.Native.Nat.{ℕ, zero, suc, ◌+◌, ◌*◌, ◌^◌, ◌<◌}
-use native.Mathlib.Omega.{arith}
-use lib.ListN.{length, get_or, take, drop, length-append}
-use lib.Seq.{take_at, drop_at, drop-drop}
-use borrow.Author.Tests.{lt-ltb}
+use Rattle.std.proofs.Common.{◌≡◌, refl, sym, ap, ◌∙◌, false, List, [], ◌∷◌, ◌++◌, ℕ, zero, suc, ◌+◌, ◌*◌, ◌^◌, ◌<◌, arith, length, get_or, take, drop, length-append, take_at, drop_at, drop-drop, lt-ltb}
 use Rattle.nodes.specs.Lists.{All}
 use Rattle.spelling.specs.declared.Field.TheVariants.{Blank, Number}
 use Rattle.spelling.specs.Spelling.{field_from}
@@ -14,10 +7,9 @@ use Rattle.spelling.specs.Text.{field_text}
 use Rattle.spelling.proofs.Fields.{run, field-run, field-reads}
 use Rattle.spelling.proofs.Texts.{length-field}
 use Rattle.judgment.specs.declared.Answer.{Answer}
-use Rattle.judgment.proofs.Narrow.{Narrow}
+use Rattle.judgment.proofs.Narrow.{Narrow, narrow}
 use Rattle.judgment.specs.Levels.{Mode}
 use Rattle.judgment.specs.Result.{numbers, Buffers, call}
-use Rattle.judgment.proofs.Narrow.{narrow}
 use Rattle.columns.specs.Columns.{column, columns_text, answer_text, sixes, InSixes}
 
 abbrev Six : ℕ → Type 0

@@ -1,5 +1,5 @@
--- The text of an answer: the seven numbers in columns of 6, LF. Assumes nothing: these are definitions; `proofs/Sixes.antt` shows that no
--- answer has a wider number.
+-- The text of an answer: the seven numbers in columns of 6, LF. Assumes nothing: these are definitions;
+-- `proofs/Sixes.antt` shows that no answer has a wider number.
 use Rattle.std.specs.Prelude.{◌≡◌, false, cond, List, [], ◌∷◌, ◌++◌, ℕ, ◌+◌, ◌*◌, ◌^◌, ◌≤◌, ◌<◌, ltb, length, get_or}
 use Rattle.std.proofs.lemmas.List.Edits.{sets}
 use Rattle.spelling.specs.declared.Field.TheVariants.{Blank, Number}
@@ -7,6 +7,16 @@ use Rattle.spelling.specs.Spelling.{field_from}
 use Rattle.spelling.specs.Text.{field_text}
 use Rattle.judgment.specs.declared.Answer.{Answer}
 use Rattle.judgment.specs.Result.{numbers}
+
+-- how many digits a number of 32 bits has
+abbrev pub digits : ℕ → ℕ
+digits n =
+    cond (ltb n 10) 1
+    (cond (ltb n 100) 2
+    (cond (ltb n 1000) 3
+    (cond (ltb n 10000) 4
+    (cond (ltb n 100000) 5
+    (cond (ltb n (10 ^ 6)) 6 (cond (ltb n (10 ^ 7)) 7 (cond (ltb n (10 ^ 8)) 8 (cond (ltb n (10 ^ 9)) 9 10))))))))
 
 -- the columns of a number of 32 bits: 6, or more for more digits
 abbrev pub width : ℕ → ℕ

@@ -5,7 +5,7 @@ ghost use Rattle.std.specs.Prelude.{◌≡◌, ◌+◌, ◌≤◌, length};
 ghost use Rattle.std.proofs.lemmas.List.Edits.{sets};
 ghost use Rattle.sizes.specs.Sizes.{line_length};
 ghost use Rattle.spelling.specs.Text.{last, front, field_text, line_text};
-ghost use Rattle.columns.specs.Columns.{width, Written, answer_text};
+ghost use Rattle.columns.specs.Columns.{digits, width, Written, answer_text};
 
 use judgment::Answer;
 use spelling::{Field, Triple};
@@ -18,9 +18,9 @@ fn last_byte(f: Field) -> u8
     ensures { result ≡ last f }
 {
     match f {
-        Field::Blank => 32,
-        Field::Minus => 45,
-        Field::Number(_, x) => 48 + (x % 10) as u8,
+        Field::Blank => b' ',
+        Field::Minus => b'-',
+        Field::Number(_, x) => b'0' + (x % 10) as u8,
         Field::Bad => 0,
     }
 }
@@ -30,15 +30,9 @@ fn before_last(f: Field) -> Field
     ensures { result ≡ front f }
 {
     match f {
-        Field::Blank => Field::Blank,
-        Field::Minus => Field::Blank,
-        Field::Number(n, x) => {
-            if x < 10 {
-                if n { Field::Minus } else { Field::Blank }
-            } else {
-                Field::Number(n, x / 10)
-            }
-        }
+        Field::Number(negative, x) if x >= 10 => Field::Number(negative, x / 10),
+        Field::Number(true, _) => Field::Minus,
+        Field::Number(false, _) | Field::Blank | Field::Minus => Field::Blank,
         Field::Bad => Field::Bad,
     }
 }
@@ -49,9 +43,7 @@ pub fn write_field(out: &mut [u8], at: usize, w: usize, f: Field)
     ensures { out.new ≡ sets out.old at (field_text w f) }
 {
     let mut rest = f;
-    let mut i = w;
-    while i > 0 {
-        i -= 1;
+    for i in (0..w).rev() {
         out[at + i] = last_byte(rest);
         rest = before_last(rest);
     }
@@ -65,32 +57,22 @@ pub fn write_line(out: &mut [u8], at: usize, t: Triple)
     write_field(out, at, 3, Field::Number(false, t.kind));
     write_field(out, at + 3, 20, Field::Number(t.negative, t.value));
     write_field(out, at + 23, 5, Field::Number(false, t.count));
-    out[at + 28] = 10;
+    out[at + 28] = b'\n';
 }
 
-// How many columns a number takes.
-fn width_of(n: u32) -> usize
-    ensures { result ≡ width n }
+// How many digits a number has; 0 has one.
+pub fn digit_count(n: u32) -> usize
+    ensures { result ≡ digits n }
 {
-    if n < 1000000 {
-        6
-    } else if n < 10000000 {
-        7
-    } else if n < 100000000 {
-        8
-    } else if n < 1000000000 {
-        9
-    } else {
-        10
-    }
+    n.max(1).ilog10() as usize + 1
 }
 
-// Answers where the next one starts.
+// Six columns, or more for more digits. Answers where the next one starts.
 fn write_column(out: &mut [u8], at: usize, n: u32) -> usize
     requires { at + width n ≤ length out.old }
     ensures { Written out.old at n out.new result }
 {
-    let w = width_of(n);
+    let w = digit_count(n).max(6);
     write_field(out, at, w, Field::Number(false, n as u64));
     at + w
 }
@@ -100,13 +82,10 @@ pub fn write_answer(out: &mut [u8], a: Answer) -> usize
     requires { length (answer_text a) ≤ length out.old }
     ensures { (out.new ≡ sets out.old 0 (answer_text a)) × (result ≡ length (answer_text a)) }
 {
-    let line = write_column(out, 0, a.number);
-    let taken = write_column(out, line, a.line);
-    let fresh = write_column(out, taken, a.taken);
-    let detail1 = write_column(out, fresh, a.fresh);
-    let detail2 = write_column(out, detail1, a.detail1);
-    let plain = write_column(out, detail2, a.detail2);
-    let end = write_column(out, plain, a.plain);
-    out[end] = 10;
+    let mut end = 0;
+    for n in a.numbers() {
+        end = write_column(out, end, n);
+    }
+    out[end] = b'\n';
     end + 1
 }

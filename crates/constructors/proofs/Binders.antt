@@ -1,14 +1,6 @@
 -- Names bound at the front of a type, by the places that the rows hold. Assumes nothing.
-use mathlib.Core.Path.{◌≡◌, refl, sym, ap, ap₂, ◌∙◌}
-use mathlib.Core.Logic.{◌≢◌}
-use mathlib.Core.Bool.{Bool, true, false, cond}
-use mathlib.Core.List.{List, [], ◌∷◌}
-use Prim.Native.Nat.{ℕ, zero, suc, ◌+◌, ◌-◌, ◌≤◌, ◌<◌}
-use native.Mathlib.Nat.{add-zero, zero-add}
-use native.Mathlib.Omega.{arith}
-use lib.Dec.{eqb}
-use borrow.Author.Tests.{eqb-true, eqb-false, ne_eqb}
-use lib.ListN.{length, get_or, take, drop}
+use Rattle.std.proofs.Common.{refl, sym, ap, ap₂, ◌∙◌, add-zero, zero-add, arith, eqb-true, ne_eqb, ◌≡◌, ◌≢◌, Bool, true, false, cond, List, [], ◌∷◌, ℕ, zero, suc, ◌+◌, ◌-◌, ◌≤◌, ◌<◌, eqb, length, get_or, take, drop}
+use borrow.Author.Tests.{eqb-false}
 use Rattle.nodes.specs.Nodes.{Node, node, Ty}
 use Rattle.spelling.specs.declared.Triple.{Triple}
 use Rattle.sheet.specs.Plan.{no_triple, line_node, nodes_of}
@@ -78,22 +70,22 @@ lines-opened xs d a p (suc m) h f =
     ∙ ap (λ (ts : List Triple). rename (pairs xs a []) (nodes_of ts)) (sym c)
 
 -- ---- the quantifiers at the front, line by line
-module _ (ls : List Triple) (first n : ℕ) (stands : first + n ≤ length ls) where
-  -- i of them were counted
-  abbrev pub Fronting : ℕ → Type 0
-  Fronting i = length (front_of (take n (drop first ls))) ≡ i + length (front_of (take (n - i) (drop (first + i) ls)))
+-- i of those of n lines from line `first` on were counted
+abbrev pub Fronting : List Triple → ℕ → ℕ → ℕ → Type 0
+Fronting ls first n i = length (front_of (take n (drop first ls))) ≡ i + length (front_of (take (n - i) (drop (first + i) ls)))
 
-  pub front-start : Fronting 0
+module _ (ls : List Triple) (first n : ℕ) (stands : first + n ≤ length ls) where
+  pub front-start : Fronting ls first n 0
   front-start = let z : first ≡ first + 0 = omega arith in let y : n ≡ n - 0 = omega arith in ap₂ (λ (j m : ℕ). length (front_of (take m (drop j ls)))) z y ∙ sym (zero-add _)
 
-  module _ (i : ℕ) (h : i < n) (F : Fronting i) where
+  module _ (i : ℕ) (h : i < n) (F : Fronting ls first n i) where
     cons : take (n - i) (drop (first + i) ls) ≡ get_or ls (first + i) no_triple ∷ take (n - (i + 1)) (drop (first + (i + 1)) ls)
     cons =
         let z : first + i + 1 ≡ first + (i + 1) = omega arith in
         let y : n - i - 1 ≡ n - (i + 1) = omega arith in
         lines_cons ls (first + i) (n - i) (omega arith) (omega arith) ∙ ap₂ (λ (j m : ℕ). get_or ls (first + i) no_triple ∷ take m (drop j ls)) z y
 
-    pub front-turn : (get_or ls (first + i) no_triple).kind ≡ 14 → Fronting (i + 1)
+    pub front-turn : (get_or ls (first + i) no_triple).kind ≡ 14 → Fronting ls first n (i + 1)
     unfolding front_of
     front-turn e = F ∙ ap (λ (ts : List Triple). i + length (front_of ts)) cons ∙ rw e (omega arith)
 
@@ -101,6 +93,6 @@ module _ (ls : List Triple) (first n : ℕ) (stands : first + n ≤ length ls) w
     unfolding front_of
     front-stop e = sym (ap length (front-names (take n (drop first ls))) ∙ F ∙ ap (λ (ts : List Triple). i + length (front_of ts)) cons ∙ rw (ne_eqb _ 14 e) (omega arith))
 
-  pub front-end : (i : ℕ) → n ≤ i → Fronting i → i ≡ length (front_names (nodes_of (take n (drop first ls))))
+  pub front-end : (i : ℕ) → i ≡ n → Fronting ls first n i → n ≡ length (front_names (nodes_of (take n (drop first ls))))
   unfolding front_of
   front-end i h F = let z : n - i ≡ 0 = omega arith in sym (ap length (front-names (take n (drop first ls))) ∙ F ∙ rw z (omega arith))

@@ -1,12 +1,6 @@
 -- Unknowns made one after the other, each with its TVar. Assumes nothing.
-use mathlib.Core.Path.{◌≡◌, refl, sym, ap, ap₂, ◌∙◌, subst, subst⁻¹}
-use mathlib.Core.Bool.{Bool, true, false, true≢false}
-use mathlib.Core.List.{List, [], ◌∷◌}
-use Prim.Native.Nat.{ℕ, zero, suc, ◌+◌, ◌-◌, ◌≤◌, ◌<◌}
-use native.Mathlib.Omega.{arith}
-use lib.Dec.{ltb}
-use borrow.Author.Tests.{ltb-true}
-use lib.ListN.{length}
+use Rattle.std.proofs.Common.{refl, sym, ap, ap₂, ◌∙◌, subst, true≢false, arith, ltb-true, ◌≡◌, Bool, true, false, List, [], ◌∷◌, ℕ, zero, suc, ◌+◌, ◌-◌, ◌≤◌, ◌<◌, ltb, length}
+use mathlib.Core.Path.{subst⁻¹}
 use Rattle.sizes.specs.Sizes.{most_numbers}
 use Rattle.nodes.specs.Nodes.{node}
 use Rattle.nodes.proofs.ListLaws.{cond_ind}
@@ -157,5 +151,6 @@ module _ {b b₂ : List ℕ} {c c₁ c₂ : Run} (d : (c₁ ≡ fresh_run c) × 
       outcome = more;
     }
 
-  pub named-turn : {b₃ : List ℕ} {c₃ : Run} {n : ℕ} → 0 < n → Named b₂ c₂ (n - 1) b₃ c₃ → Named b c n b₃ c₃
-  named-turn {b₃} {c₃} {n} l g = let e : suc (n - 1) ≡ n = omega arith in subst (λ (m : ℕ). Named b c m b₃ c₃) e (named_more g)
+  -- i of n names were made before, and one more now
+  pub named-turn : {b₃ : List ℕ} {c₃ : Run} {n i : ℕ} → i < n → Named b₂ c₂ (n - (i + 1)) b₃ c₃ → Named b c (n - i) b₃ c₃
+  named-turn {b₃} {c₃} {n} {i} l g = let e : suc (n - (i + 1)) ≡ n - i = omega arith in subst (λ (m : ℕ). Named b c m b₃ c₃) e (named_more g)

@@ -1,13 +1,7 @@
 -- A type whose quantifiers are opened, and its nodes off the rows. Assumes nothing.
-use mathlib.Core.Path.{◌≡◌, refl, sym, ap, ap₂, ◌∙◌, subst}
-use mathlib.Core.Bool.{Bool, true, false}
-use mathlib.Core.List.{List, [], ◌∷◌}
-use Prim.Native.Nat.{ℕ, zero, suc, ◌+◌, ◌*◌, ◌-◌, ◌≤◌, ◌<◌}
-use native.Mathlib.Numerals.{add-one, add-two}
-use native.Mathlib.Omega.{arith}
-use lib.Dec.{eqb}
-use lib.ListN.{length, get_or, set, take, drop, length-take, length-drop}
-use lib.Seq.{sets}
+use Rattle.std.proofs.Common.{refl, sym, ap, ap₂, ◌∙◌, subst, add-one, arith, length-take, length-drop, ◌≡◌, Bool, true, false, List, [], ◌∷◌, ℕ, zero, suc, ◌+◌, ◌*◌, ◌-◌, ◌≤◌, ◌<◌, eqb, length, get_or, set, take, drop}
+use native.Mathlib.Numerals.{add-two}
+use Rattle.std.proofs.lemmas.List.Edits.{sets}
 use Rattle.nodes.specs.Nodes.{Node, node, kind, number, Ty, words, nodes_at}
 use Rattle.nodes.specs.Lists.{All}
 use Rattle.nodes.proofs.ListLaws.{all-of-take, all-of-drop}
@@ -134,13 +128,18 @@ module _ (d : List ℕ) (a : ℕ) where
   length-open at zero = refl
   length-open at (suc n) = ap suc (length-open (at + 1) n)
 
-  pub open_turn : (o : List ℕ) (p at left : ℕ) → 0 < left
-      → sets o p (words (open_lines d a at left))
-      ≡ sets (set (set o p (kind (open_node a (binder_at d at) (get_or (rows d) at no_triple)))) (p + 1) (number (open_node a (binder_at d at) (get_or (rows d) at no_triple)))) (p + 2) (words (open_lines d a (at + 1) (left - 1)))
+  -- the n lines from line `at` on: those before the i-th are written
+  pub open_turn : (o : List ℕ) (at n i : ℕ) → i < n
+      → sets o (2 * i) (words (open_lines d a (at + i) (n - i)))
+      ≡ sets (set (set o (2 * i) (kind (open_node a (binder_at d (at + i)) (get_or (rows d) (at + i) no_triple)))) (2 * i + 1) (number (open_node a (binder_at d (at + i)) (get_or (rows d) (at + i) no_triple)))) (2 * (i + 1)) (words (open_lines d a (at + (i + 1)) (n - (i + 1))))
   unfolding open_lines
-  open_turn o p at left h =
-      let e : left ≡ suc (left - 1) = omega arith in
-      ap (λ (n : ℕ). sets o p (words (open_lines d a at n))) e ∙ put-node o p (open_node a (binder_at d at) (get_or (rows d) at no_triple)) (open_lines d a (at + 1) (left - 1))
+  open_turn o at n i h =
+      let e : n - i ≡ suc (n - (i + 1)) = omega arith in
+      let p : 2 * i + 2 ≡ 2 * (i + 1) = omega arith in
+      let z : at + i + 1 ≡ at + (i + 1) = omega arith in
+      let x : Node = open_node a (binder_at d (at + i)) (get_or (rows d) (at + i) no_triple) in
+      ap (λ (m : ℕ). sets o (2 * i) (words (open_lines d a (at + i) m))) e ∙ put-node o (2 * i) x (open_lines d a (at + i + 1) (n - (i + 1)))
+      ∙ ap₂ (λ (q l : ℕ). sets (set (set o (2 * i) (kind x)) (2 * i + 1) (number x)) q (words (open_lines d a l (n - (i + 1))))) p z
 
   pub open-end : (o : List ℕ) (p at left : ℕ) → left ≡ 0 → sets o p (words (open_lines d a at left)) ≡ o
   unfolding open_lines words

@@ -29,7 +29,8 @@ unfoldable pub named_words : ℕ → List ℕ → Run → List ℕ
 named_words zero b c = b
 named_words (suc n) b c = named_words n (push_words b (fresh_run c) 17 c.counters.fresh [] []) (push_run (fresh_run c) 0)
 
--- Every word of the board after is fixed, those above its entries too. `outcome` takes any n names, and any rule that goes on with them and their unknowns.
+-- Every word of the board after is fixed, those above its entries too. `outcome` takes any n names, and any rule that
+-- goes on with them and their unknowns.
 pub record Named (b : List ℕ) (c : Run) (n : ℕ) (b' : List ℕ) (r : Run) : Type 0 where
   pub run : r ≡ named_run n c
   pub words : b' ≡ named_words n b c

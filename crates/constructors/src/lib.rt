@@ -1,8 +1,8 @@
-// A data constructor's type, opened: a fresh unknown for each quantifier at its front (worklist.rs: `instantiate_constructor_type`), and the rule for a Constructor.
+// A data constructor's type, opened: a fresh unknown for each quantifier at its front (worklist.rs:
+// `instantiate_constructor_type`), and the rule for a Constructor.
 #![tactic(auto)]
 
 ghost use Rattle.std.specs.Prelude.{◌≡◌, ℕ, ◌+◌, ◌*◌, ◌≤◌, ◌<◌, length, take, drop};
-ghost use Rattle.std.proofs.Math.Option.{some};
 ghost use Rattle.std.proofs.lemmas.List.Edits.{sets};
 ghost use Rattle.sizes.specs.Sizes.{most_numbers};
 ghost use Rattle.nodes.specs.Nodes.{kind, number, words, nodes_at};
@@ -26,15 +26,13 @@ fn open_names(board: &mut [u32], c: Run, n: usize) -> Run
     ensures { Named board.old c n board.new result }
 {
     let mut run = c;
-    let mut left = n;
-    while 0 < left {
+    for _ in 0..n {
         if !is_going(run.halt) {
             return run;
         }
         let a = run.counters.fresh;
         let made = fresh_evar(run);
         run = push_tvar(board, made, 17, a);
-        left -= 1;
     }
     run
 }
@@ -44,14 +42,12 @@ fn front_count(s: &[u64], first: usize, n: usize) -> usize
     requires { first + n ≤ length (rows s.now) }
     ensures { result ≡ length (front_names (nodes_of (take n (drop first (rows s.now))))) }
 {
-    let mut i = 0;
-    while i < n {
+    for i in 0..n {
         if triple_at(s, first + i).kind != 14 {
             return i;
         }
-        i += 1;
     }
-    i
+    n
 }
 
 // The run, and how many quantifiers stand in front of the type that is left.
@@ -90,33 +86,29 @@ fn open_node(t: Triple, binder: u32, base: u32) -> NodeWords
     ensures { result ≡ record { kind = kind (open_node base binder t); number = number (open_node base binder t) } }
 {
     if binder == 0 {
-        return NodeWords {
+        NodeWords {
             kind: t.kind as u32,
             number: node_number(t) as u32,
-        };
-    }
-    NodeWords {
-        kind: 17,
-        number: base + (binder - 1),
+        }
+    } else {
+        NodeWords {
+            kind: 17,
+            number: base + (binder - 1),
+        }
     }
 }
 
-// Copies n lines of a constructor's type, from line `line` on, to the front of `out`: the unknowns from `base` on stand for the names that
-// the quantifiers at the type's front bind.
+// Copies n lines of a constructor's type, from line `line` on, to the front of `out`: the unknowns from `base` on stand
+// for the names that the quantifiers at the type's front bind.
 pub fn apply_type_substitutions(out: &mut [u32], s: &[u64], line: usize, n: usize, base: u32)
     requires { (2 * n ≤ length out.old) × (base ≤ most_numbers) × (line + n ≤ length (rows s.now)) × All Narrow (take n (drop line (rows s.now))) }
     ensures { out.new ≡ sets out.old 0 (words (open_lines s.now base line n)) }
 {
-    let mut p = 0;
-    let mut at = line;
-    let mut left = n;
-    while 0 < left {
+    for i in 0..n {
+        let at = line + i;
         let q = open_node(triple_at(s, at), binder_at(s, at), base);
-        out[p] = q.kind;
-        out[p + 1] = q.number;
-        p += 2;
-        at += 1;
-        left -= 1;
+        out[2 * i] = q.kind;
+        out[2 * i + 1] = q.number;
     }
 }
 
@@ -133,11 +125,9 @@ pub fn infer_constructor(
     tn: usize,
 ) -> Run
     requires { OpenAsk board.old c (rows s.now) first n × Bound (rows s.now) s.now first n × (2 * n ≤ length out.old) × (ta + 2 * tn ≤ length t.now) × Bookable board.old c }
-    ensures { ((E : Env) (x : ℕ) → PerformsOnBoard board.old c (λ ls. constructor E x (nodes_at t.now ta tn) (some (nodes_of (take n (drop first (rows s.now)))))) board.new result) × (out.new ≡ sets out.old 0 (words (opened_of (nodes_of (take n (drop first (rows s.now)))) c.counters.fresh))) }
+    ensures { ((E : Env) (x : ℕ) → PerformsOnBoard board.old c (λ ls. constructor E x (nodes_at t.now ta tn) (Some (nodes_of (take n (drop first (rows s.now)))))) board.new result) × (out.new ≡ sets out.old 0 (words (opened_of (nodes_of (take n (drop first (rows s.now)))) c.counters.fresh))) }
 {
-    let o = instantiate_constructor_type(board, c, s, first, n);
-    let run = o.run;
-    let names = o.names;
+    let Opened { run, names } = instantiate_constructor_type(board, c, s, first, n);
     let left = n - names;
     apply_type_substitutions(out, s, first + names, left, c.counters.fresh);
     push_sub(board, run, out, 0, left, t, ta, tn)

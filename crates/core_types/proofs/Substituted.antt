@@ -1,10 +1,5 @@
 -- What stands where a type was substituted in place, and beside it. Assumes nothing.
-use mathlib.Core.Path.{◌≡◌, sym, ap, ap₂, ◌∙◌}
-use mathlib.Core.Logic.{◌⊎◌, inl, inr}
-use mathlib.Core.List.{List}
-use Prim.Native.Nat.{ℕ, ◌+◌, ◌*◌, ◌≤◌}
-use native.Mathlib.Omega.{arith}
-use lib.ListN.{length}
+use Rattle.std.proofs.Common.{◌≡◌, sym, ap, ap₂, ◌∙◌, ◌⊎◌, inl, inr, List, ℕ, ◌+◌, ◌*◌, ◌≤◌, arith, length}
 use lib.Seq.{sets}
 use Rattle.nodes.specs.Nodes.{Node, Ty, words, nodes_at}
 use Rattle.nodes.proofs.Laws.{length-nodes_at, length-words, nodes_at-same, nodes_at-below, nodes_at-above}

@@ -1,55 +1,68 @@
 -- One node of a walk over the nodes in a buffer, and the rest. Assumes nothing.
-use mathlib.Core.Path.{◌≡◌, refl, sym, ap, ap₂, ◌∙◌, subst}
-use mathlib.Core.Logic.{◌≢◌}
-use mathlib.Core.Bool.{Bool, true, false, cond, ◌&&◌}
-use mathlib.Core.List.{List, [], ◌∷◌, ◌++◌, append_assoc, append-nil}
-use Prim.Native.Nat.{ℕ, zero, suc, ◌+◌, ◌*◌, ◌-◌, ◌≤◌, ◌<◌}
+use Rattle.std.proofs.Common.{◌≡◌, refl, sym, ap, ap₂, ◌∙◌, subst, ◌≢◌, Bool, true, false, cond, not, ◌&&◌, ◌||◌, List, [], ◌∷◌, ◌++◌, append_assoc, append-nil, ℕ, zero, suc, ◌+◌, ◌*◌, ◌-◌, ◌≤◌, ◌<◌, not-suc-le-zero, add-one, arith, length, get_or, set, eqb, eq-eqb, ne_eqb}
 use native.Mathlib.Decide.{ℕ_discrete}
-use native.Mathlib.Nat.{not-suc-le-zero}
-use native.Mathlib.Numerals.{add-one, add-two}
-use native.Mathlib.Omega.{arith}
-use lib.ListN.{length, get_or, set}
+use native.Mathlib.Numerals.{add-two}
 use lib.Seq.{sets, set-get_or}
-use lib.Dec.{eqb}
-use borrow.Author.Tests.{eq-eqb, ne_eqb}
+use Rattle.std.proofs.Math.Bool.{or-true, and-false}
+use Rattle.std.specs.List.{list_any}
 use Rattle.nodes.specs.Parts.{take_parts, drop_parts}
-use Rattle.nodes.specs.Nodes.{Node, node, Ty, node_parts}
+use Rattle.nodes.specs.Nodes.{Node, node, Ty, kind, node_parts}
 use Rattle.judgment.specs.Levels.{is_above, none_above}
 use Rattle.judgment.specs.Types.{first, rest, is_node, occurs, is_monotype, substitute_from, substitute}
 use Rattle.nodes.specs.Nodes.{words, node_at, nodes_at}
 use Rattle.nodes.proofs.Laws.{nodes_at-cons, nodes_at-snoc, nodes_at-above, nodes_at-same, length-nodes_at, take-nodes_at, drop-nodes_at}
 use Rattle.nodes.proofs.PartLaws.{length-take, is-take, is-drop}
-use Rattle.core_types.specs.Walk.{nodes_before, substituting}
+use Rattle.core_types.specs.Walk.{IsAnyNode, nodes_before, substituting}
+
+not-or : (a b : Bool) → (not a && not b) ≡ not (a || b)
+not-or true b = refl
+not-or false b = refl
 
 pub nothing : (b : List ℕ) (p n : ℕ) → n ≡ 0 → nodes_at b p n ≡ []
 unfolding nodes_at
 nothing b p n e = rw e
 
+-- ---- whether a node passes a test
+module _ (p : Node → Bool) (t : List ℕ) where
+  any-hit : (n at i : ℕ) → i < n → p (node_at t (at + 2 * i)) ≡ true → list_any p (nodes_at t at n) ≡ true
+  unfolding nodes_at
+  any-hit zero at i h e = absurd (not-suc-le-zero h)
+  any-hit (suc n) at zero h e = let f : at + 2 * 0 ≡ at = omega arith in rw (rw f at e)
+  any-hit (suc n) at (suc i) h e =
+      let f : at + 2 * suc i ≡ at + 2 + 2 * i = omega arith in
+      rw (any-hit n (at + 2) i (omega arith) (rw f at e), or-true (p (node_at t at)))
+
+  any-none : (n at : ℕ) → ((i : ℕ) → i < n → p (node_at t (at + 2 * i)) ≡ false) → list_any p (nodes_at t at n) ≡ false
+  unfolding nodes_at
+  any-none zero at f = refl
+  any-none (suc n) at f =
+      let e : at + 2 * 0 ≡ at = omega arith in
+      rw (rw e at (f 0 (omega arith)))
+      (any-none n (at + 2) (λ i h. let e : at + 2 * suc i ≡ at + 2 + 2 * i = omega arith in rw e at (f (suc i) (omega arith))))
+
+  -- by what a function told of each node
+  pub any-told : (E : ℕ → ℕ → Bool → Type 0) (at n : ℕ) (r : Bool) → IsAnyNode E t at n r → ((k v : ℕ) (b : Bool) → E k v b → b ≡ p (node k v)) → r ≡ list_any p (nodes_at t at n)
+  unfolding IsAnyNode
+  any-told E at n true h f = sym (any-hit n at h.0 h.1 (sym (f _ _ true h.2)))
+  any-told E at n false h f = sym (any-none n at (λ i l. sym (f _ _ false (h i l))))
+
+pub occurs-any : (k : ℕ) (t : Ty) → occurs k t ≡ list_any (is_node 17 k) t
+unfolding occurs
+occurs-any k [] = refl
+occurs-any k (x ∷ t) = rw (occurs-any k t)
+
+pub mono-any : (t : Ty) → is_monotype t ≡ not (list_any (λ x. eqb (kind x) 14) t)
+unfolding is_monotype
+mono-any [] = refl
+mono-any (x ∷ t) = rw (mono-any t) (not-or (eqb (kind x) 14) _)
+
+pub above-any : (m : ℕ) (t : Ty) → none_above m t ≡ not (list_any (is_above m) t)
+unfolding none_above
+above-any m [] = refl
+above-any m (x ∷ t) = rw (above-any m t) (not-or (is_above m x) _)
+
+-- ---- one node of a walk
 module _ (b : List ℕ) (p n : ℕ) (h : 0 < n) where
-  pub occurs-hit : (k : ℕ) → is_node 17 k (node_at b p) ≡ true → occurs k (nodes_at b p n) ≡ true
-  unfolding occurs
-  occurs-hit k e = rw (nodes_at-cons b p n h, e)
-
-  pub occurs-turn : (k : ℕ) → is_node 17 k (node_at b p) ≡ false → occurs k (nodes_at b p n) ≡ occurs k (nodes_at b (p + 2) (n - 1))
-  unfolding occurs
-  occurs-turn k e = rw (nodes_at-cons b p n h, e)
-
-  pub mono-hit : get_or b p 0 ≡ 14 → is_monotype (nodes_at b p n) ≡ false
-  unfolding is_monotype
-  mono-hit e = rw (nodes_at-cons b p n h, eq-eqb (get_or b p 0) 14 e)
-
-  pub mono-turn : get_or b p 0 ≢ 14 → is_monotype (nodes_at b p n) ≡ is_monotype (nodes_at b (p + 2) (n - 1))
-  unfolding is_monotype
-  mono-turn e = rw (nodes_at-cons b p n h, ne_eqb (get_or b p 0) 14 e)
-
-  pub above_hit : (m : ℕ) → is_above m (node_at b p) ≡ true → none_above m (nodes_at b p n) ≡ false
-  unfolding none_above
-  above_hit m e = rw (nodes_at-cons b p n h, e)
-
-  pub above-turn : (m : ℕ) → is_above m (node_at b p) ≡ false → none_above m (nodes_at b p n) ≡ none_above m (nodes_at b (p + 2) (n - 1))
-  unfolding none_above
-  above-turn m e = rw (nodes_at-cons b p n h, e)
-
   pub take-turn : (m : ℕ) → m ≢ 0 → take_parts node_parts (nodes_at b p n) m ≡ node_at b p ∷ take_parts node_parts (nodes_at b (p + 2) (n - 1)) (m - 1 + node_parts (node_at b p))
   take-turn zero f = absurd (f refl)
   take-turn (suc m) f =
@@ -167,10 +180,6 @@ module _ (x : ℕ) (b : List ℕ) (at n : ℕ) where
   count-end i e h = let k = before-end x b (at + 2 * i) (n - i) e in omega arith
 
 -- ---- substitution
-and-false : (a : Bool) → (a && false) ≡ false
-and-false true = refl
-and-false false = refl
-
 module _ (x : ℕ) (r : Node) (t : List ℕ) (p left : ℕ) (h : 0 < left) where
   -- a node and its successors
   sub-turn : (skip k v skip' : ℕ) → substitute_from x r (node_at t p ∷ nodes_at t (p + 2) (left - 1)) skip ≡ node k v ∷ substitute_from x r (nodes_at t (p + 2) (left - 1)) skip'

@@ -1,19 +1,16 @@
 -- What is wrong with a triple, and what is said of a scan and an answer, by computation. Assumes nothing.
-use mathlib.Core.Path.{◌≡◌, refl}
-use mathlib.Core.Bool.{Bool, true, false}
-use mathlib.Core.List.{List, [], ◌∷◌, map}
-use Prim.Native.Nat.{ℕ}
+use Rattle.std.proofs.Common.{◌≡◌, refl, Bool, true, false, List, [], ◌∷◌, map, ℕ, Option, Some, None, Result, Ok, Err}
 use Rattle.spelling.specs.declared.Triple.{Triple}
 use Rattle.spelling.specs.declared.Field.TheVariants.{Blank}
 use Rattle.kinds.specs.Kinds.{find, table, row_of}
 use Rattle.judgment.specs.Result.{refused_at}
 use Rattle.listing.specs.declared.Fault.{Fault}
-use Rattle.listing.specs.declared.Fault.TheVariants.{Fine, NoNumber, Few, Many, Long}
+use Rattle.listing.specs.declared.Fault.TheVariants.{NoNumber, Few, Many, Long}
 use Rattle.listing.specs.Listing.{State, state}
 use Rattle.drafting.specs.declared.Wrong.{Wrong}
-use Rattle.drafting.specs.declared.Wrong.TheVariants.{NotNumber, TooFew, TooMany, TooLong, NoKind, Negative, OutOfRange, Misplaced, Lacking}
-use Rattle.drafting.specs.declared.Outcome.{Outcome}
-use Rattle.drafting.specs.declared.Outcome.TheVariants.{Sheet, NoTriple, At}
+use Rattle.drafting.specs.declared.Wrong.TheVariants.{Listing, NoKind, Negative, OutOfRange, Misplaced, Lacking}
+use Rattle.drafting.specs.declared.Refusal.{Refusal}
+use Rattle.drafting.specs.declared.Refusal.TheVariants.{NoTriple, At}
 use Rattle.drafting.specs.Drafting.{diagnosis, outcome}
 
 abbrev t : ℕ → Bool → ℕ → ℕ → Triple
@@ -62,31 +59,31 @@ unfolding find table row_of
 diagnosed = refl
 
 -- two triples on the lines 3 and 5, the second of which has no kind, and the scan on line 7 with a fault
-abbrev two : Fault → State
+abbrev two : Option Fault → State
 two f =
     state (record { line = 7; numbers = 0; field = Blank; comment = false; triples = 2; fault = f }) (22 ∷ 7 ∷ 0 ∷ 5 ∷ 0 ∷ 0 ∷ []) (3 ∷ 5 ∷ [])
 
 -- no triple, on line 7
-abbrev none : Fault → State
+abbrev none : Option Fault → State
 none f = state (record { line = 7; numbers = 0; field = Blank; comment = false; triples = 0; fault = f }) [] []
 
 -- by the fault, and the number and the line of the answer
 abbrev Row : Type 0
-Row = (Fault × ℕ × ℕ) × Outcome
+Row = (Option Fault × ℕ × ℕ) × Result ℕ Refusal
 
 abbrev of_two : List Row
 of_two =
-    ((Fine, 0, 0), Sheet 58) ∷  -- accepted
-    ((Fine, 5, 1), At 3 Misplaced) ∷  -- the first triple
-    ((Fine, 5, 2), At 5 NoKind) ∷  -- the last one
-    ((Fine, 5, 3), At 5 Lacking) ∷  -- one is lacking
-    ((Few, 5, 1), At 3 Misplaced) ∷  -- a triple before the fault
-    ((Few, 5, 2), At 5 NoKind) ∷
-    ((Few, 5, 3), At 7 TooFew) ∷  -- what is lacking stood on the faulty line or behind it
-    ((Few, 0, 0), At 7 TooFew) ∷  -- a plan, and then a fault
-    ((NoNumber, 0, 0), At 7 NotNumber) ∷
-    ((Many, 0, 0), At 7 TooMany) ∷
-    ((Long, 0, 0), At 7 TooLong) ∷
+    ((None, 0, 0), Ok 58) ∷  -- accepted
+    ((None, 5, 1), Err (At 3 Misplaced)) ∷  -- the first triple
+    ((None, 5, 2), Err (At 5 NoKind)) ∷  -- the last one
+    ((None, 5, 3), Err (At 5 Lacking)) ∷  -- one is lacking
+    ((Some Few, 5, 1), Err (At 3 Misplaced)) ∷  -- a triple before the fault
+    ((Some Few, 5, 2), Err (At 5 NoKind)) ∷
+    ((Some Few, 5, 3), Err (At 7 (Listing Few))) ∷  -- what is lacking stood on the faulty line or behind it
+    ((Some Few, 0, 0), Err (At 7 (Listing Few))) ∷  -- a plan, and then a fault
+    ((Some NoNumber, 0, 0), Err (At 7 (Listing NoNumber))) ∷
+    ((Some Many, 0, 0), Err (At 7 (Listing Many))) ∷
+    ((Some Long, 0, 0), Err (At 7 (Listing Long))) ∷
     []
 
 pub two-told : map (λ r. outcome (two r.0.0) (refused_at r.0.1 r.0.2)) of_two ≡ map (λ r. r.1) of_two
@@ -95,10 +92,10 @@ two-told = refl
 
 abbrev of_none : List Row
 of_none =
-    ((Fine, 3, 0), NoTriple) ∷
-    ((NoNumber, 3, 0), At 7 NotNumber) ∷
-    ((Few, 3, 0), At 7 TooFew) ∷
-    ((Many, 3, 0), At 7 TooMany) ∷
+    ((None, 3, 0), Err NoTriple) ∷
+    ((Some NoNumber, 3, 0), Err (At 7 (Listing NoNumber))) ∷
+    ((Some Few, 3, 0), Err (At 7 (Listing Few))) ∷
+    ((Some Many, 3, 0), Err (At 7 (Listing Many))) ∷
     []
 
 pub none_told : map (λ r. outcome (none r.0.0) (refused_at r.0.1 r.0.2)) of_none ≡ map (λ r. r.1) of_none

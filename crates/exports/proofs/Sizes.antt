@@ -1,4 +1,7 @@
 -- The sizes, by what the definitions ask and write. Assumes nothing.
+use Rattle.grammar.specs.declared.SheetError.TheVariants.{Length, Misspelt, Unfit}
+use Rattle.grammar.specs.declared.SheetError.{SheetError}
+use Rattle.std.specs.Prelude.{Result, Ok, Err}
 use mathlib.Core.Path.{◌≡◌, refl, sym}
 use mathlib.Core.Bool.{Bool, true, false, cond, ◌&&◌}
 use mathlib.Core.List.{List}
@@ -9,8 +12,6 @@ use lib.ListN.{length}
 use borrow.Author.Tests.{leb-true, eqb-true}
 use Rattle.sizes.specs.Sizes.{line_length, sheet_bytes, highest_ceiling, highest_limit, board_size, book_size, report_stride}
 use Rattle.nodes.specs.Nodes.{Ty}
-use Rattle.grammar.specs.declared.Check.{Check}
-use Rattle.grammar.specs.declared.Check.TheVariants.{Plan, Length, Misspelt, Unfit}
 use Rattle.grammar.specs.Check.{length_ok, check}
 use Rattle.sheet.specs.Plan.{triples, plan_of}
 use Rattle.judgment.specs.declared.TypeError.{TypeError}
@@ -66,12 +67,12 @@ unfolding result_of
 run-other p v (run ss e (state Γ σ n)) = end-other e
 
 module _ (m : Mode) (s : List ℕ) (c w : ℕ) (b : Buffers) where
-  check-other : (v : Check) → Other (by_check m s c w b v).answer.number
+  check-other : (v : Result Unit SheetError) → Other (by_check m s c w b v).answer.number
   unfolding judge
-  check-other Plan = let p = plan_of (triples s) in run-other p.plain own_levels (run_of (limits_for m w) c p)
-  check-other Length = (refl, refl)
-  check-other (Misspelt l) = (refl, refl)
-  check-other (Unfit l) = (refl, refl)
+  check-other (Ok _) = let p = plan_of (triples s) in run-other p.plain own_levels (run_of (limits_for m w) c p)
+  check-other (Err Length) = (refl, refl)
+  check-other (Err (Misspelt l)) = (refl, refl)
+  check-other (Err (Unfit l)) = (refl, refl)
 
   -- the call by its three tests
   abbrev tested : Bool → Bool → Bool → Called

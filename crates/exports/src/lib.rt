@@ -7,12 +7,10 @@ ghost use Rattle.grammar.specs.Check.{check, check_number, check_line};
 ghost use Rattle.nodes.specs.Nodes.{Ty};
 ghost use Rattle.judgment.specs.Solutions.{Solutions};
 ghost use Rattle.judgment.specs.Levels.{Levels, first_call, strict_call};
-ghost use Rattle.judgment.specs.Result.{numbers, board_words, book_words, report_words};
+ghost use Rattle.judgment.specs.Result.{board_words, book_words, report_words};
 ghost use Rattle.exports.specs.Interface.{Given, GivenSheet, term_on, version, Least, Highest, HighestLimit, Longest, OneLine};
 
 use checker::{check_type, check_type_strict};
-use grammar::Check;
-use judgment::Answer;
 use reading::{check_sheet, term_of_sheet};
 use sizes::{
     BOARD_SIZE, BOOK_SIZE, HIGHEST_CEILING, HIGHEST_LIMIT, LINE_LENGTH, REPORT_STRIDE, SHEET_BYTES,
@@ -25,21 +23,13 @@ pub fn kirvoghus_read_sheet(sheet: &[u8], line: &mut u32) -> u32
     ensures { (result ≡ check_number (check sheet.now)) × (line.new ≡ check_line (check sheet.now)) }
 {
     match check_sheet(sheet) {
-        Check::Plan => {
+        Ok(()) => {
             *line = 0;
             0
         }
-        Check::Length => {
-            *line = 0;
-            3
-        }
-        Check::Misspelt(l) => {
-            *line = l as u32;
-            4
-        }
-        Check::Unfit(l) => {
-            *line = l as u32;
-            5
+        Err(e) => {
+            *line = e.line() as u32;
+            e.number()
         }
     }
 }
@@ -49,23 +39,10 @@ pub fn kirvoghus_read_sheet(sheet: &[u8], line: &mut u32) -> u32
 pub fn kirvoghus_term_bytes(sheet: &[u8], line: u32) -> usize
     ensures { result ≡ length (term_on sheet.now line) }
 {
-    if SHEET_BYTES < sheet.len() {
+    if SHEET_BYTES < sheet.len() || line == 0 {
         return 0;
     }
-    if line == 0 {
-        return 0;
-    }
-    let at = (line - 1) as usize;
-    let term = term_of_sheet(sheet, at);
-    term.len()
-}
-
-fn seven(a: Answer) -> [u32; 7]
-    ensures { result ≡ numbers a }
-{
-    [
-        a.number, a.line, a.taken, a.fresh, a.detail1, a.detail2, a.plain,
-    ]
+    term_of_sheet(sheet, (line - 1) as usize).len()
 }
 
 // The checker's entry call. `res` gets the seven numbers; the answer is the first of them.
@@ -81,7 +58,7 @@ pub fn kirvoghus_check_type(
     ensures { Given first_call sheet.now ceiling limit (record { board = board.entry.now; book = book.old; report = report.old }) result res.new (record { board = board.exit.now; book = book.new; report = report.new }) }
 {
     let a = check_type(sheet, ceiling, limit, board, book, report);
-    *res = seven(a);
+    *res = a.numbers();
     a.number
 }
 
@@ -98,7 +75,7 @@ pub fn kirvoghus_check_type_strict(
     ensures { Given strict_call sheet.now ceiling limit (record { board = board.entry.now; book = book.old; report = report.old }) result res.new (record { board = board.exit.now; book = book.new; report = report.new }) }
 {
     let a = check_type_strict(sheet, ceiling, limit, board, book, report);
-    *res = seven(a);
+    *res = a.numbers();
     a.number
 }
 
@@ -107,7 +84,7 @@ pub fn kirvoghus_write_sheet(triples: &[u64], out: &mut [u8], res: &mut [u32; 7]
     ensures { GivenSheet triples.now out.old result res.new out.new }
 {
     let a = write_sheet(triples, out);
-    *res = seven(a);
+    *res = a.numbers();
     a.number
 }
 

@@ -1,7 +1,5 @@
 -- Which lengths a sheet may have, in document 01's digits, by computation. Assumes nothing.
-use mathlib.Core.Path.{◌≡◌, refl}
-use mathlib.Core.Bool.{true, false}
-use mathlib.Core.List.{[], ◌∷◌, map}
+use Rattle.std.proofs.Common.{◌≡◌, refl, true, false, [], ◌∷◌, map}
 use Rattle.grammar.specs.Check.{length_ok}
 
 -- no byte, one line, a byte less and a byte more, 1,999, 2,000 and 2,001 lines

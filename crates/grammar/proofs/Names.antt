@@ -1,16 +1,12 @@
--- Which names a line may have, in document 01's digits, by computation, on sheets with the name on a line of each kind that has one. The
--- answers are those of `reference answer`. Assumes nothing.
-use mathlib.Core.Path.{◌≡◌, refl}
-use mathlib.Core.Bool.{false}
-use mathlib.Core.List.{List, [], ◌∷◌, ◌++◌, map}
-use Prim.Native.Nat.{ℕ}
-use lib.ListN.{replicate}
+-- Which names a line may have, in document 01's digits, by computation, on sheets with the name on a line of each kind
+-- that has one. The answers are those of `reference answer`. Assumes nothing.
+use Rattle.grammar.specs.declared.SheetError.TheVariants.{Unfit}
+use Rattle.grammar.specs.declared.SheetError.{SheetError}
+use Rattle.std.proofs.Common.{Result, Ok, Err, ◌≡◌, refl, false, List, [], ◌∷◌, ◌++◌, map, ℕ, replicate}
 use Rattle.spelling.specs.declared.Triple.{Triple}
 use Rattle.spelling.specs.Spelling.{field_from, line_of, line_at, lines_from, lines_of, first_misspelt}
 use Rattle.spelling.specs.Text.{field_text, line_text}
 use Rattle.kinds.specs.Kinds.{find, table, row_of, begins, head_of}
-use Rattle.grammar.specs.declared.Check.{Check}
-use Rattle.grammar.specs.declared.Check.TheVariants.{Plan, Unfit}
 use Rattle.grammar.specs.Grammar.{declared_by, arms, following, read, read_at}
 use Rattle.grammar.specs.Check.{read_sheet, check}
 
@@ -44,9 +40,9 @@ sheets n =
     []
 
 -- the line that has it
-abbrev unfit : List Check
-unfit = map Unfit (1 ∷ 1 ∷ 2 ∷ 2 ∷ 2 ∷ 4 ∷ 4 ∷ 4 ∷ 4 ∷ 4 ∷ 6 ∷ 6 ∷ [])
+abbrev unfit : List (Result Unit SheetError)
+unfit = map (λ l. Err (Unfit l)) (1 ∷ 1 ∷ 2 ∷ 2 ∷ 2 ∷ 4 ∷ 4 ∷ 4 ∷ 4 ∷ 4 ∷ 6 ∷ 6 ∷ [])
 
-pub bounds : map (λ n. map (λ ls. check (text ls)) (sheets n)) (0 ∷ 1 ∷ 9999 ∷ 10000 ∷ []) ≡ unfit ∷ replicate 12 Plan ∷ replicate 12 Plan ∷ unfit ∷ []
+pub bounds : map (λ n. map (λ ls. check (text ls)) (sheets n)) (0 ∷ 1 ∷ 9999 ∷ 10000 ∷ []) ≡ unfit ∷ replicate 12 (Ok tt) ∷ replicate 12 (Ok tt) ∷ unfit ∷ []
 unfolding line_text field_text field_from line_of line_at lines_from lines_of first_misspelt find table row_of begins head_of declared_by arms following read read_at read_sheet check
 bounds = refl

@@ -1,13 +1,7 @@
--- A Lambda checked against an Arrow whose parts are moved where they stand: what is left is what three pushes leave. Assumes nothing.
-use mathlib.Core.Path.{◌≡◌, refl, ap, ap₂, ◌∙◌}
-use mathlib.Core.Bool.{true}
-use mathlib.Core.Option.{some}
-use mathlib.Core.List.{List, []}
-use Prim.Native.Nat.{ℕ, ◌+◌, ◌*◌, ◌≤◌, ◌<◌}
-use native.Mathlib.Omega.{arith}
-use borrow.Author.Tests.{lt-ltb, le-leb}
-use lib.ListN.{length}
-use lib.Seq.{sets}
+-- A Lambda checked against an Arrow whose parts are moved where they stand: what is left is what three pushes leave.
+-- Assumes nothing.
+use Rattle.std.proofs.Common.{Some, ◌≡◌, refl, ap, ap₂, ◌∙◌, true, List, [], ℕ, ◌+◌, ◌*◌, ◌≤◌, ◌<◌, arith, lt-ltb, le-leb, length}
+use Rattle.std.proofs.Math.Seq.{sets}
 use Rattle.sizes.specs.Sizes.{most_entries, most_nodes, board_base}
 use Rattle.nodes.specs.Nodes.{Ty, words, nodes_at}
 use Rattle.nodes.proofs.Laws.{length-nodes_at, nodes_at-below}
@@ -119,7 +113,7 @@ module _ {b : List ℕ} {c : Run} {s : List ℕ} {at n m bn : ℕ} (a : HereAsk 
     here-board =
         p₇.1 ∙ ap (λ (e : Board). grown e (bn + 0)) (p₆.1 ∙ ap (λ (e : Board). grown e (n + 0)) p₅.1) ∙ counted-as d A B C n m bn long.0 long.1 long.2
 
-    pub here-does : (w : Way) (E : Env) (e : Term) (T : Ty) (k rep : List ℕ) → WellFormed b k c → Does w (rows s) b k rep c (check_arrow E e T B C (some (lambda_on s name at n body))) v₇ k rep (with_board c b₃)
+    pub here-does : (w : Way) (E : Env) (e : Term) (T : Ty) (k rep : List ℕ) → WellFormed b k c → Does w (rows s) b k rep c (check_arrow E e T B C (Some (lambda_on s name at n body))) v₇ k rep (with_board c b₃)
     here-does w E e T k rep f =
         let l = long in
         let la : length A ≡ n = l.0 in

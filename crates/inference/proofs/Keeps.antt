@@ -1,11 +1,6 @@
--- What an operation leaves of the board's shape, whatever the book holds; a fresh unknown, and then the rest of a rule. Assumes nothing.
-use mathlib.Core.Path.{◌≡◌, refl, sym, ap, ◌∙◌}
-use mathlib.Core.Bool.{Bool, true, false}
-use mathlib.Core.List.{List, []}
-use Prim.Native.Nat.{ℕ, ◌+◌, ◌<◌}
-use native.Mathlib.Omega.{arith}
-use lib.Dec.{ltb}
-use lib.ListN.{length}
+-- What an operation leaves of the board's shape, whatever the book holds; a fresh unknown, and then the rest of a rule.
+-- Assumes nothing.
+use Rattle.std.proofs.Common.{◌≡◌, refl, sym, ap, ◌∙◌, Bool, true, false, List, [], ℕ, ◌+◌, ◌<◌, arith, ltb, length}
 use Rattle.sizes.specs.Sizes.{most_numbers}
 use Rattle.nodes.specs.Nodes.{node, Ty}
 use Rattle.nodes.proofs.ListLaws.{cond_ind}

@@ -1,10 +1,6 @@
 -- The words of a type that was copied from the sheet, and of the Arrow around it. Assumes nothing.
-use mathlib.Core.Path.{◌≡◌, refl, sym, ap, ◌∙◌}
-use mathlib.Core.List.{List, [], ◌∷◌, ◌++◌}
-use Prim.Native.Nat.{ℕ, suc, ◌+◌, ◌*◌, ◌-◌, ◌≤◌}
-use native.Mathlib.Omega.{arith}
-use lib.ListN.{length, set, take, drop, length-set, length-append, length-take, length-drop}
-use lib.Seq.{sets, take-append_seam, drop-append_seam}
+use Rattle.std.proofs.Common.{◌≡◌, refl, sym, ap, ◌∙◌, List, [], ◌∷◌, ◌++◌, ℕ, suc, ◌+◌, ◌*◌, ◌-◌, ◌≤◌, arith, length, set, take, drop, length-set, length-append, length-take, length-drop}
+use Rattle.std.proofs.Math.Seq.{sets, take-append_seam, drop-append_seam}
 use Rattle.nodes.specs.Nodes.{Ty, words, nodes_at}
 use Rattle.nodes.proofs.Laws.{two-more, nodes_at-same, take-nodes_at, drop-nodes_at}
 use Rattle.spelling.specs.declared.Triple.{Triple}

@@ -30,7 +30,8 @@ pub record LinesAsk (s : List ℕ) (at n : ℕ) : Type 0 where
 abbrev pub next_at : Run → ℕ
 next_at c = board_base + 2 * c.counters.board.nodes
 
--- three entries, for a Lambda whose type is on n lines and an Arrow whose parts have m and bn nodes, on a board that has room for them
+-- three entries, for a Lambda whose type is on n lines and an Arrow whose parts have m and bn nodes, on a board that
+-- has room for them
 pub record HereAsk (b : List ℕ) (c : Run) (s : List ℕ) (at n m bn : ℕ) : Type 0 where
   pub room : board_size ≤ length b
   pub goes : going c.halt ≡ true

@@ -1,9 +1,8 @@
-// Inf, Chk and InfApp: each function is one rule (worklist.rs: `solve_inference`, `solve_checking`, `solve_inf_app`). The taken entry's type is the tn nodes at the
-// front of t; a term is its first line on the sheet.
+// Inf, Chk and InfApp: each function is one rule (worklist.rs: `solve_inference`, `solve_checking`, `solve_inf_app`).
+// The taken entry's type is the tn nodes at the front of t; a term is its first line on the sheet.
 #![tactic(auto)]
 
 ghost use Rattle.std.specs.Prelude.{◌≡◌, List, ◌⊎◌, cond, ℕ, ◌+◌, ◌*◌, ◌≤◌, leb, length};
-ghost use Rattle.std.proofs.Math.Option.{some};
 ghost use Rattle.std.proofs.lemmas.List.Edits.{sets};
 ghost use Rattle.sizes.specs.Sizes.{most_nodes};
 ghost use Rattle.nodes.specs.Nodes.{node, Ty, words, nodes_at};
@@ -23,8 +22,8 @@ use core_types::substitute_type;
 use judgment::TypeError;
 use nodes::move_up;
 use operations::{
-    Run, fresh_evar, fresh_part, fresh_universal, push_chk, push_inf, push_inf_app, push_sub,
-    push_tvar, push_var, refuse, solve_evar,
+    Counters, Entry, Run, fresh_evar, fresh_part, fresh_universal, push_chk, push_inf,
+    push_inf_app, push_sub, push_tvar, push_var, refuse, solve_evar,
 };
 use sheet::copy_type;
 use sizes::BOARD_BASE;
@@ -103,8 +102,7 @@ pub fn infer_bin_op(
     requires { Stacked board.old c.counters.board × (2 * tn ≤ length t.now) × Bookable board.old c }
     ensures { (E : Env) → PerformsOnBoard board.old c (λ ls. infer_by E (nodes_at t.now 0 tn) (is_bin_op op (term_at ls e1) (term_at ls e2))) board.new result }
 {
-    let result = result_name(op);
-    let types = [12u32, 1, 12, result];
+    let types = [12u32, 1, 12, result_name(op)];
     let c1 = push_chk(board, c, e1, &types, 0, 1);
     let c2 = push_chk(board, c1, e2, &types, 0, 1);
     push_sub(board, c2, &types, 2, 1, t, 0, tn)
@@ -160,7 +158,8 @@ fn write_arrow(out: &mut [u32], s: &[u64], first: usize, n: usize, b: u32)
     out[end + 1] = b;
 }
 
-// Lambda: its type is an Arrow to a fresh unknown. The type of the parameter is on the n lines at line `first` of the sheet.
+// Lambda: its type is an Arrow to a fresh unknown. The type of the parameter is on the n lines at line `first` of the
+// sheet.
 pub fn infer_lambda(
     board: &mut [u32],
     c: Run,
@@ -177,13 +176,11 @@ pub fn infer_lambda(
     ensures { (out.new ≡ sets out.old 0 (words (arrow (type_on s.now first n) (unknown c.counters.fresh)))) × ((w : Way) (E : Env) (k rep : List ℕ) → WellFormed board.old k c → Does w (rows s.now) board.old k rep c (infer_by E (nodes_at t.now 0 tn) (is_lambda name (type_on s.now first n) (term_at (rows s.now) body))) board.new k rep result) }
 {
     let b = c.counters.fresh;
-    let nodes = n + 2;
-    let end = 2 + 2 * n;
     let c1 = fresh_unknown(board, c);
     write_arrow(out, s, first, n, b);
-    let c2 = push_sub(board, c1, out, 0, nodes, t, 0, tn);
+    let c2 = push_sub(board, c1, out, 0, n + 2, t, 0, tn);
     let c3 = push_var(board, c2, name, out, 2, n);
-    push_inf(board, c3, body, out, end, 1)
+    push_inf(board, c3, body, out, 2 + 2 * n, 1)
 }
 
 // A Lambda checked against an Arrow, whose parts are the an nodes at word a of t and the bn nodes after them.
@@ -202,7 +199,7 @@ pub fn check_lambda(
     bn: usize,
 ) -> Run
     requires { Stacked board.old c.counters.board × (a + 2 * an + 2 * bn ≤ length t.now) × (2 * n ≤ length out.old) × LinesAsk s.now first n × Bookable board.old c }
-    ensures { (out.new ≡ sets out.old 0 (words (type_on s.now first n))) × ((w : Way) (E : Env) (e : Term) (T : Ty) (k rep : List ℕ) → WellFormed board.old k c → Does w (rows s.now) board.old k rep c (check_arrow E e T (nodes_at t.now a an) (nodes_at t.now (a + 2 * an) bn) (some (lambda_on s.now name first n body))) board.new k rep result) }
+    ensures { (out.new ≡ sets out.old 0 (words (type_on s.now first n))) × ((w : Way) (E : Env) (e : Term) (T : Ty) (k rep : List ℕ) → WellFormed board.old k c → Does w (rows s.now) board.old k rep c (check_arrow E e T (nodes_at t.now a an) (nodes_at t.now (a + 2 * an) bn) (Some (lambda_on s.now name first n body))) board.new k rep result) }
 {
     let b = a + 2 * an;
     copy_type(out, 0, s, first, n);
@@ -211,7 +208,8 @@ pub fn check_lambda(
     push_chk(board, c2, body, t, b, bn)
 }
 
-// The same where the Arrow, its parts m and bn nodes, was the last type on the board, and all entries fit: its parts are moved up to where they stand in these.
+// The same where the Arrow, its parts m and bn nodes, was the last type on the board, and all entries fit: its parts
+// are moved up to where they stand in these.
 pub fn check_lambda_here(
     board: &mut [u32],
     c: Run,
@@ -224,10 +222,9 @@ pub fn check_lambda_here(
     bn: usize,
 ) -> Run
     requires { HereAsk board.old c s.now first n m bn }
-    ensures { (w : Way) (E : Env) (e : Term) (T : Ty) (k rep : List ℕ) → WellFormed board.old k c → Does w (rows s.now) board.old k rep c (check_arrow E e T (nodes_at board.old (next_at c + 2) m) (nodes_at board.old (next_at c + 2 + 2 * m) bn) (some (lambda_on s.now name first n body))) board.new k rep result }
+    ensures { (w : Way) (E : Env) (e : Term) (T : Ty) (k rep : List ℕ) → WellFormed board.old k c → Does w (rows s.now) board.old k rep c (check_arrow E e T (nodes_at board.old (next_at c + 2) m) (nodes_at board.old (next_at c + 2 + 2 * m) bn) (Some (lambda_on s.now name first n body))) board.new k rep result }
 {
-    let mut counters = c.counters;
-    let b = counters.board;
+    let b = c.counters.board;
     let at = BOARD_BASE + 2 * b.nodes;
     let mid = at + 2 * n;
     let again = mid + 2 * m;
@@ -237,20 +234,20 @@ pub fn check_lambda_here(
     move_up(board, mid, at + 2, m);
     copy_type(board, at, s, first, n);
     copy_type(board, again, s, first, n);
-    let b1 = lay(board, b, 3, 0, n, m);
-    let b2 = lay(board, b1, 2, name, n, 0);
-    let b3 = lay(board, b2, 5, body, bn, 0);
-    counters.board = b3;
-    let book = c.book;
-    let halt = c.halt;
+    let b1 = lay(board, b, Entry::Sub as u32, 0, n, m);
+    let b2 = lay(board, b1, Entry::Var as u32, name, n, 0);
+    let b3 = lay(board, b2, Entry::Chk as u32, body, bn, 0);
     Run {
-        counters,
-        book,
-        halt,
+        counters: Counters {
+            board: b3,
+            ..c.counters
+        },
+        ..c
     }
 }
 
-// A term checked against a Forall of `name` over the n nodes at word `at` of t: a fresh universal is put for the name, in place.
+// A term checked against a Forall of `name` over the n nodes at word `at` of t: a fresh universal is put for the name,
+// in place.
 pub fn check_forall(
     board: &mut [u32],
     book: &mut [u32],
@@ -271,7 +268,8 @@ pub fn check_forall(
     push_chk(board, c2, line, t, at, n)
 }
 
-// A function of an Arrow applied. The Arrow's parts are the an nodes at word a of t and the bn nodes after them; the result's type is the cn nodes at word ct.
+// A function of an Arrow applied. The Arrow's parts are the an nodes at word a of t and the bn nodes after them; the
+// result's type is the cn nodes at word ct.
 pub fn apply_arrow(
     board: &mut [u32],
     c: Run,

@@ -1,14 +1,6 @@
 -- Whether a sheet has a Case. Assumes nothing.
-use mathlib.Core.Path.{◌≡◌, sym, ap, ◌∙◌}
-use mathlib.Core.Bool.{Bool, true, ◌||◌, or-true, or-false}
-use mathlib.Core.List.{List, [], ◌∷◌}
-use Prim.Native.Nat.{ℕ, zero, suc, ◌+◌, ◌≤◌, ◌<◌}
-use native.Mathlib.Numerals.{add-one}
-use native.Mathlib.Omega.{arith}
-use lib.ListN.{length, get_or, drop, drop_of_length-le}
-use lib.Dec.{eqb}
-use lib.Seq.{drop-cons}
-use borrow.Author.Tests.{eq-eqb, ne_eqb}
+use Rattle.std.proofs.Common.{refl, false, ◌≡◌, sym, ap, ◌∙◌, Bool, true, ◌||◌, List, [], ◌∷◌, ℕ, zero, suc, ◌+◌, ◌≤◌, ◌<◌, add-one, arith, length, get_or, drop, drop_of_length-le, eqb, drop-cons, eq-eqb}
+use mathlib.Core.Bool.{or-true, or-false}
 use Rattle.spelling.specs.declared.Triple.{Triple}
 use Rattle.sheet.specs.Plan.{no_triple}
 use Rattle.inferring.specs.Inferring.{has_case}
@@ -26,11 +18,9 @@ module _ (ls : List Triple) (i : ℕ) where
   unfolding has_case
   here h = ap has_case (drop-cons ls i no_triple h) ∙ rw add-one
 
-  pub case-hit : (b : Bool) → i < length ls → (get_or ls i no_triple).kind ≡ 27 → (true || has_case (drop (i + 1) ls)) ≡ (b || has_case (drop i ls))
-  case-hit b h e = sym (ap (λ (x : Bool). b || x) (here h ∙ rw (eq-eqb (get_or ls i no_triple).kind 27 e)) ∙ or-true b)
-
-  pub case-turn : (b : Bool) → i < length ls → ((get_or ls i no_triple).kind ≡ 27 → ⊥) → (b || has_case (drop (i + 1) ls)) ≡ (b || has_case (drop i ls))
-  case-turn b h n = sym (ap (λ (x : Bool). b || x) (here h ∙ rw (ne_eqb (get_or ls i no_triple).kind 27 n)))
+  pub case-turn : (b : Bool) → i < length ls → (b || eqb (get_or ls i no_triple).kind 27 || has_case (drop (i + 1) ls)) ≡ (b || has_case (drop i ls))
+  case-turn true h = refl
+  case-turn false h = sym (here h)
 
   pub case-end : (b : Bool) → length ls ≤ i → b ≡ (b || has_case (drop i ls))
   unfolding has_case

@@ -1,10 +1,8 @@
 -- The room that Inf is lent. Assumes nothing.
-use mathlib.Core.Path.{◌≡◌, sym, ap, ◌∙◌}
-use mathlib.Core.List.{List}
-use Prim.Native.Nat.{ℕ}
+use Rattle.sheet.specs.declared.Extent.{Extent}
+use Rattle.std.proofs.Common.{Option, ◌≡◌, sym, ap, ◌∙◌, List, ℕ}
 use Rattle.nodes.specs.Nodes.{Ty, nodes_at}
 use Rattle.spelling.specs.declared.Triple.{Triple}
-use Rattle.sheet.specs.declared.Found.{Found}
 use Rattle.sheet.specs.Plan.{find_entry}
 use Rattle.operations.specs.declared.Run.{Run}
 use Rattle.arms.specs.Rooms.{Room, room, case_room}
@@ -25,5 +23,5 @@ pub case-scratch : (c : Run) (ls : List Triple) (t : Ty) {n m line at : ℕ} (w 
     → scratch l' r' w' v' ≡ case_scratch c ls t m at (scratch l r w v)
 case-scratch c ls t w v l r en el h = ap (λ (x : Room). scratch x.left x.right x.frames x.bindings) h ∙ rw (en, el)
 
-pub constructor-out : (c : Run) (ls : List Triple) (l : List ℕ) {x y : ℕ} {v : Found} → x ≡ y → v ≡ find_entry 1 x ls → constructor_out c ls l v ≡ constructor_out c ls l (find_entry 1 y ls)
+pub constructor-out : (c : Run) (ls : List Triple) (l : List ℕ) {x y : ℕ} {v : (Option Extent)} → x ≡ y → v ≡ find_entry 1 x ls → constructor_out c ls l v ≡ constructor_out c ls l (find_entry 1 y ls)
 constructor-out c ls l e q = ap (constructor_out c ls l) (q ∙ ap (λ (i : ℕ). find_entry 1 i ls) e)

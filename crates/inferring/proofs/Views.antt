@@ -1,23 +1,15 @@
 -- A term by the kind of its first line: what the code reads of it is its view. Assumes nothing.
-use mathlib.Core.Path.{◌≡◌, refl, sym, ap, ap₂, ◌∙◌}
-use mathlib.Core.Bool.{Bool, true, false, not, ◌&&◌, ◌||◌, and-eq-true_iff}
-use mathlib.Core.Logic.{◌≢◌}
-use mathlib.Core.List.{List}
-use Prim.Native.Nat.{ℕ, ◌+◌, ◌*◌, ◌-◌, ◌≤◌, ◌<◌}
-use native.Mathlib.Omega.{arith}
-use lib.ListN.{length, take, drop}
-use lib.Dec.{eqb, leb}
-use borrow.Author.Tests.{leb-true, eqb-true, eqb-false}
+use Rattle.sheet.specs.declared.Extent.{Extent}
+use Rattle.std.proofs.Common.{Some, Option, ◌≡◌, refl, sym, ap, ap₂, ◌∙◌, Bool, true, false, not, ◌&&◌, ◌||◌, List, ℕ, ◌+◌, ◌*◌, ◌-◌, ◌≤◌, ◌<◌, arith, length, take, drop, eqb, leb, leb-true, eqb-true}
+use mathlib.Core.Bool.{and-eq-true_iff}
+use borrow.Author.Tests.{eqb-false}
 use Rattle.nodes.specs.Nodes.{Ty, nodes_at}
 use Rattle.spelling.specs.declared.Triple.{Triple}
-use Rattle.spelling.specs.declared.Line.TheVariants.{Spelt}
 use Rattle.kinds.specs.declared.Row.{Row}
 use Rattle.kinds.specs.Kinds.{a_term, parts_of, row_of, each_parts, table}
 use Rattle.kinds.specs.Kinds.{find as find_row}
 use Rattle.grammar.specs.Grammar.{ok}
 use Rattle.grammar.specs.Grammar.{part as item}
-use Rattle.sheet.specs.declared.Found.{Found}
-use Rattle.sheet.specs.declared.Found.TheVariants.{At}
 use Rattle.sheet.specs.Plan.{part_line, nodes_of, find_entry, type_at}
 use Rattle.sheet.specs.Rows.{rows, Bound, Ended}
 use Rattle.sheet.proofs.Lines.{line-none}
@@ -45,7 +37,7 @@ use Rattle.inferring.specs.Inferring.{TypeFits, InferAsk, CaseRoom, kind_at, Ter
 abbrev term_kind : ℕ → Row → Bool
 term_kind k r = not (eqb r.sort a_term) || (leb 21 k && leb k 30)
 
-pub term-kind : (t : Triple) → ok (item a_term) (Spelt t) ≡ true → (21 ≤ t.kind) × (t.kind ≤ 30)
+pub term-kind : (t : Triple) → ok (item a_term) (Some t) ≡ true → (21 ≤ t.kind) × (t.kind ≤ 30)
 unfolding table
 term-kind t e =
     let h = (due-following a_term t e).0 in
@@ -169,10 +161,10 @@ module _ {K : ℕ} {b : List ℕ} {c : Run} {s : List ℕ} {p : ℕ} {t : List �
   case-rule e qn qi qj = rw (qn, qi, qj, ← line-none ls (p + 1) 0 refl) (case-view E T ls p a.stands (a.kind ∙ e))
 
   -- ---- a Constructor's type, where the plan has one
-  pub constructor-rule : K ≡ 26 → {x : ℕ} → x ≡ head.value → {v : Found} → v ≡ find_entry 1 x ls → constructor E x T (type_at ls v) ≡ infer_by E T (term_view (term_at ls p))
+  pub constructor-rule : K ≡ 26 → {x : ℕ} → x ≡ head.value → {v : (Option Extent)} → v ≡ find_entry 1 x ls → constructor E x T (type_at ls v) ≡ infer_by E T (term_view (term_at ls p))
   constructor-rule e qx q = ap (constructor E _ T) (ap (type_at ls) q ∙ sym (env-lookup ls _)) ∙ ap (infer_by E T) (constructor-view e qx)
 
-  pub open-asks : (l : List ℕ) → TypeFits s l → (x : ℕ) {line count : ℕ} → At line count ≡ find_entry 1 x ls → OpenAsk b c ls line count × Bound ls s line count × (2 * count ≤ length l) × (0 + 2 * tn ≤ length t) × Bookable b c
+  pub open-asks : (l : List ℕ) → TypeFits s l → (x : ℕ) {line count : ℕ} → Some (record { line = line; count = count }) ≡ find_entry 1 x ls → OpenAsk b c ls line count × Bound ls s line count × (2 * count ≤ length l) × (0 + 2 * tn ≤ length t) × Bookable b c
   open-asks l h x q =
       let f = a.few in
       let e = entry_at ls x _ _ (record { formed = a.sheet; few = omega arith }) q in
@@ -187,13 +179,6 @@ module _ {b : List ℕ} {c : Run} {s : List ℕ} {p : ℕ} {t : List ℕ} {tn : 
 
   pub kinds : (21 ≤ kind_at s p) × (kind_at s p ≤ 30)
   kinds = term-kind (line_of (rows s) p) (head_ok s p a.stands a.term).0
-
-  -- the last of the kinds, where it is none of those before
-  pub last-kind : {h : Triple} → h ≡ line_of (rows s) p → 25 ≤ kind_at s p → h.kind ≢ 25 → h.kind ≢ 26 → h.kind ≢ 27 → h.kind ≢ 28 → h.kind ≢ 29 → TermAsk 30 b c s p t tn
-  last-kind q l f1 f2 f3 f4 f5 =
-      let k = kinds.1 in
-      let e = ap (λ (t : Triple). t.kind) q in
-      term_asks q (omega arith)
 
   pub case-asks : {r w v : List ℕ} → CaseRoom s r w v → kind_at s p ≡ 27 → {n j : ℕ} → n ≡ (line_of (rows s) p).count → j ≡ part_line (rows s) (p + 1) 1 → CaseAsk b c (rows s) j n w v l r t tn × Ended s
   case-asks room e qn q =

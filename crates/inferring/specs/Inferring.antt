@@ -20,7 +20,8 @@ use Rattle.applying.specs.Applying.{env_on, VarsFit}
 abbrev pub TypeFits : List ℕ → List ℕ → Type 0
 TypeFits s l = 2 * length (rows s) + 2 ≤ length l
 
--- A whole term from this line of the sheet on, the taken type at the front of t, room for a type of the sheet or of a Var.
+-- A whole term from this line of the sheet on, the taken type at the front of t, room for a type of the sheet or of a
+-- Var.
 pub record InferAsk (b : List ℕ) (c : Run) (s : List ℕ) (line : ℕ) (t : List ℕ) (tn : ℕ) (l : List ℕ) : Type 0 where
   pub formed : Bookable b c
   pub ready : Ready b c

@@ -1,10 +1,10 @@
--- Every word of the four buffers that Inf is lent, by the kind of the term's first line. Assumes nothing: these are definitions.
-use Rattle.std.specs.Prelude.{cond, List, ℕ, ◌+◌, ◌-◌, eqb, get_or, take, drop}
+-- Every word of the four buffers that Inf is lent, by the kind of the term's first line. Assumes nothing: these are
+-- definitions.
+use Rattle.sheet.specs.declared.Extent.{Extent}
+use Rattle.std.specs.Prelude.{cond, List, ℕ, ◌+◌, ◌-◌, eqb, get_or, take, drop, Option, Some, None}
 use Rattle.std.proofs.lemmas.List.Edits.{sets}
 use Rattle.nodes.specs.Nodes.{Ty, words}
 use Rattle.spelling.specs.declared.Triple.{Triple}
-use Rattle.sheet.specs.declared.Found.{Found}
-use Rattle.sheet.specs.declared.Found.TheVariants.{At, Nothing}
 use Rattle.sheet.specs.Plan.{no_triple, nodes_of, part_line, find_entry}
 use Rattle.sheet.specs.Rows.{rows}
 use Rattle.judgment.specs.Types.{arrow, unknown}
@@ -40,9 +40,9 @@ abbrev pub lambda_out : Run → List ℕ → ℕ → List ℕ → List ℕ
 lambda_out c s at l = sets l 0 (words (arrow (type_on s (at + 1) (part_line (rows s) (at + 1) 1 - (at + 1))) (unknown c.counters.fresh)))
 
 -- a Constructor: its type opened, where the sheet has one
-abbrev pub constructor_out : Run → List Triple → List ℕ → Found → List ℕ
-constructor_out c ls l (At line n) = sets l 0 (words (opened_of (nodes_of (take n (drop line ls))) c.counters.fresh))
-constructor_out c ls l Nothing = l
+abbrev pub constructor_out : Run → List Triple → List ℕ → Option Extent → List ℕ
+constructor_out c ls l (Some e) = sets l 0 (words (opened_of (nodes_of (take e.count (drop e.line ls))) c.counters.fresh))
+constructor_out c ls l None = l
 
 -- a Case of n arms, the first at `line`; the taken type is t
 abbrev pub case_scratch : Run → List Triple → Ty → ℕ → ℕ → Scratch → Scratch

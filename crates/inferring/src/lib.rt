@@ -1,5 +1,7 @@
-// Inf (worklist.rs: `solve_inference`): a term by the kind of its first line, which is line `at`. A function a term reads its parts off the sheet and performs its rule.
-// The taken type is the tn nodes at the front of t; l, r, w and v are scratch, the last three for a Case alone: a sheet that has none may lend them empty.
+// Inf (worklist.rs: `solve_inference`): a term by the kind of its first line, which is line `at`. A function a term
+// reads its parts off the sheet and performs its rule.
+// The taken type is the tn nodes at the front of t; l, r, w and v are scratch, the last three for a Case alone: a sheet
+// that has none may lend them empty.
 #![tactic(auto)]
 
 ghost use Rattle.std.specs.Prelude.{◌≡◌, List, ℕ, ◌+◌, ◌≤◌, ◌<◌, length, get_or};
@@ -26,7 +28,7 @@ use inference::{
 use judgment::TypeError;
 use nodes::wide;
 use operations::{Run, refuse};
-use sheet::{Found, find_entry, line_count, part_line, triple_at};
+use sheet::{Extent, find_entry, line_count, part_line, triple_at};
 
 // The value of a line, a name or an operator.
 fn value_at(s: &[u64], at: usize) -> u32
@@ -44,18 +46,14 @@ fn part_at(s: &[u64], at: usize, i: usize) -> u32
     part_line(s, at + 1, i) as u32
 }
 
-// The sheet has a line of a Case. The loop goes on where it found one: the compiler takes several lines at once if there is no other way out.
+// The sheet has a line of a Case. The loop goes on where it found one: the compiler takes several lines at once if
+// there is no other way out.
 pub fn has_case(s: &[u64]) -> bool
     ensures { result ≡ has_case (rows s.now) }
 {
-    let lines = line_count(s);
     let mut found = false;
-    let mut i = 0;
-    while i < lines {
-        if triple_at(s, i).kind == 27 {
-            found = true;
-        }
-        i += 1;
+    for i in 0..line_count(s) {
+        found |= triple_at(s, i).kind == 27;
     }
     found
 }
@@ -131,10 +129,10 @@ fn constructor_term(
     ensures { Infers board.old c s.now at t.now tn board.new result × (l.new ≡ constructor_out c (rows s.now) l.old (find_entry 1 (get_or (rows s.now) at no_triple).value (rows s.now))) }
 {
     let name = value_at(s, at);
-    match find_entry(s, 1, name as u64) {
-        Found::At { line, count } => infer_constructor(board, c, s, line, count, l, t, 0, tn),
-        Found::Nothing => refuse(c, TypeError::UnboundDataConstructor(name)),
-    }
+    let Some(Extent { line, count }) = find_entry(s, 1, name as u64) else {
+        return refuse(c, TypeError::UnboundDataConstructor(name));
+    };
+    infer_constructor(board, c, s, line, count, l, t, 0, tn)
 }
 
 // Case (scrutinee, arms): the arms stand after the scrutinee.
@@ -192,42 +190,7 @@ fn intrinsic_term(board: &mut [u32], c: Run, s: &[u64], at: usize, t: &[u32], tn
     infer_intrinsic(board, c, name, count, e, t, tn)
 }
 
-// A term of kind 25 to 30; no term has a higher one.
-fn infer_other(
-    board: &mut [u32],
-    c: Run,
-    s: &[u64],
-    at: usize,
-    t: &[u32],
-    tn: usize,
-    l: &mut [u32],
-    r: &mut [u32],
-    w: &mut [usize],
-    v: &mut [usize],
-) -> Run
-    requires { InferAsk board.old c s.now at t.now tn l.old × CaseLent s.now r.old w.old v.old × (25 ≤ kind_at s.now at) }
-    ensures { Infers board.old c s.now at t.now tn board.new result × (scratch l.new r.new w.new v.new ≡ infer_scratch board.old c s.now at (nodes_at t.now 0 tn) (scratch l.old r.old w.old v.old)) }
-{
-    let kind = triple_at(s, at).kind;
-    if kind == 25 {
-        return type_lambda_term(board, c, s, at, t, tn);
-    }
-    if kind == 26 {
-        return constructor_term(board, c, s, at, t, tn, l);
-    }
-    if kind == 27 {
-        return case_term(board, c, s, at, t, tn, l, r, w, v);
-    }
-    if kind == 28 {
-        return bin_op_term(board, c, s, at, t, tn);
-    }
-    if kind == 29 {
-        return if_term(board, c, s, at, t, tn);
-    }
-    intrinsic_term(board, c, s, at, t, tn)
-}
-
-// A term of kind 21 to 30; no term has a lower one.
+// A term of kind 21 to 30; there are no others.
 fn infer_term(
     board: &mut [u32],
     c: Run,
@@ -243,20 +206,18 @@ fn infer_term(
     requires { InferAsk board.old c s.now at t.now tn l.old × CaseLent s.now r.old w.old v.old }
     ensures { Infers board.old c s.now at t.now tn board.new result × (scratch l.new r.new w.new v.new ≡ infer_scratch board.old c s.now at (nodes_at t.now 0 tn) (scratch l.old r.old w.old v.old)) }
 {
-    let kind = triple_at(s, at).kind;
-    if kind == 21 {
-        return variable_term(board, c, s, at, t, tn, l);
+    match triple_at(s, at).kind {
+        21 => variable_term(board, c, s, at, t, tn, l),
+        22 => infer_lit_int(board, c, t, tn),
+        23 => lambda_term(board, c, s, at, t, tn, l),
+        24 => apply_term(board, c, s, at, t, tn),
+        25 => type_lambda_term(board, c, s, at, t, tn),
+        26 => constructor_term(board, c, s, at, t, tn, l),
+        27 => case_term(board, c, s, at, t, tn, l, r, w, v),
+        28 => bin_op_term(board, c, s, at, t, tn),
+        29 => if_term(board, c, s, at, t, tn),
+        _ => intrinsic_term(board, c, s, at, t, tn),
     }
-    if kind == 22 {
-        return infer_lit_int(board, c, t, tn);
-    }
-    if kind == 23 {
-        return lambda_term(board, c, s, at, t, tn, l);
-    }
-    if kind == 24 {
-        return apply_term(board, c, s, at, t, tn);
-    }
-    infer_other(board, c, s, at, t, tn, l, r, w, v)
 }
 
 // Inf of the term that starts at a line.

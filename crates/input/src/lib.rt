@@ -1,52 +1,60 @@
-// Input into a buffer, a read that failed told apart from the end of the input.
+// Input into a buffer: bytes, a read that failed told apart from the end of the input, and the arguments of a program.
 #![tactic(auto)]
 
 ghost use Rattle.std.specs.Prelude.{◌≤◌, length};
 ghost use Rattle.input.specs.Filled.{Filled};
 
+use std::env::FillError;
 use std::io::Read;
+use std::rt::Env;
+use std::{io, str};
 
-// Where the bytes in a buffer end, or that a read failed.
-#[derive(Clone, Copy)]
-pub enum Got {
-    To(usize),
-    Failed,
-}
+// Bytes of the longest name of a file that is read.
+const NAME_BYTES: usize = 4096;
 
-// One read into the bytes from `at` on; none come at the end of the input.
-fn read_from<R: Read>(reader: &mut R, buf: &mut [u8], at: usize) -> Got
-    requires { at ≤ length buf.old }
-    ensures { Filled at result buf.old buf.new }
-{
-    match reader.read(&mut buf[at..]) {
-        Ok(n) => Got::To(at + n),
-        Err(_) => Got::Failed,
-    }
-}
-
-// Reads into the bytes from `at` on, until the buffer is full, the input ends or a read fails.
-pub fn fill_from<R: Read>(reader: &mut R, buf: &mut [u8], at: usize) -> Got
+// Reads into the bytes from `at` on, until the buffer is full, the input ends or a read fails. Answers where the bytes
+// in the buffer end.
+pub fn fill_from<R: Read>(reader: &mut R, buf: &mut [u8], at: usize) -> io::Result<usize>
     requires { at ≤ length buf.old }
     ensures { Filled at result buf.old buf.new }
 {
     let mut end = at;
     while end < buf.len() {
-        let Got::To(n) = read_from(reader, buf, end) else {
-            return Got::Failed;
-        };
-        if n == end {
-            return Got::To(end);
+        let n = reader.read(&mut buf[end..])?;
+        if n == 0 {
+            break;
         }
-        end = n;
+        end += n;
     }
-    Got::To(end)
+    Ok(end)
 }
 
 // The same from standard input.
-pub fn fill(rt: &HostRuntime, buf: &mut [u8], at: usize) -> Got
+pub fn fill(rt: &HostRuntime, buf: &mut [u8], at: usize) -> io::Result<usize>
     requires { at ≤ length buf.old }
     ensures { Filled at result buf.old buf.new }
 {
-    let mut stdin = rt.stdin();
-    fill_from(&mut stdin, buf, at)
+    fill_from(&mut rt.stdin(), buf, at)
+}
+
+// Hands each argument of the program to `each`, as the name of a file. Of one that is no text, or too long, it says so
+// on standard error.
+pub fn each_file<P: Env + Eprint, F: FnMut(&str)>(rt: &P, program: &str, mut each: F)
+    requires { F.IsAlwaysCallable each }
+{
+    let mut buf = [0u8; NAME_BYTES];
+    for at in 1..usize::MAX {
+        match rt.arg(at, &mut buf) {
+            Ok(bytes) => match str::from_utf8(&buf[..bytes]) {
+                Ok(name) => each(name),
+                Err(_) => {
+                    let _told = eprintln!(rt; "{program}: the name of a file is no text");
+                }
+            },
+            Err(FillError::TooLong) => {
+                let _told = eprintln!(rt; "{program}: the name of a file is too long");
+            }
+            Err(FillError::NotPresent) => return,
+        }
+    }
 }

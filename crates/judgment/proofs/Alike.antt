@@ -1,8 +1,8 @@
 -- Boards that no rule tells apart, and rules that ask no more of a board than these share. Assumes nothing.
+use Rattle.std.specs.Prelude.{Option, None, Some}
 use Prim.Native.Nat.{ℕ, zero, suc, ◌+◌}
 use mathlib.Core.Path.{◌≡◌, refl, ap, ap₂, subst}
 use mathlib.Core.Bool.{Bool, true, false, cond}
-use mathlib.Core.Option.{Option, none, some}
 use mathlib.Core.List.{[], ◌∷◌, ◌++◌, List}
 use lib.ListN.{length}
 use Rattle.nodes.proofs.ListLaws.{cond_ind}
@@ -67,8 +67,8 @@ either true f g = f
 either false f g = g
 
 solving-agree : (f : Option Ty) (s : Ty) {a b c a' b' c' : Outcome} → Agree a a' → Agree b b' → Agree c c' → Agree (solving f s a b c) (solving f s a' b' c')
-solving-agree none s f g h = f
-solving-agree (some t) s f g h = either (can_unify s t) g h
+solving-agree None s f g h = f
+solving-agree (Some t) s f g h = either (can_unify s t) g h
 
 -- the refusal that no rule raises, only a solve
 abbrev pub NotScope : TypeError → Type 0
@@ -117,8 +117,8 @@ level-either true f g = f
 level-either false f g = g
 
 level-solving : (o : Option Ty) (s : Ty) {a b c a' b' c' : List Operation} → Levelled a a' → Levelled b b' → Levelled c c' → Levelled (solving o s a b c) (solving o s a' b' c')
-level-solving none s f g h = f
-level-solving (some t) s f g h = level-either (can_unify s t) g h
+level-solving None s f g h = f
+level-solving (Some t) s f g h = level-either (can_unify s t) g h
 
 -- every solution is in scope
 abbrev pub Open : Limits → Type 0
@@ -255,14 +255,14 @@ subtype-steady s t = λ l r. cond_ind Steady (eq_ty l r) (λ _. tt) (λ _. subty
 
 module _ (E : Env) where
   pub variable-steady : (x : ℕ) (t : Ty) (a b c : Option Ty) → Steady (variable E x t a b c)
-  variable-steady x t (some u) b c = tt
-  variable-steady x t none (some u) c = tt
-  variable-steady x t none none (some u) = tt
-  variable-steady x t none none none = tt
+  variable-steady x t (Some u) b c = tt
+  variable-steady x t None (Some u) c = tt
+  variable-steady x t None None (Some u) = tt
+  variable-steady x t None None None = tt
 
   check_arrow-steady : (e : Term) (t a b : Ty) (f : Option Lambda) → Steady (check_arrow E e t a b f)
-  check_arrow-steady e t a b none = λ u. tt
-  check_arrow-steady e t a b (some f) = tt
+  check_arrow-steady e t a b None = λ u. tt
+  check_arrow-steady e t a b (Some f) = tt
 
   pub check_by-steady : (e : Term) (t : Ty) (v : View) → Steady (check_by E e t v)
   check_by-steady e t (is_arrow a b) = check_arrow-steady e t a b (lambda_of e)

@@ -1,10 +1,10 @@
 -- The order in which the Vars of a pattern are pushed shows in no result: `any_order`. Assumes nothing.
+use Rattle.std.specs.Prelude.{Option, None, Some}
 use Prim.Native.Nat.{ℕ, zero, suc, ◌+◌, ◌≤◌}
 use native.Mathlib.Nat.{le_trans}
 use native.Mathlib.Omega.{arith}
 use mathlib.Core.Path.{◌≡◌, refl, sym, ◌∙◌, ap, ap₂, subst}
 use mathlib.Core.Bool.{Bool, true, false, cond, ◌&&◌}
-use mathlib.Core.Option.{Option, none, some}
 use mathlib.Core.List.{List, [], ◌∷◌, ◌++◌, append-nil}
 use lib.Dec.{eqb}
 use lib.ListN.{length}
@@ -154,8 +154,8 @@ module _ (L : Limits) where
 
     pattern_constructor-parallel : (x c : ℕ) (t : Ty) {f g : List Ty → Rule} (o : Option Ty) → ((ps : List Ty) → Parallel L (f ps) (g ps))
         → Parallel L (pattern_constructor E x c t f o) (pattern_constructor E x c t g o)
-    pattern_constructor-parallel x c t none k = refuse-parallel L tt
-    pattern_constructor-parallel x c t (some u) k =
+    pattern_constructor-parallel x c t None k = refuse-parallel L tt
+    pattern_constructor-parallel x c t (Some u) k =
         names-parallel (front_names u) [] (λ m. signature-parallel (length (rename m (after_front u))) [] (rename m (after_front u)) (parts-parallel c t k))
 
     pattern_by-parallel : (x c : ℕ) (t : Ty) (bs : Bindings) {f g : List Ty → Bindings → Rule} (v : PatternView) → Rising bs
@@ -174,8 +174,8 @@ module _ (L : Limits) where
         pattern_by-parallel l.value l.count t bs (pattern_view l.kind) h (λ ps bs' h'. patterns-parallel ls (ps ++ ts) bs' h' k)
 
     constructor-parallel : (x : ℕ) (t : Ty) (o : Option Ty) → Parallel L (constructor E x t o) (constructor E x t o)
-    constructor-parallel x t none = refuse-parallel L tt
-    constructor-parallel x t (some k) = names-parallel (front_names k) [] (λ m. push-parallel L (done-parallel L))
+    constructor-parallel x t None = refuse-parallel L tt
+    constructor-parallel x t (Some k) = names-parallel (front_names k) [] (λ m. push-parallel L (done-parallel L))
 
     module _ (order : Order) (reorders : Reorders order) where
       arms-parallel : (n : ℕ) (arms : Term) (s t : Ty) → Parallel L (check_arms_in order E n arms s t) (check_arms E n arms s t)

@@ -22,7 +22,7 @@ use Rattle.judgment.specs.Solutions.{Solution, key, value, find, links, any_solv
 use Rattle.judgment.specs.Board.{board_nodes, find_var, before, perform, operations}
 use Rattle.judgment.specs.Rules.{instantiate_from, subtype, open_names, signature_from, insert, push_vars, check_patterns, check_arms, infer_app}
 use Rattle.judgment.specs.Run.{run_from, check_type}
-use Rattle.judgment.specs.Result.{Result, numbers, Buffers, Called, padded, place_from, node_words, book_words, report_words, board_words, result_of, run_of, judge, limits_for, limits, refused_at, written, by_check, call, threes_from}
+use Rattle.judgment.specs.Result.{Judged, numbers, Buffers, Called, padded, place_from, node_words, book_words, report_words, board_words, result_of, run_of, judge, limits_for, limits, refused_at, written, by_check, call, threes_from}
 use Rattle.judgment.proofs.Words.{length-board, length-book, length-report}
 use Rattle.judgment.proofs.Wall.{l, first_sheet, Row}
 use Rattle.judgment.proofs.Telling.{answers}
@@ -136,19 +136,19 @@ unfolding call line_text field_text field_from line_of line_at lines_from lines_
 highest-limit = refl
 
 -- a run leaves 12,288 words of the board as 0 and keeps the others
-pub board-after : (w : ℕ) (b : Buffers) (r : Result) → 12288 ≤ length b.board → (written w b r).after.board ≡ replicate 12288 0 ++ drop 12288 b.board
+pub board-after : (w : ℕ) (b : Buffers) (r : Judged) → 12288 ≤ length b.board → (written w b r).after.board ≡ replicate 12288 0 ++ drop 12288 b.board
 unfolding board_words
 board-after w b r h = sets-eq board_words b.board 0 h
     ∙ ap (λ (k : ℕ). board_words ++ drop k b.board) (zero-add (length board_words) ∙ length-board)
 
 -- and the words of the book and of the report, those that follow in a longer one being kept
-pub book-after : (w : ℕ) (b : Buffers) (r : Result) → 11192 ≤ length b.book → (written w b r).after.book ≡ book_words r.solutions r.levels r.answer.fresh ++ drop 11192 b.book
+pub book-after : (w : ℕ) (b : Buffers) (r : Judged) → 11192 ≤ length b.book → (written w b r).after.book ≡ book_words r.solutions r.levels r.answer.fresh ++ drop 11192 b.book
 book-after w b r h =
     let ws = book_words r.solutions r.levels r.answer.fresh in
     let whole : 0 + length ws ≡ 11192 = zero-add (length ws) ∙ length-book r.solutions r.levels r.answer.fresh in
     sets-eq ws b.book 0 (subst (λ (k : ℕ). k ≤ length b.book) (sym whole) h) ∙ ap (λ (k : ℕ). ws ++ drop k b.book) whole
 
-pub report-after : (w : ℕ) (b : Buffers) (r : Result) → 4 * w ≤ length b.report → (written w b r).after.report ≡ report_words w r.report ++ drop (4 * w) b.report
+pub report-after : (w : ℕ) (b : Buffers) (r : Judged) → 4 * w ≤ length b.report → (written w b r).after.report ≡ report_words w r.report ++ drop (4 * w) b.report
 report-after w b r h =
     let ws = report_words w r.report in
     let whole : 0 + length ws ≡ 4 * w = zero-add (length ws) ∙ length-report w r.report in

@@ -1,8 +1,8 @@
 -- A rule performed is a chain of operations on outcomes (`performs`), and a refused outcome stays (`stays`); so with the levels (`levels-performed`, `levels-stay`). Assumes nothing.
+use Rattle.std.specs.Prelude.{Option, None, Some}
 use Prim.Native.Nat.{ℕ, suc, ◌+◌}
 use mathlib.Core.Path.{◌≡◌, refl, ◌∙◌}
 use mathlib.Core.Bool.{Bool, true, false, cond}
-use mathlib.Core.Option.{Option, none, some}
 use mathlib.Core.List.{[], ◌∷◌, ◌++◌}
 use lib.ListN.{length}
 use Rattle.nodes.specs.Nodes.{Ty}
@@ -36,12 +36,12 @@ module _ (L : Limits) where
   either false e f = f
 
   solved : (p : Rule) (o : Option Ty) (t : Ty) (x y z : Outcome) → perform_o L p (solving o t x y z) ≡ solving o t (perform_o L p x) (perform_o L p y) (perform_o L p z)
-  solved p none t x y z = refl
-  solved p (some u) t x y z = choice p (can_unify t u) y z
+  solved p None t x y z = refl
+  solved p (Some u) t x y z = choice p (can_unify t u) y z
 
   three : (o : Option Ty) (t : Ty) {x x' y y' z z' : Outcome} → x ≡ x' → y ≡ y' → z ≡ z' → solving o t x y z ≡ solving o t x' y' z'
-  three none t e f g = e
-  three (some u) t e f g = either (can_unify t u) f g
+  three None t e f g = e
+  three (Some u) t e f g = either (can_unify t u) f g
 
   -- the definition's `perform` is the chain
   pub performs : (p : Rule) (Γ : Board) (σ : Solutions) (n : ℕ) → perform_o L p (finished (state Γ σ n)) ≡ perform L p Γ σ n
@@ -101,22 +101,22 @@ module _ (L : Limits) where
       by h false q = rw q (levels-stay p BoardFull [] (state Γ σ n) v)
   levels-performed (solve k t p) Γ σ n v = by (levels-performed p Γ (σ ++ (◌≔◌ k t ∷ [])) n (lower (v k) t v)) (levels-performed p Γ σ n v) (find k σ) refl
     where
-      fits : perform_l L p (finished (state Γ (σ ++ (◌≔◌ k t ∷ [])) n)) (lower (v k) t v) ≡ levels_after (operations L p Γ (σ ++ (◌≔◌ k t ∷ [])) n) (lower (v k) t v) → find k σ ≡ none → L.scope k t ≡ true → (b : Bool) → within (solution_nodes σ + length t) L.solved ≡ b
+      fits : perform_l L p (finished (state Γ (σ ++ (◌≔◌ k t ∷ [])) n)) (lower (v k) t v) ≡ levels_after (operations L p Γ (σ ++ (◌≔◌ k t ∷ [])) n) (lower (v k) t v) → find k σ ≡ None → L.scope k t ≡ true → (b : Bool) → within (solution_nodes σ + length t) L.solved ≡ b
           → perform_l L (solve k t p) (finished (state Γ σ n)) v ≡ levels_after (operations L (solve k t p) Γ σ n) v
       fits h q r true e = rw (q, r, e) h
       fits h q r false e = rw (q, r, e) (levels-stay p SolutionsFull [] (state Γ σ n) v)
 
-      scoped : perform_l L p (finished (state Γ (σ ++ (◌≔◌ k t ∷ [])) n)) (lower (v k) t v) ≡ levels_after (operations L p Γ (σ ++ (◌≔◌ k t ∷ [])) n) (lower (v k) t v) → find k σ ≡ none → (b : Bool) → L.scope k t ≡ b → perform_l L (solve k t p) (finished (state Γ σ n)) v ≡ levels_after (operations L (solve k t p) Γ σ n) v
+      scoped : perform_l L p (finished (state Γ (σ ++ (◌≔◌ k t ∷ [])) n)) (lower (v k) t v) ≡ levels_after (operations L p Γ (σ ++ (◌≔◌ k t ∷ [])) n) (lower (v k) t v) → find k σ ≡ None → (b : Bool) → L.scope k t ≡ b → perform_l L (solve k t p) (finished (state Γ σ n)) v ≡ levels_after (operations L (solve k t p) Γ σ n) v
       scoped h q true e = fits h q e (within (solution_nodes σ + length t) L.solved) refl
       scoped h q false e = rw (q, e) (levels-stay p OutOfScope [] (state Γ σ n) v)
 
-      known : perform_l L p (finished (state Γ σ n)) v ≡ levels_after (operations L p Γ σ n) v → (u : Ty) → find k σ ≡ some u → (b : Bool) → can_unify t u ≡ b → perform_l L (solve k t p) (finished (state Γ σ n)) v ≡ levels_after (operations L (solve k t p) Γ σ n) v
+      known : perform_l L p (finished (state Γ σ n)) v ≡ levels_after (operations L p Γ σ n) v → (u : Ty) → find k σ ≡ Some u → (b : Bool) → can_unify t u ≡ b → perform_l L (solve k t p) (finished (state Γ σ n)) v ≡ levels_after (operations L (solve k t p) Γ σ n) v
       known h u q true e = rw (q, e) h
       known h u q false e = rw (q, e) (levels-stay p TypeUnificationError [] (state Γ σ n) v)
 
       by : perform_l L p (finished (state Γ (σ ++ (◌≔◌ k t ∷ [])) n)) (lower (v k) t v) ≡ levels_after (operations L p Γ (σ ++ (◌≔◌ k t ∷ [])) n) (lower (v k) t v) → perform_l L p (finished (state Γ σ n)) v ≡ levels_after (operations L p Γ σ n) v → (o : Option Ty) → find k σ ≡ o → perform_l L (solve k t p) (finished (state Γ σ n)) v ≡ levels_after (operations L (solve k t p) Γ σ n) v
-      by h g none q = scoped h q (L.scope k t) refl
-      by h g (some u) q = known g u q (can_unify t u) refl
+      by h g None q = scoped h q (L.scope k t) refl
+      by h g (Some u) q = known g u q (can_unify t u) refl
   levels-performed (zonk t f) Γ σ n v = by (levels-performed (f (write_out σ t)) Γ σ n v) (within (length (write_out σ t)) L.written) refl
     where
       by : perform_l L (f (write_out σ t)) (finished (state Γ σ n)) v ≡ levels_after (operations L (f (write_out σ t)) Γ σ n) v → (b : Bool) → within (length (write_out σ t)) L.written ≡ b → perform_l L (zonk t f) (finished (state Γ σ n)) v ≡ levels_after (operations L (zonk t f) Γ σ n) v

@@ -1,9 +1,9 @@
 -- What a rule did, as `operations` lists it, is what `perform` left; and what all operations of a run are like (`run-orderly`): none meets a solved unknown. Assumes nothing.
+use Rattle.std.specs.Prelude.{Option, None, Some}
 use Prim.Native.Nat.{ℕ, zero, suc, ◌+◌}
 use native.Mathlib.Omega.{arith}
 use mathlib.Core.Path.{◌≡◌, refl, sym, ◌∙◌, ap, subst⁻¹}
 use mathlib.Core.Bool.{Bool, true, false, cond}
-use mathlib.Core.Option.{Option, none, some}
 use mathlib.Core.List.{List, [], ◌∷◌, ◌++◌, append-nil, append_assoc}
 use lib.ListN.{length}
 use Rattle.nodes.specs.Nodes.{Ty}
@@ -48,8 +48,8 @@ refuses r ts Γ σ n = record { gives = sym (append-nil σ); counts = λ p. omeg
 
 solve-left : {Γ : Board} {σ : Solutions} (f : Option Ty) (s : Ty) {x y z : List Operation} {o q r : Outcome} → Left Γ σ x o → Left Γ σ y q → Left Γ σ z r
     → Left Γ σ (solving f s x y z) (solving f s o q r)
-solve-left none s a b c = a
-solve-left (some t) s a b c = both (can_unify s t) b c
+solve-left None s a b c = a
+solve-left (Some t) s a b c = both (can_unify s t) b c
 
 -- What a good rule may do: an unknown is split before its parts are made, and no solve meets an unknown solved before.
 abbrev pub Orderly : Operation → Type 0

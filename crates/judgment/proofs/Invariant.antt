@@ -1,11 +1,11 @@
 -- What every state of a run has, and what a rule must show to keep it.
 -- Assumes nothing.
+use Rattle.std.specs.Prelude.{Option, None, Some}
 use Prim.Native.Nat.{ℕ, suc, ◌+◌, ◌≤◌, ◌<◌}
 use native.Mathlib.Nat.{le_trans}
 use native.Mathlib.Omega.{arith}
 use mathlib.Core.Path.{◌≡◌, refl, sym, ◌∙◌, subst⁻¹}
 use mathlib.Core.Bool.{cond}
-use mathlib.Core.Option.{Option, none, some}
 use mathlib.Core.List.{[], ◌∷◌, ◌++◌, append-nil, append_assoc}
 use lib.ListN.{length}
 use Rattle.nodes.specs.Lists.{All}
@@ -146,8 +146,8 @@ grown-solve x Γ σ (finished (state Γ' σ' n)) g = (g.0, (x ∷ g.1.0, g.1.1 �
 grown-solve x Γ σ (refused r ts (state Γ' σ' n)) g = (g.0, (x ∷ g.1.0, g.1.1 ∙ append_assoc σ (x ∷ []) g.1.0))
 
 solving-grows : (Γ : Board) (σ : Solutions) (o : Option Ty) (s : Ty) (a b c : Outcome) → Grown Γ σ a → Grown Γ σ b → Grown Γ σ c → Grown Γ σ (solving o s a b c)
-solving-grows Γ σ none s a b c ha hb hc = ha
-solving-grows Γ σ (some t) s a b c ha hb hc = cond_ind (Grown Γ σ) (can_unify s t) (λ _. hb) (λ _. hc)
+solving-grows Γ σ None s a b c ha hb hc = ha
+solving-grows Γ σ (Some t) s a b c ha hb hc = cond_ind (Grown Γ σ) (can_unify s t) (λ _. hb) (λ _. hc)
 
 pub perform-grows : (L : Limits) (p : Rule) (Γ : Board) (σ : Solutions) (n : ℕ) → Grown Γ σ (perform L p Γ σ n)
 unfolding perform

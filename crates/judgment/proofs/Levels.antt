@@ -1,5 +1,6 @@
 -- Levels along a run: no unknown's level is above its number (`level-small`), and a number that is not made yet has its own (`level-own`).
 -- Assumes nothing.
+use Rattle.std.specs.Prelude.{Ok}
 use Prim.Native.Nat.{ℕ, zero, suc, ◌+◌, ◌≤◌}
 use native.Mathlib.Nat.{le_refl}
 use native.Mathlib.Omega.{arith}
@@ -12,7 +13,6 @@ use borrow.Author.Tests.{ltb-true}
 use Rattle.nodes.specs.Nodes.{Ty}
 use Rattle.nodes.specs.Lists.{All}
 use Rattle.nodes.proofs.ListLaws.{cond_ind, all_split}
-use Rattle.grammar.specs.declared.Check.TheVariants.{Plan}
 use Rattle.grammar.specs.Check.{check}
 use Rattle.sheet.specs.Plan.{triples, plan_of}
 use Rattle.judgment.specs.declared.TypeError.TheVariants.{TypeUnificationError, SolutionsFull, OutOfScope}
@@ -71,7 +71,7 @@ start_small Plain L E hE c v Γ σ n i h os ps e =
     all_small os v (all_split Orderly os ps (subst (All Orderly) e (run-orderly L E Plain hE c v Γ σ n i))).0 h
 
 -- LEVELS: of every sheet that passes refusals 3 to 5, under any limits and every ceiling, after each operation of the run
-pub level-small : (L : Levels → Limits) (s : List ℕ) (c : ℕ) → check s ≡ Plan → (os ps : List Operation) → events (steps (run_of L c (plan_of (triples s)))) ≡ os ++ ps
+pub level-small : (L : Levels → Limits) (s : List ℕ) (c : ℕ) → check s ≡ Ok tt → (os ps : List Operation) → events (steps (run_of L c (plan_of (triples s)))) ≡ os ++ ps
     → (k : ℕ) → levels_after os own_levels k ≤ k
 unfolding run_of check_type
 level-small L s c q os ps e =
@@ -185,7 +185,7 @@ unfolding result_of
 result_own Plain plain v (run ss d (state Γ σ n)) h = h
 
 -- a number from the counter on has its own level
-pub level-own : (L : Levels → Limits) (s : List ℕ) (c : ℕ) → check s ≡ Plan → (k : ℕ) → (judge L c (triples s)).answer.fresh ≤ k → (judge L c (triples s)).levels k ≡ k
+pub level-own : (L : Levels → Limits) (s : List ℕ) (c : ℕ) → check s ≡ Ok tt → (k : ℕ) → (judge L c (triples s)).answer.fresh ≤ k → (judge L c (triples s)).levels k ≡ k
 unfolding judge run_of check_type
 level-own L s c q =
     let p = plan_of (triples s) in

@@ -1,5 +1,7 @@
 -- No chain has more links than there are numbers: in solutions that lead nowhere back (`few-links`), in good states, where as many are met (`longest`), and in every state
 -- of every run from a good start under any limits (`run-links`), so of every sheet's (`sheet-links`). Assumes nothing.
+use Rattle.std.proofs.lemmas.Option.{none-some}
+use Rattle.std.specs.Prelude.{Option, None, Some, Ok}
 use Prim.Native.Nat.{ℕ, zero, suc, ◌+◌, ◌≤◌, ◌<◌}
 use native.Mathlib.Decide.{ℕ_discrete}
 use native.Mathlib.Nat.{not-suc-le-zero}
@@ -7,7 +9,6 @@ use native.Mathlib.Omega.{arith}
 use mathlib.Core.Path.{◌≡◌, refl, sym, ◌∙◌, ap, ap₂, subst, subst⁻¹}
 use mathlib.Core.Logic.{◌≢◌, inl, inr}
 use mathlib.Core.Bool.{Bool, true, false, cond, ◌&&◌, ◌||◌, false≢true}
-use mathlib.Core.Option.{Option, none, some, none-ne-some}
 use mathlib.Core.List.{List, [], ◌∷◌, ◌++◌}
 use lib.Dec.{eqb}
 use lib.ListN.{length}
@@ -16,7 +17,6 @@ use Rattle.sizes.specs.Sizes.{most_numbers}
 use Rattle.nodes.specs.Nodes.{node, Ty}
 use Rattle.nodes.specs.Lists.{All, In}
 use Rattle.nodes.proofs.ListLaws.{cond_ind, all_map, all_append, all_in, all_of}
-use Rattle.grammar.specs.declared.Check.TheVariants.{Plan}
 use Rattle.grammar.specs.Check.{check}
 use Rattle.sheet.specs.Plan.{triples, plan_of}
 use Rattle.judgment.specs.Types.{unknown, con, is_node, occurs}
@@ -88,13 +88,13 @@ occurs-in k (n ∷ t) e = go (is_node 17 k n) refl e (occurs-in k t)
     go false p q f = inr (f q)
 
 -- the solution of a chain's first unknown
-followed : (σ : Solutions) (k : ℕ) (ks : List ℕ) → is_chain σ (k ∷ ks) ≡ true → (s : Ty) × (find k σ ≡ some s) × (leads_on (some s) ks ≡ true) × (is_chain σ ks ≡ true)
+followed : (σ : Solutions) (k : ℕ) (ks : List ℕ) → is_chain σ (k ∷ ks) ≡ true → (s : Ty) × (find k σ ≡ Some s) × (leads_on (Some s) ks ≡ true) × (is_chain σ ks ≡ true)
 unfolding is_chain
 followed σ k ks e = let h = both (leads_on (find k σ) ks) (is_chain σ ks) e in go (find k σ) refl h.0 h.1
   where
-    go : (o : Option Ty) → find k σ ≡ o → leads_on o ks ≡ true → is_chain σ ks ≡ true → (s : Ty) × (find k σ ≡ some s) × (leads_on (some s) ks ≡ true) × (is_chain σ ks ≡ true)
-    go none q l c = absurd (false≢true l)
-    go (some s) q l c = (s, q, l, c)
+    go : (o : Option Ty) → find k σ ≡ o → leads_on o ks ≡ true → is_chain σ ks ≡ true → (s : Ty) × (find k σ ≡ Some s) × (leads_on (Some s) ks ≡ true) × (is_chain σ ks ≡ true)
+    go None q l c = absurd (false≢true l)
+    go (Some s) q l c = (s, q, l, c)
 
 -- a chain goes on where following does
 pub chain-follows : (σ : Solutions) (k j : ℕ) (ks : List ℕ) → is_chain σ (k ∷ j ∷ ks) ≡ true → Follows σ j k
@@ -155,12 +155,12 @@ pub good-links : (Plain : Type 0) (Γ : Board) (σ : Solutions) (n : ℕ) → In
 good-links Plain Γ σ n i = few-links σ i.fine n (all_map (λ x h. h.0) σ i.solutions)
 
 -- A chain stays as more solutions are given. So what bounds the chains of a run's last solutions bounds those at any moment, between the operations of a step too.
-found-still : (σ τ : Solutions) (k : ℕ) (s : Ty) → find k σ ≡ some s → find k (σ ++ τ) ≡ some s
+found-still : (σ τ : Solutions) (k : ℕ) (s : Ty) → find k σ ≡ Some s → find k (σ ++ τ) ≡ Some s
 unfolding find
-found-still [] τ k s e = absurd (none-ne-some s e)
+found-still [] τ k s e = absurd (none-some s e)
 found-still (◌≔◌ j r ∷ σ) τ k s e = go (eqb j k) e (found-still σ τ k s)
   where
-    go : (b : Bool) → cond b (some r) (find k σ) ≡ some s → (find k σ ≡ some s → find k (σ ++ τ) ≡ some s) → cond b (some r) (find k (σ ++ τ)) ≡ some s
+    go : (b : Bool) → cond b (Some r) (find k σ) ≡ Some s → (find k σ ≡ Some s → find k (σ ++ τ) ≡ Some s) → cond b (Some r) (find k (σ ++ τ)) ≡ Some s
     go true q f = q
     go false q f = f q
 
@@ -334,7 +334,7 @@ limited-links Plain m w E hE c v Γ σ n i l =
     (states (run_from (limits_for m w) E c v (state Γ σ n))) (run-links Plain (limits_for m w) (up_to most_numbers) (λ _. refl) E hE c v Γ σ n i)
 
 -- every sheet that passes refusals 3 to 5, every ceiling and every limit on written-out types, by either call
-pub sheet-links : (m : Mode) (s : List ℕ) (c w : ℕ) → check s ≡ Plan → All (λ t. LinksUpTo most_numbers (solutions t)) (states (run_of (limits_for m w) c (plan_of (triples s))))
+pub sheet-links : (m : Mode) (s : List ℕ) (c w : ℕ) → check s ≡ Ok tt → All (λ t. LinksUpTo most_numbers (solutions t)) (states (run_of (limits_for m w) c (plan_of (triples s))))
 unfolding run_of check_type
 sheet-links m s c w e =
     let p = plan_of (triples s) in

@@ -1,10 +1,12 @@
 -- No answer has a number of more than five digits: `narrow`. Assumes nothing.
+use Rattle.grammar.specs.declared.SheetError.TheVariants.{Length, Misspelt, Unfit}
+use Rattle.grammar.specs.declared.SheetError.{SheetError}
+use Rattle.std.specs.Prelude.{Option, None, Some, Result, Ok, Err}
 use Prim.Native.Nat.{ℕ, zero, suc, ◌+◌, ◌<◌, ◌≤◌}
 use native.Mathlib.Omega.{arith}
 use mathlib.Core.Path.{◌≡◌, refl, ap, subst}
 use mathlib.Core.Logic.{◌≢◌}
 use mathlib.Core.Bool.{Bool, true, false, ◌||◌, true≢false}
-use mathlib.Core.Option.{Option, none, some}
 use mathlib.Core.List.{List, [], ◌∷◌, ◌++◌}
 use lib.Dec.{eqb, leb, ltb}
 use lib.ListN.{length, take, drop, length-append, length-take, length-drop}
@@ -15,8 +17,6 @@ use Rattle.nodes.specs.Lists.{All}
 use Rattle.nodes.proofs.ListLaws.{cond_ind, all_take, all_drop}
 use Rattle.spelling.specs.declared.Triple.{Triple}
 use Rattle.kinds.specs.Kinds.{a_term, parts_of}
-use Rattle.grammar.specs.declared.Check.{Check}
-use Rattle.grammar.specs.declared.Check.TheVariants.{Plan, Length, Misspelt, Unfit}
 use Rattle.grammar.specs.Check.{check, check_line}
 use Rattle.grammar.proofs.Lines.{line_small}
 use Rattle.sheet.specs.Plan.{triples, nodes_of, Declaration, declarations, Binding, ◌∶◌, Bindings, bindings_in, lookup, Plan as PlanOf, plan_of}
@@ -195,8 +195,8 @@ abbrev Short : Binding → Type 0
 Short (◌∶◌ x t) = length t ≤ most_lines
 
 abbrev FoundShort : Option Ty → Type 0
-FoundShort none = Unit {0}
-FoundShort (some t) = length t ≤ most_lines
+FoundShort None = Unit {0}
+FoundShort (Some t) = length t ≤ most_lines
 
 lookup-short : (x : ℕ) (bs : Bindings) → All Short bs → FoundShort (lookup x bs)
 unfolding lookup
@@ -241,8 +241,8 @@ module _ (σ : Solutions) where
   module _ (E : Env) (hE : All Short E.constructors) where
     pattern_constructor-brief : (x c : ℕ) (t : Ty) (again : List Ty → Rule) (k : Option Ty) → x ≤ highest_name → c ≤ 99 → FoundShort k
         → ((ps : List Ty) → Brief σ (again ps)) → Brief σ (pattern_constructor E x c t again k)
-    pattern_constructor-brief x c t again none hx hc hk f = omega arith
-    pattern_constructor-brief x c t again (some k) hx hc hk f =
+    pattern_constructor-brief x c t again None hx hc hk f = omega arith
+    pattern_constructor-brief x c t again (Some k) hx hc hk f =
         instantiate_constructor-brief k (λ u. signature_from (length u) [] u (pattern_parts E c t again)) (λ u l.
         signature_from-brief (length u) most_lines [] u (pattern_parts E c t again) (omega arith) (λ ps res m.
         cond_ind (Brief σ) (eqb c (length ps)) (λ _. f ps) (λ _. omega arith)))
@@ -313,14 +313,14 @@ term-in-range e h = view-in-range e.lines (e.line + 1) h
 ---------------------------------------------------------------- every rule
 module _ (σ : Solutions) (E : Env) (hE : All Short E.constructors) where
   variable-brief : (x : ℕ) (t : Ty) (a b c : Option Ty) → x ≤ highest_name → Brief σ (variable E x t a b c)
-  variable-brief x t (some u) b c h = tt
-  variable-brief x t none (some u) c h = tt
-  variable-brief x t none none (some u) h = tt
-  variable-brief x t none none none h = omega arith
+  variable-brief x t (Some u) b c h = tt
+  variable-brief x t None (Some u) c h = tt
+  variable-brief x t None None (Some u) h = tt
+  variable-brief x t None None None h = omega arith
 
   constructor-brief : (x : ℕ) (t : Ty) (k : Option Ty) → x ≤ highest_name → Brief σ (constructor E x t k)
-  constructor-brief x t none h = omega arith
-  constructor-brief x t (some k) h = instantiate_constructor-brief σ k (λ u. push (sub u t) done) (λ u l. tt)
+  constructor-brief x t None h = omega arith
+  constructor-brief x t (Some k) h = instantiate_constructor-brief σ k (λ u. push (sub u t) done) (λ u l. tt)
 
   infer_by-brief : (t : Ty) (v : TermView) → ViewInRange v → Brief σ (infer_by E t v)
   infer_by-brief t (is_var x) h = λ Γ. variable-brief x t (lookup x E.context) (find_var x Γ) (lookup x E.constructors) h
@@ -337,8 +337,8 @@ module _ (σ : Solutions) (E : Env) (hE : All Short E.constructors) where
   infer_by-brief t is_none h = omega arith
 
   check_arrow-brief : (e : Term) (t a b : Ty) (f : Option Lambda) → Brief σ (check_arrow E e t a b f)
-  check_arrow-brief e t a b none = λ u. tt
-  check_arrow-brief e t a b (some f) = tt
+  check_arrow-brief e t a b None = λ u. tt
+  check_arrow-brief e t a b (Some f) = tt
 
   check_by-brief : (e : Term) (t : Ty) (v : View) → Brief σ (check_by E e t v)
   check_by-brief e t (is_arrow a b) = check_arrow-brief e t a b (lambda_of e)
@@ -442,7 +442,7 @@ plan-short : (ls : List Triple) → length ls ≤ most_lines → All Short (plan
 unfolding plan_of
 plan-short ls h = bindings-short 1 ls (declarations ls 0 0) h
 
-judge-narrow : (m : Mode) (s : List ℕ) (c w : ℕ) → c ≤ highest_ceiling → w ≤ highest_limit → check s ≡ Plan → Narrow (judge (limits_for m w) c (triples s)).answer
+judge-narrow : (m : Mode) (s : List ℕ) (c w : ℕ) → c ≤ highest_ceiling → w ≤ highest_limit → check s ≡ Ok tt → Narrow (judge (limits_for m w) c (triples s)).answer
 unfolding judge run_of check_type
 judge-narrow m s c w l hw e =
     let p : PlanOf = plan_of (triples s) in
@@ -465,12 +465,12 @@ before-run : (number line : ℕ) → number ≤ 39 → line ≤ most_lines + 1 �
 before-run number line h k =
     record { number = h; line = k; taken = omega arith; fresh = omega arith; detail1 = omega arith; detail2 = omega arith; plain = omega arith }
 
-check-narrow : (m : Mode) (s : List ℕ) (c w : ℕ) (b : Buffers) → c ≤ highest_ceiling → w ≤ highest_limit → (k : Check) → check s ≡ k → check_line k ≤ most_lines + 1
+check-narrow : (m : Mode) (s : List ℕ) (c w : ℕ) (b : Buffers) → c ≤ highest_ceiling → w ≤ highest_limit → (k : (Result Unit SheetError)) → check s ≡ k → check_line k ≤ most_lines + 1
     → Narrow (by_check m s c w b k).answer
-check-narrow m s c w b l hw Plan e h = judge-narrow m s c w l hw e
-check-narrow m s c w b l hw Length e h = before-run 3 0 (omega arith) (omega arith)
-check-narrow m s c w b l hw (Misspelt i) e h = before-run 4 i (omega arith) h
-check-narrow m s c w b l hw (Unfit i) e h = before-run 5 i (omega arith) h
+check-narrow m s c w b l hw (Ok tt) e h = judge-narrow m s c w l hw e
+check-narrow m s c w b l hw (Err Length) e h = before-run 3 0 (omega arith) (omega arith)
+check-narrow m s c w b l hw (Err (Misspelt i)) e h = before-run 4 i (omega arith) h
+check-narrow m s c w b l hw (Err (Unfit i)) e h = before-run 5 i (omega arith) h
 
 -- NARROW: for all bytes, every ceiling and limit, and any buffers, by either call
 pub narrow : (m : Mode) (s : List ℕ) (c w : ℕ) (b : Buffers) → Narrow (call m s c w b).answer

@@ -13,7 +13,7 @@ use Rattle.judgment.specs.Board.{Entry, tvar, var, sub, inf, chk, inf_app, Limit
 use Rattle.judgment.specs.Levels.{Levels, own_levels, levels_after}
 use Rattle.judgment.specs.Rules.{Env, fresh_unknown, push_vars, check_patterns, infer_by, rule}
 use Rattle.judgment.specs.Run.{accepted, ceiling, Run, run, onward}
-use Rattle.judgment.specs.Result.{Result, result_of, env_of}
+use Rattle.judgment.specs.Result.{Judged, result_of, env_of}
 
 -- ---- the same bindings in another order
 abbrev pub name_of : Binding → ℕ
@@ -39,7 +39,7 @@ Order = ℕ → Ty → Bindings → Bindings
 abbrev pub Reorders : Order → Type 0
 Reorders order = (n : ℕ) (s : Ty) (bs : Bindings) → Distinct bs → Reordered bs (order n s bs)
 
--- ---- the rules and the run, as in Rules, Run and Result but for the order of a pattern's Vars
+-- ---- the rules and the run, as in Rules, Run and Judged but for the order of a pattern's Vars
 module _ (order : Order) where
   module _ (E : Env) where
     unfoldable pub check_arms_in : ℕ → Term → Ty → Ty → Rule
@@ -83,5 +83,5 @@ module _ (order : Order) where
   unfoldable pub run_of_in : (Levels → Limits) → ℕ → Plan → Run
   run_of_in L c p = run_from_in L (env_of p) c own_levels (state (chk p.term p.expected ∷ []) [] 0)
 
-  unfoldable pub judge_in : (Levels → Limits) → ℕ → List Triple → Result
+  unfoldable pub judge_in : (Levels → Limits) → ℕ → List Triple → Judged
   judge_in L c ls = let p = plan_of ls in result_of p.plain own_levels (run_of_in L c p)

@@ -1,9 +1,9 @@
 -- `perform` and `operations` are one recursion (`together`), and what is listed is what was done, in order, fresh numbers too (`redone-is`, `in-turn`).
 -- Assumes nothing.
+use Rattle.std.specs.Prelude.{Option, None, Some}
 use Prim.Native.Nat.{ℕ, suc, ◌+◌}
 use mathlib.Core.Path.{◌≡◌, refl, ap, subst}
 use mathlib.Core.Bool.{Bool, true, false, cond}
-use mathlib.Core.Option.{Option, none, some}
 use mathlib.Core.List.{List, [], ◌∷◌, ◌++◌}
 use lib.ListN.{length}
 use Rattle.nodes.specs.Nodes.{Ty}
@@ -52,8 +52,8 @@ module _ (L : Limits) where
 
   three : (a : Option Ty) (s : Ty) {x y z : Done} {os ps qs : List Operation} {o p q : Outcome} → x ≡ paired os o → y ≡ paired ps p → z ≡ paired qs q
       → solving a s x y z ≡ paired (solving a s os ps qs) (solving a s o p q)
-  three none s e f g = e
-  three (some t) s e f g = either (can_unify s t) f g
+  three None s e f g = e
+  three (Some t) s e f g = either (can_unify s t) f g
 
   pub together : (p : Rule) (Γ : Board) (σ : Solutions) (n : ℕ) → doing p Γ σ n ≡ paired (operations L p Γ σ n) (perform L p Γ σ n)
   unfolding doing perform operations
@@ -112,8 +112,8 @@ module _ (L : Limits) where
       (agrees p Γ σ n)
     where
       solved : (a : Option Ty) (x y : Done) → Agrees (state Γ σ n) x → Agrees (state Γ σ n) y → Agrees (state Γ σ n) (solving a s x (also (met k) y) (also (met k) (only (refused TypeUnificationError [] (state Γ σ n)))))
-      solved none x y h g = h
-      solved (some t) x y h g = cond_ind (Agrees (state Γ σ n)) (can_unify s t) (λ _. g) (λ _. (refl, tt))
+      solved None x y h g = h
+      solved (Some t) x y h g = cond_ind (Agrees (state Γ σ n)) (can_unify s t) (λ _. g) (λ _. (refl, tt))
   agrees (zonk t f) Γ σ n =
       cond_ind (Agrees (state Γ σ n)) (within (length (write_out σ t)) L.written) (λ _. agrees (f (write_out σ t)) Γ σ n) (λ _. (refl, tt))
   agrees (look f) Γ σ n = agrees (f Γ) Γ σ n

@@ -1,5 +1,6 @@
 -- What the types and the term of a plan have: no unknown and, in a plain plan with those entries alone that its term names, no quantifier and
 -- no type abstraction. Assumes nothing.
+use Rattle.std.specs.Prelude.{Ok}
 use Prim.Native.Nat.{ℕ, zero, suc, ◌+◌}
 use mathlib.Core.Path.{◌≡◌, refl, ap₂}
 use mathlib.Core.Logic.{◌≢◌}
@@ -13,7 +14,6 @@ use Rattle.nodes.specs.Parts.{take_parts}
 use Rattle.nodes.proofs.ListLaws.{cond_ind, all_take, all-of-take, all-of-drop}
 use Rattle.spelling.specs.declared.Triple.{Triple}
 use Rattle.kinds.specs.Kinds.{parts_of}
-use Rattle.grammar.specs.declared.Check.TheVariants.{Plan}
 use Rattle.grammar.specs.Check.{check}
 use Rattle.sheet.specs.Plan.{triples, line_node, nodes_of, is_entry, Declaration, declarations, Binding, ◌∶◌, Bindings, bindings_in, places_of, is_plain, names, plain_entries, plain_plan, Plan as PlanOf, plan_of}
 use Rattle.sheet.proofs.LineKinds.{no-unknown, plain-kinds, kinds-plain}
@@ -92,7 +92,7 @@ module _ (P : Node → Type 0) (ls : List Triple) (h : All (λ l. P (line_node l
   }
 
 -- a sheet that is taken has no unknown; of quantifiers this says nothing
-pub sheet-plan : (s : List ℕ) → check s ≡ Plan → GoodPlan ⊥ (plan_of (triples s))
+pub sheet-plan : (s : List ℕ) → check s ≡ Ok tt → GoodPlan ⊥ (plan_of (triples s))
 sheet-plan s e = record { no-unknowns = lines-have NoUnknown (triples s) (no-unknown s e); if-plain = λ q. absurd q }
 
 -- ---- with those entries alone that the term names
@@ -206,7 +206,7 @@ module _ (ls : List Triple) where
       ap₂ ◌&&◌ (kinds-plain expected (nodes-all Unquantified expected h.expected))
       (ap₂ ◌&&◌ (kinds-plain term h.term) (entries-unquantified term ls (declarations ls 0 0) (all-entries ls 0 0) h.constructors h.context))
 
-pub restricted-good : (s : List ℕ) → check s ≡ Plan → GoodPlan ((plan_of (triples s)).plain ≡ true) (restricted (plan_of (triples s)))
+pub restricted-good : (s : List ℕ) → check s ≡ Ok tt → GoodPlan ((plan_of (triples s)).plain ≡ true) (restricted (plan_of (triples s)))
 unfolding plan_of
 restricted-good s e = record {
   no-unknowns = restricted-has NoUnknown (plan_of (triples s)) (sheet-plan s e).no-unknowns;

@@ -1,5 +1,6 @@
 -- The promise, proved: of any good start under any limits (`start-promise`), of a plan (`plan-promise`), and of every sheet that passes
 -- refusals 3 to 5 (`promise`). And raising the ceiling changes no result but 21 (`raise`). Assumes nothing.
+use Rattle.std.specs.Prelude.{Ok}
 use Prim.Native.Nat.{ℕ, ◌≤◌}
 use native.Mathlib.Omega.{arith}
 use mathlib.Core.Path.{◌≡◌, refl, sym, ◌∙◌, ap, subst, subst⁻¹}
@@ -9,7 +10,6 @@ use mathlib.Core.List.{List, [], ◌∷◌}
 use Rattle.nodes.specs.Lists.{All, count}
 use Rattle.nodes.proofs.ListLaws.{all_map, count-append}
 use Rattle.spelling.specs.declared.Triple.{Triple}
-use Rattle.grammar.specs.declared.Check.TheVariants.{Plan}
 use Rattle.grammar.specs.Check.{check}
 use Rattle.sheet.specs.Plan.{triples, Plan as PlanOf, plan_of}
 use Rattle.judgment.specs.Solutions.{Solutions, value, write_out}
@@ -70,7 +70,7 @@ unfolding run_of check_type
 plan-promise L c p g = start-promise p.plain L (env_of p) (plan-env p g) c own_levels (chk p.term p.expected ∷ []) [] 0 (plan-inv p g)
 
 -- THE PROMISE: for every sheet that passes refusals 3 to 5, under any limits, which may hang on the levels, and every ceiling: so by both calls
-pub promise : (L : Levels → Limits) (s : List ℕ) (c : ℕ) → check s ≡ Plan
+pub promise : (L : Levels → Limits) (s : List ℕ) (c : ℕ) → check s ≡ Ok tt
     → (let p = plan_of (triples s) in Promise (state (chk p.term p.expected ∷ []) [] 0) p.plain (run_of L c p))
 promise L s c e =
     let p = plan_of (triples s) in

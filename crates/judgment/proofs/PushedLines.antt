@@ -1,6 +1,6 @@
 -- What holds of all lines of a term holds of the lines of every term that a run pushes. Assumes nothing.
+use Rattle.std.specs.Prelude.{Option, None, Some}
 use Prim.Native.Nat.{ℕ, zero, suc, ◌+◌}
-use mathlib.Core.Option.{Option, none, some}
 use mathlib.Core.List.{List, [], ◌∷◌, ◌++◌}
 use lib.Dec.{eqb}
 use lib.ListN.{length}
@@ -149,8 +149,8 @@ module _ (P : Node → Type 0) where
   -- ---- every rule
   module _ (E : Env) where
     pattern_constructor-has : (x c : ℕ) (t : Ty) (again : List Ty → Rule) (k : Option Ty) → ((ps : List Ty) → Pushes (again ps)) → Pushes (pattern_constructor E x c t again k)
-    pattern_constructor-has x c t again none f = tt
-    pattern_constructor-has x c t again (some k) f =
+    pattern_constructor-has x c t again None f = tt
+    pattern_constructor-has x c t again (Some k) f =
         open_names-has (front_names k) [] _ (λ m.
         signature_from-has (length (rename m (after_front k))) [] (rename m (after_front k)) (pattern_parts E c t again) (λ ps res.
         (tt, cond_ind Pushes (eqb c (length ps)) (λ _. f ps) (λ _. tt))))
@@ -178,14 +178,14 @@ module _ (P : Node → Type 0) where
         (λ bs. push_vars-has bs p (all-part P 1 arms h, check_arms-has n (after_parts 2 arms) s t (all_after P 2 arms h)))
 
     variable-has : (x : ℕ) (t : Ty) (a b c : Option Ty) → Pushes (variable E x t a b c)
-    variable-has x t (some u) b c = (tt, tt)
-    variable-has x t none (some u) c = (tt, tt)
-    variable-has x t none none (some u) = (tt, tt)
-    variable-has x t none none none = tt
+    variable-has x t (Some u) b c = (tt, tt)
+    variable-has x t None (Some u) c = (tt, tt)
+    variable-has x t None None (Some u) = (tt, tt)
+    variable-has x t None None None = tt
 
     constructor-has : (x : ℕ) (t : Ty) (k : Option Ty) → Pushes (constructor E x t k)
-    constructor-has x t none = tt
-    constructor-has x t (some k) = open_names-has (front_names k) [] _ (λ m. (tt, tt))
+    constructor-has x t None = tt
+    constructor-has x t (Some k) = open_names-has (front_names k) [] _ (λ m. (tt, tt))
 
     infer_by-has : (t : Ty) (v : TermView) → TermHas P v → Pushes (infer_by E t v)
     infer_by-has t (is_var x) h = λ Γ. variable-has x t (lookup x E.context) (find_var x Γ) (lookup x E.constructors)
@@ -202,8 +202,8 @@ module _ (P : Node → Type 0) where
     infer_by-has t is_none h = tt
 
     check_arrow-has : (e : Term) (t a b : Ty) (f : Option Lambda) → Lines P e → LambdaHas P f → Pushes (check_arrow E e t a b f)
-    check_arrow-has e t a b none he h = λ u. (tt, (tt, (he, tt)))
-    check_arrow-has e t a b (some f) he h = (tt, (tt, (h.1, tt)))
+    check_arrow-has e t a b None he h = λ u. (tt, (tt, (he, tt)))
+    check_arrow-has e t a b (Some f) he h = (tt, (tt, (h.1, tt)))
 
     check_by-has : (e : Term) (t : Ty) (v : View) → Lines P e → Pushes (check_by E e t v)
     check_by-has e t (is_arrow a b) h = check_arrow-has e t a b (lambda_of e) h (lambda-has P e h)

@@ -1,10 +1,10 @@
 -- A higher limit of written-out types changes no run but one that ends with 23: `raise-run`, `raise-limit`. Assumes nothing.
+use Rattle.std.specs.Prelude.{Option, None, Some}
 use Prim.Native.Nat.{ℕ, zero, suc, ◌+◌, ◌≤◌}
 use native.Mathlib.Omega.{arith}
 use mathlib.Core.Path.{◌≡◌, refl, ap, subst}
 use mathlib.Core.Logic.{◌≢◌, ◌⊎◌, inl, inr}
 use mathlib.Core.Bool.{Bool, true, false, cond}
-use mathlib.Core.Option.{Option, none, some}
 use mathlib.Core.List.{List, [], ◌∷◌, ◌++◌}
 use lib.ListN.{length}
 use borrow.Author.Tests.{leb-true, le-leb}
@@ -44,8 +44,8 @@ either true f g = f
 either false f g = g
 
 three : (a : Option Ty) (s : Ty) {x x' y y' z z' : Done} → Unchanged x x' → Unchanged y y' → Unchanged z z' → Unchanged (solving a s x y z) (solving a s x' y' z')
-three none s f g h = f
-three (some t) s f g h = either (can_unify s t) g h
+three None s f g h = f
+three (Some t) s f g h = either (can_unify s t) g h
 
 -- ---- the limits, but for a higher one of written-out types
 abbrev pub with_written : Limit → Limits → Limits

@@ -1,10 +1,10 @@
 -- Bindings in another order: as many, with as many nodes, and the same type found under each name. Assumes nothing.
+use Rattle.std.specs.Prelude.{Option, None, Some}
 use Prim.Native.Nat.{ℕ, suc, ◌+◌, ◌<◌}
 use native.Mathlib.Omega.{arith}
 use mathlib.Core.Path.{◌≡◌, refl, sym, ◌∙◌, ap, ap₂, subst⁻¹}
 use mathlib.Core.Logic.{◌≢◌}
 use mathlib.Core.Bool.{Bool, true, false, cond}
-use mathlib.Core.Option.{Option, none, some}
 use mathlib.Core.List.{[], ◌∷◌}
 use lib.Dec.{eqb, ltb}
 use lib.ListN.{length}
@@ -69,7 +69,7 @@ two-names : (x : ℕ) (b c : Binding) (o : Option Ty) → name_of b ≢ name_of 
 two-names x (◌∶◌ y t) (◌∶◌ z u) o h = by (eqb x y) (eqb x z) refl refl
   where
     by : (a b : Bool) → eqb x y ≡ a → eqb x z ≡ b
-        → or_else (cond b (some u) none) (or_else (cond a (some t) none) o) ≡ or_else (cond a (some t) none) (or_else (cond b (some u) none) o)
+        → or_else (cond b (Some u) None) (or_else (cond a (Some t) None) o) ≡ or_else (cond a (Some t) None) (or_else (cond b (Some u) None) o)
     by true true p q = absurd (h (sym (eqb-true x y p) ∙ eqb-true x z q))
     by true false p q = refl
     by false true p q = refl

@@ -1,8 +1,8 @@
 -- RESTRICT: entries that the term does not name change nothing, under any limits and every ceiling. Assumes nothing.
+use Rattle.std.specs.Prelude.{Option, None, Some}
 use Prim.Native.Nat.{ℕ, zero, suc, ◌+◌}
 use mathlib.Core.Path.{◌≡◌, refl, sym, ◌∙◌, ap, ap₂, fun_ext, subst}
 use mathlib.Core.Bool.{Bool, true, false, cond, ◌&&◌, ◌||◌, or-true, false≢true}
-use mathlib.Core.Option.{Option, none, some}
 use mathlib.Core.List.{List, [], ◌∷◌, ◌++◌}
 use lib.Dec.{eqb}
 use lib.ListN.{length}
@@ -86,8 +86,8 @@ module _ (E F : Env) where
 
   pattern_constructor-same : (x c : ℕ) (t : Ty) (f g : List Ty → Rule) (k : Option Ty) → ((ps : List Ty) → f ps ≡ g ps)
       → pattern_constructor E x c t f k ≡ pattern_constructor F x c t g k
-  pattern_constructor-same x c t f g none h = refl
-  pattern_constructor-same x c t f g (some k) h = ap (extract_signature k) (parts_same c t f g h)
+  pattern_constructor-same x c t f g None h = refl
+  pattern_constructor-same x c t f g (Some k) h = ap (extract_signature k) (parts_same c t f g h)
 
   pattern_by-same : (x c : ℕ) (t : Ty) (bs : Bindings) (f g : List Ty → Bindings → Rule) (v : PatternView) → PatternKnown x v
       → ((ps : List Ty) (bs' : Bindings) → f ps bs' ≡ g ps bs') → pattern_by E x c t bs f v ≡ pattern_by F x c t bs g v
@@ -118,14 +118,14 @@ module _ (E F : Env) where
       (λ bs. ap (λ (r : Rule). push_vars bs (push (chk (part 1 arms) t) r)) (check_arms-same n after s t (all_after Known 2 arms h)))
 
   variable-same : (x : ℕ) (t : Ty) (a b c : Option Ty) → variable E x t a b c ≡ variable F x t a b c
-  variable-same x t (some u) b c = refl
-  variable-same x t none (some u) c = refl
-  variable-same x t none none (some u) = refl
-  variable-same x t none none none = refl
+  variable-same x t (Some u) b c = refl
+  variable-same x t None (Some u) c = refl
+  variable-same x t None None (Some u) = refl
+  variable-same x t None None None = refl
 
   constructor-same : (x : ℕ) (t : Ty) (k : Option Ty) → constructor E x t k ≡ constructor F x t k
-  constructor-same x t none = refl
-  constructor-same x t (some k) = refl
+  constructor-same x t None = refl
+  constructor-same x t (Some k) = refl
 
   infer_by-same : (t : Ty) (v : TermView) → ViewKnown v → TermHas Known v → infer_by E t v ≡ infer_by F t v
   infer_by-same t (is_var x) k h = ap look (fun_ext (λ Γ.
@@ -144,8 +144,8 @@ module _ (E F : Env) where
   infer_by-same t is_none k h = refl
 
   check_arrow-same : (e : Term) (t a b : Ty) (f : Option Lambda) → check_arrow E e t a b f ≡ check_arrow F e t a b f
-  check_arrow-same e t a b none = refl
-  check_arrow-same e t a b (some f) = refl
+  check_arrow-same e t a b None = refl
+  check_arrow-same e t a b (Some f) = refl
 
   check_by-same : (e : Term) (t : Ty) (v : View) → check_by E e t v ≡ check_by F e t v
   check_by-same e t (is_arrow a b) = check_arrow-same e t a b (lambda_of e)
@@ -216,13 +216,13 @@ unfolding lookup named_by
 lookup-kept ls x e [] = refl
 lookup-kept ls x e (◌∶◌ y t ∷ bs) = kept (lookup-kept ls x e bs) (names y ls) refl
   where
-    left_out : names y ls ≡ false → (b : Bool) → eqb y x ≡ b → cond b (some t) (lookup x bs) ≡ lookup x bs
+    left_out : names y ls ≡ false → (b : Bool) → eqb y x ≡ b → cond b (Some t) (lookup x bs) ≡ lookup x bs
     left_out f true q = absurd (false≢true (sym f ∙ (ap (λ z. names z ls) (eqb-true y x q) ∙ e)))
     left_out f false q = refl
 
     kept : lookup x bs ≡ lookup x (named_by ls bs) → (b : Bool) → names y ls ≡ b
         → lookup x (◌∶◌ y t ∷ bs) ≡ lookup x (cond b (◌∶◌ y t ∷ named_by ls bs) (named_by ls bs))
-    kept h true q = ap (λ (o : Option Ty). cond (eqb y x) (some t) o) h
+    kept h true q = ap (λ (o : Option Ty). cond (eqb y x) (Some t) o) h
     kept h false q = left_out q (eqb y x) refl ∙ h
 
 -- RESTRICT: the run of a plan is that of the plan with those entries alone that its term names, under any limits and every ceiling

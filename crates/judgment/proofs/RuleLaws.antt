@@ -1,11 +1,11 @@
 -- Every rule keeps the invariant; and a comparison that finishes is explained by what its rule pushed and solved.
 -- Assumes nothing.
+use Rattle.std.specs.Prelude.{Option, None, Some}
 use Prim.Native.Nat.{ℕ, zero, suc, ◌≤◌, ◌<◌}
 use native.Mathlib.Omega.{arith}
 use mathlib.Core.Path.{◌≡◌, refl, sym, ◌∙◌, ap, ap₂, subst, subst⁻¹}
 use mathlib.Core.Logic.{◌≢◌}
 use mathlib.Core.Bool.{Bool, true, false, cond, not, ◌||◌, true≢false}
-use mathlib.Core.Option.{Option, none, some}
 use mathlib.Core.List.{List, [], ◌∷◌, ◌++◌}
 use lib.Dec.{eqb, leb, ltb}
 use lib.ListN.{length}
@@ -394,8 +394,8 @@ module _ (Plain : Type 0) where
   BindingOK n (◌∶◌ x t) = All (OK Plain n) t
 
   abbrev Found : ℕ → Option Ty → Type 0
-  Found n none = Unit {0}
-  Found n (some t) = All (OK Plain n) t
+  Found n None = Unit {0}
+  Found n (Some t) = All (OK Plain n) t
 
   binding-later : {m n : ℕ} → m ≤ n → (b : Binding) → BindingOK m b → BindingOK n b
   binding-later l (◌∶◌ x t) h = all-later Plain l t h
@@ -406,8 +406,8 @@ module _ (Plain : Type 0) where
   lookup-ok n x (◌∶◌ y t ∷ bs) h = cond_ind (Found n) (eqb y x) (λ _. h.0) (λ _. lookup-ok n x bs h.1)
 
   or_else-ok : (n : ℕ) (a b : Option Ty) → Found n a → Found n b → Found n (or_else a b)
-  or_else-ok n none b h g = g
-  or_else-ok n (some t) b h g = h
+  or_else-ok n None b h g = g
+  or_else-ok n (Some t) b h g = h
 
   var_named-ok : (n x : ℕ) (e : Entry) → EntryOK Plain n e → Found n (var_named x e)
   var_named-ok n x (tvar y) h = tt
@@ -486,8 +486,8 @@ module _ (Plain : Type 0) where
       pattern_constructor-good : (x c : ℕ) (t : Ty) (again : List Ty → Rule) (k : Option Ty) (Γ : Board) (n : ℕ) → All (OK Plain n) t → Found n k
           → ((ps : List Ty) (Γ' : Board) (n' : ℕ) → n ≤ n' → All (All (OK Plain n')) ps → Good Plain (again ps) Γ' σ n' Q)
           → Good Plain (pattern_constructor E x c t again k) Γ σ n Q
-      pattern_constructor-good x c t again none Γ n ht hk f = tt
-      pattern_constructor-good x c t again (some k) Γ n ht hk f =
+      pattern_constructor-good x c t again None Γ n ht hk f = tt
+      pattern_constructor-good x c t again (Some k) Γ n ht hk f =
           instantiate_constructor-good k (λ t'. signature_from (length t') [] t' (pattern_parts E c t again)) Γ n hk (λ t' Γ' n' l h.
           signature_from-good (length t') [] t' (pattern_parts E c t again) Γ' n' tt h (λ ps res hps hres. (
             (hres, all-later Plain l t ht),
@@ -553,14 +553,14 @@ module _ (Plain : Type 0) where
     new = (unknown-ok (suc n) n (omega arith), tt)
 
     variable-good : (x : ℕ) (t : Ty) (a b c : Option Ty) → All (OK Plain n) t → Found n a → Found n b → Found n c → Keeps (variable E x t a b c) Γ σ n
-    variable-good x t (some u) b c ht ha hb hc = ((ha, ht), tt)
-    variable-good x t none (some u) c ht ha hb hc = ((hb, ht), tt)
-    variable-good x t none none (some u) ht ha hb hc = ((hc, ht), tt)
-    variable-good x t none none none ht ha hb hc = tt
+    variable-good x t (Some u) b c ht ha hb hc = ((ha, ht), tt)
+    variable-good x t None (Some u) c ht ha hb hc = ((hb, ht), tt)
+    variable-good x t None None (Some u) ht ha hb hc = ((hc, ht), tt)
+    variable-good x t None None None ht ha hb hc = tt
 
     constructor-good : (x : ℕ) (t : Ty) (k : Option Ty) → All (OK Plain n) t → Found n k → Keeps (constructor E x t k) Γ σ n
-    constructor-good x t none ht hk = tt
-    constructor-good x t (some k) ht hk =
+    constructor-good x t None ht hk = tt
+    constructor-good x t (Some k) ht hk =
         instantiate_constructor-good σ (λ Γ' σ' n'. Unit {0}) k (λ u. push (sub u t) done) Γ n hk
         (λ u Γ' n' l hu. ((hu, all-later Plain l t ht), tt))
 
@@ -630,8 +630,8 @@ module _ (Plain : Type 0) where
 
     check_arrow-good : (e : Term) (t a b : Ty) (f : Option Lambda) → Lines (OK Plain n) e → LambdaHas (OK Plain n) f → All (OK Plain n) t → All (OK Plain n) a → All (OK Plain n) b
         → Keeps (check_arrow E e t a b f) Γ σ n
-    check_arrow-good e t a b (some f) he h ht ha hb = ((h.0, ha), (h.0, ((h.1, hb), tt)))
-    check_arrow-good e t a b none he h ht ha hb = synthesize-good e t he ht
+    check_arrow-good e t a b (Some f) he h ht ha hb = ((h.0, ha), (h.0, ((h.1, hb), tt)))
+    check_arrow-good e t a b None he h ht ha hb = synthesize-good e t he ht
 
     check_by-good : (e : Term) (t : Ty) (v : View) → Shows v t → Lines (OK Plain n) e → All (OK Plain n) t → Keeps (check_by E e t v) Γ σ n
     check_by-good e t (is_arrow a b) s he ht =

@@ -1,10 +1,10 @@
 -- No type of a run is longer than m nodes, where m is at least the limit of a type that is written out and the lines of the plan. Solutions may be
 -- longer. Assumes nothing.
+use Rattle.std.specs.Prelude.{Option, None, Some, Ok}
 use Prim.Native.Nat.{ℕ, zero, suc, ◌+◌, ◌≤◌, ◌<◌}
 use native.Mathlib.Omega.{arith}
 use mathlib.Core.Path.{◌≡◌, refl, ap}
 use mathlib.Core.Bool.{true, false, cond}
-use mathlib.Core.Option.{Option, none, some}
 use mathlib.Core.List.{List, [], ◌∷◌, ◌++◌}
 use borrow.Author.Tests.{leb-true}
 use lib.Dec.{eqb, ltb}
@@ -16,7 +16,6 @@ use Rattle.nodes.proofs.ListLaws.{cond_ind, all_append}
 use Rattle.nodes.proofs.PartLaws.{take-drop}
 use Rattle.spelling.specs.declared.Triple.{Triple}
 use Rattle.kinds.specs.Kinds.{a_type, a_term, parts_of}
-use Rattle.grammar.specs.declared.Check.TheVariants.{Plan}
 use Rattle.grammar.specs.Check.{check}
 use Rattle.sheet.specs.Plan.{triples, nodes_of, Declaration, declarations, Binding, ◌∶◌, Bindings, bindings_in, lookup, entries_end, places_of, plan_of}
 use Rattle.sheet.specs.Form.{IsPart}
@@ -145,8 +144,8 @@ module _ (m : ℕ) where
   term-view-short e h l = lines-short e.lines (e.line + 1) h l
 
   abbrev LambdaShort : Option Lambda → Type 0
-  LambdaShort none = Unit {0}
-  LambdaShort (some f) = (length f.type ≤ m) × TermShort f.body
+  LambdaShort None = Unit {0}
+  LambdaShort (Some f) = (length f.type ≤ m) × TermShort f.body
 
   lambda_by-short : (ls : List Triple) (next : ℕ) → length ls ≤ m → LambdaShort (lambda_by ls next)
   lambda_by-short [] next l = tt
@@ -184,15 +183,15 @@ module _ (m : ℕ) where
 
   -- a type that was looked up
   abbrev pub FoundShort : Option Ty → Type 0
-  FoundShort none = Unit {0}
-  FoundShort (some t) = length t ≤ m
+  FoundShort None = Unit {0}
+  FoundShort (Some t) = length t ≤ m
 
   abbrev Shorts : List Ty → Type 0
   Shorts ts = All (λ t. length t ≤ m) ts
 
   or_else-short : (a b : Option Ty) → FoundShort a → FoundShort b → FoundShort (or_else a b)
-  or_else-short none b p q = q
-  or_else-short (some t) b p q = p
+  or_else-short None b p q = q
+  or_else-short (Some t) b p q = p
 
   var_named-short : (x : ℕ) (e : Entry) → EntryShort m e → FoundShort (var_named x e)
   var_named-short x (tvar n) h = tt
@@ -380,8 +379,8 @@ module _ (m : ℕ) (two : 2 ≤ m) where
   module _ (E : Env) (hE : EnvShort m E) where
     pattern_constructor-short : (x c : ℕ) (t : Ty) (again : List Ty → Rule) (k : Option Ty) → length t ≤ m → FoundShort m k
         → ((ps : List Ty) → Shorts m ps → ShortGood m (again ps)) → ShortGood m (pattern_constructor E x c t again k)
-    pattern_constructor-short x c t again none ht hk f = tt
-    pattern_constructor-short x c t again (some k) ht hk f =
+    pattern_constructor-short x c t again None ht hk f = tt
+    pattern_constructor-short x c t again (Some k) ht hk f =
         instantiate_constructor-short k (λ t'. signature_from (length t') [] t' (pattern_parts E c t again)) hk (λ u hu.
         signature_from-short (length u) [] u (pattern_parts E c t again) tt hu (λ ps res hps hres.
         ((hres, ht), cond_ind (ShortGood m) (eqb c (length ps)) (λ _. f ps hps) (λ _. tt))))
@@ -414,14 +413,14 @@ module _ (m : ℕ) (two : 2 ≤ m) where
         (λ bs hbs. push_vars-short bs p hbs ((omega (arith, a, h), ht), check_arms-short n (after_parts 2 ls) s t (omega (arith, b, h)) hs ht))
 
     variable-short : (x : ℕ) (t : Ty) (a b c : Option Ty) → length t ≤ m → FoundShort m a → FoundShort m b → FoundShort m c → ShortGood m (variable E x t a b c)
-    variable-short x t (some u) b c ht ha hb hc = ((ha, ht), tt)
-    variable-short x t none (some u) c ht ha hb hc = ((hb, ht), tt)
-    variable-short x t none none (some u) ht ha hb hc = ((hc, ht), tt)
-    variable-short x t none none none ht ha hb hc = tt
+    variable-short x t (Some u) b c ht ha hb hc = ((ha, ht), tt)
+    variable-short x t None (Some u) c ht ha hb hc = ((hb, ht), tt)
+    variable-short x t None None (Some u) ht ha hb hc = ((hc, ht), tt)
+    variable-short x t None None None ht ha hb hc = tt
 
     constructor-short : (x : ℕ) (t : Ty) (k : Option Ty) → length t ≤ m → FoundShort m k → ShortGood m (constructor E x t k)
-    constructor-short x t none ht hk = tt
-    constructor-short x t (some k) ht hk = instantiate_constructor-short k (λ u. push (sub u t) done) hk (λ u hu. ((hu, ht), tt))
+    constructor-short x t None ht hk = tt
+    constructor-short x t (Some k) ht hk = instantiate_constructor-short k (λ u. push (sub u t) done) hk (λ u hu. ((hu, ht), tt))
 
     arrow-short : (s : Ty) (b : ℕ) → length s + 2 ≤ m → (suc (length (s ++ unknown b)) ≤ m) × (length s ≤ m)
     arrow-short s b h = (omega (arith, length-append s (unknown b), h), omega (arith, h))
@@ -447,8 +446,8 @@ module _ (m : ℕ) (two : 2 ≤ m) where
 
     check_arrow-short : (e : Term) (t a b : Ty) (f : Option Lambda) → TermShort m e → LambdaShort m f → length t ≤ m → length a ≤ m → length b ≤ m
         → ShortGood m (check_arrow E e t a b f)
-    check_arrow-short e t a b none he h ht ha hb = synthesize-short e t he ht
-    check_arrow-short e t a b (some f) he h ht ha hb = ((h.0, ha), (h.0, ((h.1, hb), tt)))
+    check_arrow-short e t a b None he h ht ha hb = synthesize-short e t he ht
+    check_arrow-short e t a b (Some f) he h ht ha hb = ((h.0, ha), (h.0, ((h.1, hb), tt)))
 
     check_by-short : (e : Term) (t : Ty) (v : View) → TermShort m e → length t ≤ m → ViewShort m v → ShortGood m (check_by E e t v)
     check_by-short e t (is_arrow a b) he ht w = check_arrow-short e t a b (lambda_of e) he (lambda_of-short m e he) ht w.0 w.1
@@ -528,7 +527,7 @@ module _ (m : ℕ) (ls : List Triple) (few : length ls ≤ m) where
       )
 
 -- a sheet that is taken has the line of its expected type's head, and that type
-pub two-lines : (s : List ℕ) → check s ≡ Plan → 2 ≤ length (triples s)
+pub two-lines : (s : List ℕ) → check s ≡ Ok tt → 2 ≤ length (triples s)
 unfolding places_of
 two-lines s e =
     let ls = triples s in
@@ -537,7 +536,7 @@ two-lines s e =
     omega (arith, h, cut-length t 1, length-drop (entries_end ls + 1) ls)
 
 -- every state of a sheet's run, whatever the call, the ceiling c and the limit w
-pub call-short : (s : List ℕ) → check s ≡ Plan → (m : ℕ) → length (triples s) ≤ m → (mode : Mode) (w : ℕ) → w ≤ m → (c : ℕ)
+pub call-short : (s : List ℕ) → check s ≡ Ok tt → (m : ℕ) → length (triples s) ≤ m → (mode : Mode) (w : ℕ) → w ≤ m → (c : ℕ)
     → RunShort m (run_of (limits_for mode w) c (plan_of (triples s)))
 unfolding run_of check_type
 call-short s e m few mode w h c =

@@ -1,12 +1,13 @@
 -- Laws of writing out, and solutions that lead nowhere back.
 -- Assumes nothing.
+use Rattle.std.proofs.lemmas.Option.{none-some}
+use Rattle.std.specs.Prelude.{Option, None, Some}
 use Prim.Native.Nat.{ℕ, zero, suc, ◌+◌, ◌<◌}
 use native.Mathlib.Nat.{not-suc-le-zero}
 use native.Mathlib.Omega.{arith}
 use mathlib.Core.Path.{◌≡◌, refl, sym, ◌∙◌, ap, ap₂, subst, subst⁻¹}
 use mathlib.Core.Logic.{◌≢◌, ◌⊎◌, inl, inr}
 use mathlib.Core.Bool.{Bool, true, false, cond, ◌&&◌, ◌||◌, true≢false}
-use mathlib.Core.Option.{Option, none, some, none-ne-some}
 use mathlib.Core.List.{List, [], ◌∷◌, ◌++◌, append-nil, append_assoc}
 use mathlib.Core.WellFounded.{Acc}
 use lib.Dec.{eqb}
@@ -26,35 +27,35 @@ in-solved [] x m = absurd m
 in-solved (◌≔◌ j r ∷ σ) x (inl e) = inl (ap key e)
 in-solved (◌≔◌ j r ∷ σ) x (inr m) = inr (in-solved σ x m)
 
-pub find-some : (σ : Solutions) (k : ℕ) (s : Ty) → find k σ ≡ some s → In (◌≔◌ k s) σ
+pub find-some : (σ : Solutions) (k : ℕ) (s : Ty) → find k σ ≡ Some s → In (◌≔◌ k s) σ
 unfolding find
-find-some [] k s e = absurd (none-ne-some s e)
+find-some [] k s e = absurd (none-some s e)
 find-some (◌≔◌ j r ∷ σ) k s e = go (eqb j k) refl e (find-some σ k s)
   where
-    go : (b : Bool) → eqb j k ≡ b → cond b (some r) (find k σ) ≡ some s → (find k σ ≡ some s → In (◌≔◌ k s) σ) → In (◌≔◌ k s) (◌≔◌ j r ∷ σ)
+    go : (b : Bool) → eqb j k ≡ b → cond b (Some r) (find k σ) ≡ Some s → (find k σ ≡ Some s → In (◌≔◌ k s) σ) → In (◌≔◌ k s) (◌≔◌ j r ∷ σ)
     go true p q f = inl (cc (eqb-true j k p, q))
     go false p q f = inr (f q)
 
-pub find-in : (σ : Solutions) → Distinct (solved_unknowns σ) → (x : Solution) → In x σ → find (key x) σ ≡ some (value x)
+pub find-in : (σ : Solutions) → Distinct (solved_unknowns σ) → (x : Solution) → In x σ → find (key x) σ ≡ Some (value x)
 unfolding find
 find-in [] d x m = absurd m
 find-in (◌≔◌ j r ∷ σ) d x (inl e) =
-    subst⁻¹ (λ (y : Solution). cond (eqb j (key y)) (some r) (find (key y) σ) ≡ some (value y)) e (ap (λ (b : Bool). cond b (some r) (find j σ)) (eqb_same j))
+    subst⁻¹ (λ (y : Solution). cond (eqb j (key y)) (Some r) (find (key y) σ) ≡ Some (value y)) e (ap (λ (b : Bool). cond b (Some r) (find j σ)) (eqb_same j))
 find-in (◌≔◌ j r ∷ σ) d x (inr m) =
-    ap (λ (b : Bool). cond b (some r) (find (key x) σ)) (eqb-false j (key x) (all_in (λ i. j ≢ i) (solved_unknowns σ) (key x) (in-solved σ x m) d.0)) ∙ find-in σ d.1 x m
+    ap (λ (b : Bool). cond b (Some r) (find (key x) σ)) (eqb-false j (key x) (all_in (λ i. j ≢ i) (solved_unknowns σ) (key x) (in-solved σ x m) d.0)) ∙ find-in σ d.1 x m
 
-pub find_none : (σ : Solutions) (k : ℕ) → Free (solved_unknowns σ) (node 17 k) → find k σ ≡ none
+pub find_none : (σ : Solutions) (k : ℕ) → Free (solved_unknowns σ) (node 17 k) → find k σ ≡ None
 unfolding find
 find_none [] k h = refl
-find_none (◌≔◌ j s ∷ σ) k h = ap {B = Option Ty} (λ b. cond b (some s) (find k σ)) h.0 ∙ find_none σ k h.1
+find_none (◌≔◌ j s ∷ σ) k h = ap {B = Option Ty} (λ b. cond b (Some s) (find k σ)) h.0 ∙ find_none σ k h.1
 
-pub find-none-free : (σ : Solutions) (k : ℕ) → find k σ ≡ none → Free (solved_unknowns σ) (node 17 k)
+pub find-none-free : (σ : Solutions) (k : ℕ) → find k σ ≡ None → Free (solved_unknowns σ) (node 17 k)
 unfolding find
 find-none-free [] k e = tt
 find-none-free (◌≔◌ j r ∷ σ) k e = go (eqb j k) refl e (find-none-free σ k)
   where
-    go : (b : Bool) → eqb j k ≡ b → cond b (some r) (find k σ) ≡ none → (find k σ ≡ none → Free (solved_unknowns σ) (node 17 k)) → Free (j ∷ solved_unknowns σ) (node 17 k)
-    go true p q f = absurd (none-ne-some r (sym q))
+    go : (b : Bool) → eqb j k ≡ b → cond b (Some r) (find k σ) ≡ None → (find k σ ≡ None → Free (solved_unknowns σ) (node 17 k)) → Free (j ∷ solved_unknowns σ) (node 17 k)
+    go true p q f = absurd (none-some r (sym q))
     go false p q f = (p, f q)
 
 ---------------------------------------------------------------- a node that is a solved unknown, and one that is not
@@ -64,23 +65,23 @@ other-free ks j v h = all_of (λ k. Avoids k (node j v)) ks (λ k m. ap (λ b. b
 
 module _ (σ : Solutions) where
   -- one of the two
-  pub by-solved : (n : Node) {P : Type 0} → ((v : ℕ) (s : Ty) → n ≡ node 17 v → find v σ ≡ some s → P) → (is_solved σ n ≡ false → P) → P
+  pub by-solved : (n : Node) {P : Type 0} → ((v : ℕ) (s : Ty) → n ≡ node 17 v → find v σ ≡ Some s → P) → (is_solved σ n ≡ false → P) → P
   by-solved (node k v) {P} f g = go (eqb k 17) refl (find v σ) refl
     where
       go : (b : Bool) → eqb k 17 ≡ b → (o : Option Ty) → find v σ ≡ o → P
-      go true e (some s) q = f v s (ap (λ (j : ℕ). node j v) (eqb-true k 17 e)) q
-      go true e none q = g (ap (λ (b : Bool). cond b (known (find v σ)) false) e ∙ ap known q)
+      go true e (Some s) q = f v s (ap (λ (j : ℕ). node j v) (eqb-true k 17 e)) q
+      go true e None q = g (ap (λ (b : Bool). cond b (known (find v σ)) false) e ∙ ap known q)
       go false e o q = g (ap (λ (b : Bool). cond b (known (find v σ)) false) e)
 
-  pub link-solved : (v : ℕ) (s : Ty) → find v σ ≡ some s → link σ (node 17 v) ≡ s
+  pub link-solved : (v : ℕ) (s : Ty) → find v σ ≡ Some s → link σ (node 17 v) ≡ s
   link-solved v s e = ap (or_unknown v) e
 
   pub link-unsolved : (n : Node) → is_solved σ n ≡ false → link σ n ≡ n ∷ []
   link-unsolved (node k v) e = go (eqb k 17) refl (find v σ) refl e
     where
       go : (b : Bool) → eqb k 17 ≡ b → (o : Option Ty) → find v σ ≡ o → cond b (known o) false ≡ false → cond b (or_unknown v o) (node k v ∷ []) ≡ node k v ∷ []
-      go true p none q e = ap {B = Ty} (λ j. node j v ∷ []) (sym (eqb-true k 17 p))
-      go true p (some s) q e = absurd (true≢false e)
+      go true p None q e = ap {B = Ty} (λ j. node j v ∷ []) (sym (eqb-true k 17 p))
+      go true p (Some s) q e = absurd (true≢false e)
       go false p o q e = refl
 
   free-unsolved : (n : Node) → Free (solved_unknowns σ) n → is_solved σ n ≡ false
@@ -94,8 +95,8 @@ module _ (σ : Solutions) where
   unsolved-free (node k v) h = go (eqb k 17) refl (find v σ) refl h
     where
       go : (b : Bool) → eqb k 17 ≡ b → (o : Option Ty) → find v σ ≡ o → cond b (known o) false ≡ false → Free (solved_unknowns σ) (node k v)
-      go true e none q h = subst⁻¹ (λ (j : ℕ). Free (solved_unknowns σ) (node j v)) (eqb-true k 17 e) (find-none-free σ v q)
-      go true e (some s) q h = absurd (true≢false h)
+      go true e None q h = subst⁻¹ (λ (j : ℕ). Free (solved_unknowns σ) (node j v)) (eqb-true k 17 e) (find-none-free σ v q)
+      go true e (Some s) q h = absurd (true≢false h)
       go false e o q h = other-free (solved_unknowns σ) k v (λ p. true≢false (sym (ap (λ (j : ℕ). eqb j 17) p) ∙ e))
 
 ---------------------------------------------------------------- links, one after the other

@@ -1,11 +1,13 @@
 -- The strict call beside the first: but for 39 they give the same (`strict_same`, `strict-call`), the strict one accepts only what the first accepts
 -- (`strict-accepts`), and the first never gives 39 (`never-39`). Assumes nothing.
+use Rattle.grammar.specs.declared.SheetError.TheVariants.{Length, Misspelt, Unfit}
+use Rattle.grammar.specs.declared.SheetError.{SheetError}
+use Rattle.std.specs.Prelude.{Option, None, Some, Result, Ok, Err}
 use Prim.Native.Nat.{ℕ, zero, suc, ◌+◌}
 use native.Mathlib.Omega.{arith}
 use mathlib.Core.Path.{◌≡◌, refl, sym, ◌∙◌, ap}
 use mathlib.Core.Logic.{◌≢◌}
 use mathlib.Core.Bool.{Bool, true, false, cond}
-use mathlib.Core.Option.{Option, none, some}
 use mathlib.Core.List.{List, [], ◌∷◌, ◌++◌}
 use lib.Dec.{ltb}
 use lib.ListN.{length}
@@ -13,8 +15,6 @@ use Rattle.sizes.specs.Sizes.{highest_ceiling}
 use Rattle.nodes.specs.Nodes.{Ty}
 use Rattle.nodes.proofs.ListLaws.{cond_ind}
 use Rattle.spelling.specs.declared.Triple.{Triple}
-use Rattle.grammar.specs.declared.Check.{Check}
-use Rattle.grammar.specs.declared.Check.TheVariants.{Plan, Length, Misspelt, Unfit}
 use Rattle.grammar.specs.Check.{check}
 use Rattle.sheet.specs.Plan.{triples, plan_of}
 use Rattle.judgment.specs.declared.TypeError.{TypeError}
@@ -25,7 +25,7 @@ use Rattle.judgment.specs.Board.{below, within, Entry, Board, Limits, Rule, done
 use Rattle.judgment.specs.Levels.{Levels, own_levels, levels_after, first_call, strict_call}
 use Rattle.judgment.specs.Rules.{Env, rule}
 use Rattle.judgment.specs.Run.{Step, step, End, accepted, ceiling, refused_by, Run, run, end, add_step, onward, run_from, check_type}
-use Rattle.judgment.specs.Result.{error_number, end_number, Result, env_of, run_of, result_of, judge, limits_for, Buffers, Called, refused_at, written, by_check, limit_bad, too_short, call}
+use Rattle.judgment.specs.Result.{error_number, end_number, Judged, env_of, run_of, result_of, judge, limits_for, Buffers, Called, refused_at, written, by_check, limit_bad, too_short, call}
 use Rattle.judgment.proofs.OtherOrders.{Order, Reorders, same}
 use Rattle.judgment.proofs.Alike.{NotScope, InScope}
 use Rattle.judgment.proofs.AnyOrder.{rule-parallel}
@@ -52,8 +52,8 @@ in_scope false s f = out
 
 solves : (f : Option Ty) (t : Ty) {a b c a' b' c' : List Operation} {x y z x' y' z' : Outcome} → Beside a x a' x' → Beside b y b' y' → Beside c z c' z'
     → Beside (solving f t a b c) (solving f t x y z) (solving f t a' b' c') (solving f t x' y' z')
-solves none t f g h = f
-solves (some u) t f g h = either (can_unify t u) g h
+solves None t f g h = f
+solves (Some u) t f g h = either (can_unify t u) g h
 
 -- the same limits where every solution is in scope
 abbrev pub in_all : Limits → Limits
@@ -117,15 +117,13 @@ strict_same w c ls h = beside-result (plan_of ls).plain own_levels (run-beside (
 
 -- the strict call accepts only what the first accepts
 pub strict-accepts : (w c : ℕ) (ls : List Triple) → (judge (limits_for strict_call w) c ls).answer.number ≡ 0 → (judge (limits_for first_call w) c ls).answer.number ≡ 0
-strict-accepts w c ls h = ap (λ (r : Result). r.answer.number) (sym (strict_same w c ls (λ e. absurd (let z = sym h ∙ e in omega arith)))) ∙ h
+strict-accepts w c ls h = ap (λ (r : Judged). r.answer.number) (sym (strict_same w c ls (λ e. absurd (let z = sym h ∙ e in omega arith)))) ∙ h
 
 -- ---- whole calls, with what they leave in the buffers
 module _ (s : List ℕ) (c w : ℕ) (b : Buffers) where
-  check-same : (k : Check) → (by_check strict_call s c w b k).answer.number ≢ 39 → by_check strict_call s c w b k ≡ by_check first_call s c w b k
-  check-same Plan h = ap (written w b) (strict_same w c (triples s) h)
-  check-same Length h = refl
-  check-same (Misspelt l) h = refl
-  check-same (Unfit l) h = refl
+  check-same : (k : (Result Unit SheetError)) → (by_check strict_call s c w b k).answer.number ≢ 39 → by_check strict_call s c w b k ≡ by_check first_call s c w b k
+  check-same (Ok _) h = ap (written w b) (strict_same w c (triples s) h)
+  check-same (Err e) h = refl
 
   -- STRICT-CALL: for all bytes, every ceiling, every limit and any buffers
   pub strict-call : (call strict_call s c w b).answer.number ≢ 39 → call strict_call s c w b ≡ call first_call s c w b
@@ -204,11 +202,11 @@ never-39 w c ls e =
     end-not-39 (end R) (run_in w (env_of p) c own_levels _) (sym (number_of p.plain own_levels R) ∙ e)
 
 module _ (s : List ℕ) (c w : ℕ) (b : Buffers) where
-  check-never : (k : Check) → (by_check first_call s c w b k).answer.number ≢ 39
-  check-never Plan = never-39 w c (triples s)
-  check-never Length = omega arith
-  check-never (Misspelt l) = omega arith
-  check-never (Unfit l) = omega arith
+  check-never : (k : (Result Unit SheetError)) → (by_check first_call s c w b k).answer.number ≢ 39
+  check-never (Ok _) = never-39 w c (triples s)
+  check-never (Err Length) = omega arith
+  check-never (Err (Misspelt l)) = omega arith
+  check-never (Err (Unfit l)) = omega arith
 
   pub call-never-39 : (call first_call s c w b).answer.number ≢ 39
   unfolding call

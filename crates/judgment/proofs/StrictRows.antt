@@ -15,7 +15,7 @@ use Rattle.judgment.specs.Solutions.{◌≔◌, find, links, any_solved, write_o
 use Rattle.judgment.specs.Board.{up_to, Limits, board_nodes, find_var, before, perform, operations}
 use Rattle.judgment.specs.Rules.{instantiate_from, subtype, open_names, signature_from, insert, push_vars, check_patterns, check_arms, infer_app}
 use Rattle.judgment.specs.Run.{run_from, check_type}
-use Rattle.judgment.specs.Result.{numbers, Result, limits_for, padded, place_from, threes_from, node_words, book_words, result_of, run_of, judge}
+use Rattle.judgment.specs.Result.{numbers, Judged, limits_for, padded, place_from, threes_from, node_words, book_words, result_of, run_of, judge}
 use Rattle.judgment.specs.Levels.{Levels, Mode, first_call, strict_call, scope_of, put, lower, level_made, level_after, levels_after, none_above}
 use Rattle.judgment.proofs.Wall.{l, Row}
 
@@ -27,7 +27,7 @@ abbrev levels_from : Levels → ℕ → ℕ → List ℕ
 levels_from v k zero = []
 levels_from v k (suc n) = v k ∷ levels_from v (k + 1) n
 
-abbrev row_of_result : Result → LevelRow
+abbrev row_of_result : Judged → LevelRow
 row_of_result r = ((numbers r.answer, r.report, r.solutions), levels_from r.levels 0 r.answer.fresh)
 
 unfoldable pub level_row : Mode → ℕ → List Triple → LevelRow

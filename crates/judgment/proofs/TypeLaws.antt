@@ -1,11 +1,11 @@
 -- Laws of types and terms: what a view shows, and that what holds of every node is kept.
 -- Assumes nothing.
+use Rattle.std.specs.Prelude.{Option, None, Some}
 use Prim.Native.Nat.{ℕ, zero, suc, ◌+◌}
 use mathlib.Core.Path.{◌≡◌, refl, sym, ap, ap₂, subst, subst⁻¹}
 use mathlib.Core.Logic.{◌≢◌}
 use mathlib.Core.Bool.{Bool, true, false, cond, ◌&&◌, and-eq-true_iff, false≢true}
 use mathlib.Core.List.{List, [], ◌∷◌, ◌++◌}
-use mathlib.Core.Option.{Option, none, some}
 use lib.Dec.{T, eqb, eqb→eq, eqb_refl}
 use Rattle.nodes.proofs.PartLaws.{take-drop}
 use Rattle.nodes.specs.Lists.{All}
@@ -178,8 +178,8 @@ module _ (P : Node → Type 0) where
   term-has e h = view-has e.lines (e.line + 1) h
 
   abbrev pub LambdaHas : Option Lambda → Type 0
-  LambdaHas none = Unit {0}
-  LambdaHas (some f) = All P f.type × Lines P f.body
+  LambdaHas None = Unit {0}
+  LambdaHas (Some f) = All P f.type × Lines P f.body
 
   lambda-by : (ls : List Triple) (next : ℕ) → All (λ l. P (line_node l)) ls → LambdaHas (lambda_by ls next)
   lambda-by [] next h = tt

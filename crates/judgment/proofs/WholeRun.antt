@@ -1,8 +1,8 @@
 -- Every type of a run is one whole type: on the board, in the solutions and in the plan. Assumes nothing.
+use Rattle.std.specs.Prelude.{Option, None, Some, Ok}
 use Prim.Native.Nat.{ℕ, zero, suc, ◌+◌}
 use mathlib.Core.Path.{◌≡◌, refl}
 use mathlib.Core.Bool.{cond}
-use mathlib.Core.Option.{Option, none, some}
 use mathlib.Core.List.{List, [], ◌∷◌, ◌++◌}
 use lib.Dec.{eqb, leb, ltb}
 use lib.ListN.{length, take, drop}
@@ -12,7 +12,6 @@ use Rattle.nodes.specs.Parts.{take_parts}
 use Rattle.nodes.proofs.ListLaws.{cond_ind, all_append}
 use Rattle.spelling.specs.declared.Triple.{Triple}
 use Rattle.kinds.specs.Kinds.{parts_of}
-use Rattle.grammar.specs.declared.Check.TheVariants.{Plan}
 use Rattle.grammar.specs.Check.{check}
 use Rattle.sheet.specs.Plan.{triples, Declaration, declarations, Binding, ◌∶◌, Bindings, bindings_in, lookup, places_of, plan_of}
 use Rattle.sheet.specs.Form.{Typed}
@@ -56,8 +55,8 @@ WholeGood (zonk t f) = IsTy t × ((u : Ty) → IsTy u → WholeGood (f u))
 WholeGood (look f) = (Γ : Board) → All EntryWhole Γ → WholeGood (f Γ)
 
 pub solving-ind : {A : Type 0} (P : A → Type 0) (o : Option Ty) (s : Ty) {new same clash : A} → P new → P same → P clash → P (solving o s new same clash)
-solving-ind P none s a b c = a
-solving-ind P (some t) s a b c = cond_ind P (can_unify s t) (λ _. b) (λ _. c)
+solving-ind P None s a b c = a
+solving-ind P (Some t) s a b c = cond_ind P (can_unify s t) (λ _. b) (λ _. c)
 
 pub perform-whole : (L : Limits) (p : Rule) (Γ : Board) (σ : Solutions) (n : ℕ) → All EntryWhole Γ → All (λ x. IsTy (value x)) σ → WholeGood p
     → OutcomeWhole (perform L p Γ σ n)
@@ -173,8 +172,8 @@ subtype-whole s t hs ht = (
 ---------------------------------------------------------------- constructors and patterns
 -- a type that was looked up
 abbrev FoundWhole : Option Ty → Type 0
-FoundWhole none = Unit {0}
-FoundWhole (some t) = IsTy t
+FoundWhole None = Unit {0}
+FoundWhole (Some t) = IsTy t
 
 lookup-whole : (x : ℕ) (bs : Bindings) → All BindingWhole bs → FoundWhole (lookup x bs)
 unfolding lookup
@@ -182,8 +181,8 @@ lookup-whole x [] h = tt
 lookup-whole x (◌∶◌ y t ∷ bs) h = cond_ind FoundWhole (eqb y x) (λ _. h.0) (λ _. lookup-whole x bs h.1)
 
 or_else-whole : (a b : Option Ty) → FoundWhole a → FoundWhole b → FoundWhole (or_else a b)
-or_else-whole none b p q = q
-or_else-whole (some t) b p q = p
+or_else-whole None b p q = q
+or_else-whole (Some t) b p q = p
 
 var_named-whole : (x : ℕ) (e : Entry) → EntryWhole e → FoundWhole (var_named x e)
 var_named-whole x (tvar n) h = tt
@@ -242,8 +241,8 @@ push_vars-whole (◌∶◌ x t ∷ bs) p h g = (h.0, push_vars-whole bs p h.1 g)
 module _ (E : Env) (hE : EnvWhole E) where
   pattern_constructor-whole : (x c : ℕ) (t : Ty) (again : List Ty → Rule) (k : Option Ty) → IsTy t → FoundWhole k
       → ((ps : List Ty) → All IsTy ps → WholeGood (again ps)) → WholeGood (pattern_constructor E x c t again k)
-  pattern_constructor-whole x c t again none ht hk f = tt
-  pattern_constructor-whole x c t again (some k) ht hk f =
+  pattern_constructor-whole x c t again None ht hk f = tt
+  pattern_constructor-whole x c t again (Some k) ht hk f =
       instantiate_constructor-whole k (λ t'. signature_from (length t') [] t' (pattern_parts E c t again)) hk (λ u hu.
       signature_from-whole (length u) [] u (pattern_parts E c t again) tt hu (λ ps res hps hres.
       ((hres, ht), cond_ind WholeGood (eqb c (length ps)) (λ _. f ps hps) (λ _. tt))))
@@ -275,14 +274,14 @@ module _ (E : Env) (hE : EnvWhole E) where
       (λ bs hbs. push_vars-whole bs p hbs ((a.1, ht), check_arms-whole n (after_parts 2 ls) s t a.2 hs ht))
 
   variable-whole : (x : ℕ) (t : Ty) (a b c : Option Ty) → IsTy t → FoundWhole a → FoundWhole b → FoundWhole c → WholeGood (variable E x t a b c)
-  variable-whole x t (some u) b c ht ha hb hc = ((ha, ht), tt)
-  variable-whole x t none (some u) c ht ha hb hc = ((hb, ht), tt)
-  variable-whole x t none none (some u) ht ha hb hc = ((hc, ht), tt)
-  variable-whole x t none none none ht ha hb hc = tt
+  variable-whole x t (Some u) b c ht ha hb hc = ((ha, ht), tt)
+  variable-whole x t None (Some u) c ht ha hb hc = ((hb, ht), tt)
+  variable-whole x t None None (Some u) ht ha hb hc = ((hc, ht), tt)
+  variable-whole x t None None None ht ha hb hc = tt
 
   constructor-whole : (x : ℕ) (t : Ty) (k : Option Ty) → IsTy t → FoundWhole k → WholeGood (constructor E x t k)
-  constructor-whole x t none ht hk = tt
-  constructor-whole x t (some k) ht hk = instantiate_constructor-whole k (λ u. push (sub u t) done) hk (λ u hu. ((hu, ht), tt))
+  constructor-whole x t None ht hk = tt
+  constructor-whole x t (Some k) ht hk = instantiate_constructor-whole k (λ u. push (sub u t) done) hk (λ u hu. ((hu, ht), tt))
 
   infer_by-whole : (t : Ty) (v : TermView) → TermViewWhole v → IsTy t → WholeGood (infer_by E t v)
   infer_by-whole t (is_var x) h ht = λ Γ hΓ.
@@ -306,8 +305,8 @@ module _ (E : Env) (hE : EnvWhole E) where
   synthesize-whole e t he ht = λ a. (tt, ((unknown-whole a, ht), ((he, unknown-whole a), tt)))
 
   check_arrow-whole : (e : Term) (t a b : Ty) (f : Option Lambda) → TermOK e → LambdaWhole f → IsTy t → IsTy a → IsTy b → WholeGood (check_arrow E e t a b f)
-  check_arrow-whole e t a b none he h ht ha hb = synthesize-whole e t he ht
-  check_arrow-whole e t a b (some f) he h ht ha hb = ((h.0, ha), (h.0, ((h.1, hb), tt)))
+  check_arrow-whole e t a b None he h ht ha hb = synthesize-whole e t he ht
+  check_arrow-whole e t a b (Some f) he h ht ha hb = ((h.0, ha), (h.0, ((h.1, hb), tt)))
 
   check_by-whole : (e : Term) (t : Ty) (v : View) → TermOK e → IsTy t → ViewWhole v → WholeGood (check_by E e t v)
   check_by-whole e t (is_arrow a b) he ht w = check_arrow-whole e t a b (lambda_of e) he (lambda-whole e he) ht w.0 w.1
@@ -369,7 +368,7 @@ bindings-whole k ls (e ∷ es) h =
     (λ _. (type-whole (take e.count (drop e.line ls)) h.0, bindings-whole k ls es h.1))
     (λ _. bindings-whole k ls es h.1)
 
-pub plan-whole : (s : List ℕ) → check s ≡ Plan
+pub plan-whole : (s : List ℕ) → check s ≡ Ok tt
     → (let p = plan_of (triples s) in EnvWhole (env_of p) × EntryWhole (chk p.term p.expected))
 unfolding plan_of
 plan-whole s e =

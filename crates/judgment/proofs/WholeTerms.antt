@@ -1,8 +1,8 @@
 -- One whole term each: the parts that the rules take out of a whole term are whole. Assumes nothing.
+use Rattle.std.specs.Prelude.{Option, None, Some}
 use Prim.Native.Nat.{ℕ, suc, ◌+◌}
 use mathlib.Core.Path.{◌≡◌, subst}
 use mathlib.Core.Bool.{true}
-use mathlib.Core.Option.{Option, none, some}
 use mathlib.Core.List.{List, [], ◌∷◌, append-nil}
 use lib.Dec.{eqb}
 use lib.ListN.{replicate}
@@ -88,8 +88,8 @@ unfolding term_view
 term-view-whole e h = view-whole e.lines (e.line + 1) h
 
 abbrev pub LambdaWhole : Option Lambda → Type 0
-LambdaWhole none = Unit {0}
-LambdaWhole (some f) = IsTy f.type × TermOK f.body
+LambdaWhole None = Unit {0}
+LambdaWhole (Some f) = IsTy f.type × TermOK f.body
 
 lambda-by : (ls : List Triple) (next : ℕ) → IsPart a_term ls → LambdaWhole (lambda_by ls next)
 unfolding row_of find table following

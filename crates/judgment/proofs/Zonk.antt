@@ -1,10 +1,10 @@
 -- `write_out` is the Rust's `zonk`: the one function on types that goes into the parts and follows every solution.
 -- Assumes nothing.
+use Rattle.std.specs.Prelude.{Option, None, Some}
 use Prim.Native.Nat.{ℕ}
 use mathlib.Core.Path.{◌≡◌, refl, sym, ◌∙◌, ap, ap₂, subst, subst⁻¹}
 use mathlib.Core.Logic.{◌≢◌}
 use mathlib.Core.Bool.{Bool, true, false, true≢false}
-use mathlib.Core.Option.{Option, none, some}
 use mathlib.Core.List.{[], ◌∷◌, ◌++◌}
 use mathlib.Core.WellFounded.{Acc}
 use lib.Dec.{eqb}
@@ -24,7 +24,7 @@ pub record Zonks (σ : Solutions) (g : Ty → Ty) : Type 0 where
   pub parts : (s t : Ty) → g (s ++ t) ≡ g s ++ g t
   pub other : (k v : ℕ) → k ≢ 17 → g (node k v ∷ []) ≡ node k v ∷ []
   pub solved : (k : ℕ) (s : Ty) → In (◌≔◌ k s) σ → g (unknown k) ≡ g s
-  pub unsolved : (k : ℕ) → find k σ ≡ none → g (unknown k) ≡ unknown k
+  pub unsolved : (k : ℕ) → find k σ ≡ None → g (unknown k) ≡ unknown k
 
 written-nil : (σ : Solutions) → write_out σ [] ≡ []
 written-nil σ = written-free σ [] tt
@@ -59,8 +59,8 @@ module _ (σ : Solutions) (f : Fine σ) (g : Ty → Ty) (Z : Zonks σ g) where
   at-unknown k (Acc.intro x a) = go (find x σ) refl (λ j p. at-unknown j (a j p))
     where
       go : (o : Option Ty) → find x σ ≡ o → ((j : ℕ) → Follows σ j x → g (unknown j) ≡ write_out σ (unknown j)) → g (unknown x) ≡ write_out σ (unknown x)
-      go none e ih = Z.unsolved x e ∙ sym ((write_out-zonks σ f).unsolved x e)
-      go (some s) e ih =
+      go None e ih = Z.unsolved x e ∙ sym ((write_out-zonks σ f).unsolved x e)
+      go (Some s) e ih =
           let m = find-some σ x s e in
           Z.solved x s m ∙ node-by-node s (all_of _ s (λ n i. at-node n (λ j p. ih j (s, m, subst (λ y. In y s) p i)))) ∙ sym ((write_out-zonks σ f).solved x s m)
 

@@ -1,7 +1,6 @@
 -- The board, and the operations that the rules are made of, with the limits that they test.
 -- Assumes nothing.
-use Rattle.std.specs.Prelude.{ℕ, suc, ◌+◌, Bool, true, false, cond, ◌&&◌, List, [], ◌∷◌, ◌++◌, eqb, leb, ltb, length}
-use Rattle.std.proofs.Math.Option.{Option, none, some}
+use Rattle.std.specs.Prelude.{ℕ, suc, ◌+◌, Bool, true, false, cond, ◌&&◌, List, [], ◌∷◌, ◌++◌, eqb, leb, ltb, length, Option, None, Some}
 use Rattle.nodes.specs.Nodes.{Node, Ty}
 use Rattle.judgment.specs.declared.TypeError.{TypeError}
 use Rattle.judgment.specs.declared.TypeError.TheVariants.{TypeUnificationError, BoardFull, TypeTooLong, NoFreshNumber, SolutionsFull, OutOfScope}
@@ -35,19 +34,19 @@ board_nodes (e ∷ Γ) = entry_nodes e + board_nodes Γ
 
 -- `find_var`: the newest
 abbrev pub var_named : ℕ → Entry → Option Ty
-var_named x (tvar n) = none
-var_named x (var y t) = cond (eqb x y) (some t) none
-var_named x (sub s t) = none
-var_named x (inf e t) = none
-var_named x (chk e t) = none
-var_named x (inf_app f e t) = none
+var_named x (tvar n) = None
+var_named x (var y t) = cond (eqb x y) (Some t) None
+var_named x (sub s t) = None
+var_named x (inf e t) = None
+var_named x (chk e t) = None
+var_named x (inf_app f e t) = None
 
 abbrev pub or_else : {A : Type 0} → Option A → Option A → Option A
-or_else none y = y
-or_else (some a) y = some a
+or_else None y = y
+or_else (Some a) y = Some a
 
 unfoldable pub find_var : ℕ → Board → Option Ty
-find_var x [] = none
+find_var x [] = None
 find_var x (e ∷ Γ) = or_else (var_named x e) (find_var x Γ)
 
 -- `before`: the newest TVar of a is older than the newest one of b
@@ -128,8 +127,8 @@ pub data Operation : Type 0 where
 
 -- `solve_evar`: an unknown with a solution keeps it, if the new one can be unified with it. For one without, scope is tested before size.
 abbrev pub solving : {A : Type 0} → Option Ty → Ty → A → A → A → A
-solving none s new same clash = new
-solving (some t) s new same clash = cond (can_unify s t) same clash
+solving None s new same clash = new
+solving (Some t) s new same clash = cond (can_unify s t) same clash
 
 -- A rule performed. A refusal keeps the state that it met.
 module _ (L : Limits) where

@@ -1,6 +1,5 @@
 -- Chains of solved unknowns, and the most links that one has. Assumes nothing: these are definitions.
-use Rattle.std.specs.Prelude.{ℕ, zero, suc, ◌≤◌, ◌≡◌, Bool, true, false, ◌&&◌, List, [], ◌∷◌, ◌++◌, length}
-use Rattle.std.proofs.Math.Option.{Option, none, some}
+use Rattle.std.specs.Prelude.{ℕ, zero, suc, ◌≤◌, ◌≡◌, Bool, true, false, ◌&&◌, List, [], ◌∷◌, ◌++◌, length, Option, None, Some}
 use Rattle.nodes.specs.Nodes.{Ty}
 use Rattle.judgment.specs.Types.{unknown, con, occurs}
 use Rattle.judgment.specs.Solutions.{◌≔◌, Solutions, find}
@@ -9,9 +8,9 @@ use Rattle.judgment.specs.Run.{Step, step, Run, run}
 
 -- there is a solution, and the unknown that comes next, if one does, is in it
 abbrev pub leads_on : Option Ty → List ℕ → Bool
-leads_on none ks = false
-leads_on (some s) [] = true
-leads_on (some s) (k ∷ ks) = occurs k s
+leads_on None ks = false
+leads_on (Some s) [] = true
+leads_on (Some s) (k ∷ ks) = occurs k s
 
 -- Unknowns that are solved, each in the solution of the one before. Each is followed into its solution: so many links.
 unfoldable pub is_chain : Solutions → List ℕ → Bool

@@ -1,12 +1,11 @@
 -- The result of a run, and of a whole call: seven numbers, and what stands in board, book and report.
 -- Assumes nothing.
-use Rattle.std.specs.Prelude.{ℕ, zero, suc, ◌+◌, ◌*◌, Bool, true, cond, ◌||◌, List, [], ◌∷◌, ◌++◌, eqb, ltb, length, take, replicate}
+use Rattle.grammar.specs.declared.SheetError.{SheetError}
+use Rattle.std.specs.Prelude.{ℕ, zero, suc, ◌+◌, ◌*◌, Bool, true, cond, ◌||◌, List, [], ◌∷◌, ◌++◌, eqb, ltb, length, take, replicate, Result, Ok, Err}
 use Rattle.std.proofs.lemmas.List.Edits.{sets}
 use Rattle.sizes.specs.Sizes.{highest_ceiling, most_entries, most_nodes, most_numbers, highest_limit, usual_limit, board_size, book_base, book_size, report_stride}
 use Rattle.nodes.specs.Nodes.{Ty, words}
 use Rattle.spelling.specs.declared.Triple.{Triple}
-use Rattle.grammar.specs.declared.Check.{Check}
-use Rattle.grammar.specs.declared.Check.TheVariants.{Plan, Length, Misspelt, Unfit}
 use Rattle.grammar.specs.Check.{check, check_number, check_line}
 use Rattle.sheet.specs.Plan.{Plan as PlanOf, plan_of, triples}
 use Rattle.judgment.specs.declared.TypeError.{TypeError}
@@ -71,13 +70,13 @@ end_report accepted = []
 end_report ceiling = []
 end_report (refused_by r ts) = ts
 
-pub record Result : Type 0 where
+pub record Judged : Type 0 where
   pub answer : Answer
   pub report : Ty
   pub solutions : Solutions
   pub levels : Levels
 
-abbrev result_from : Bool → Levels → List Step → End → State → Result
+abbrev result_from : Bool → Levels → List Step → End → State → Judged
 result_from plain v ss e (state Γ σ n) = record {
   answer = record {
     number = end_number e;
@@ -94,7 +93,7 @@ result_from plain v ss e (state Γ σ n) = record {
 }
 
 -- of a run that began with the levels v
-unfoldable pub result_of : Bool → Levels → Run → Result
+unfoldable pub result_of : Bool → Levels → Run → Judged
 result_of plain v (run ss e s) = result_from plain v ss e s
 
 -- the run of a plan
@@ -108,7 +107,7 @@ unfoldable pub run_of : (Levels → Limits) → ℕ → PlanOf → Run
 run_of L c p = check_type L (env_of p) c p.term p.expected
 
 -- the result for the lines of a sheet
-unfoldable pub judge : (Levels → Limits) → ℕ → List Triple → Result
+unfoldable pub judge : (Levels → Limits) → ℕ → List Triple → Judged
 judge L c ls = let p = plan_of ls in result_of p.plain own_levels (run_of L c p)
 
 -- what a run is told: how many nodes a written-out type may have, and which solutions are in scope
@@ -185,7 +184,7 @@ abbrev pub refused_at : ℕ → ℕ → Answer
 refused_at number line = record { number = number; line = line; taken = 0; fresh = 0; detail1 = 0; detail2 = 0; plain = 0 }
 
 -- a longer buffer keeps its tail
-abbrev pub written : ℕ → Buffers → Result → Called
+abbrev pub written : ℕ → Buffers → Judged → Called
 written w b r = record {
   answer = r.answer;
   after = record {
@@ -196,14 +195,12 @@ written w b r = record {
 }
 
 -- 3, 4 or 5, by the number and the line of what the sheet is
-abbrev pub refused_sheet : Check → Buffers → Called
+abbrev pub refused_sheet : Result Unit SheetError → Buffers → Called
 refused_sheet k b = record { answer = refused_at (check_number k) (check_line k); after = b }
 
-abbrev pub by_check : Mode → List ℕ → ℕ → ℕ → Buffers → Check → Called
-by_check m s c w b Plan = written w b (judge (limits_for m w) c (triples s))
-by_check m s c w b Length = refused_sheet Length b
-by_check m s c w b (Misspelt l) = refused_sheet (Misspelt l) b
-by_check m s c w b (Unfit l) = refused_sheet (Unfit l) b
+abbrev pub by_check : Mode → List ℕ → ℕ → ℕ → Buffers → Result Unit SheetError → Called
+by_check m s c w b (Ok _) = written w b (judge (limits_for m w) c (triples s))
+by_check m s c w b (Err e) = refused_sheet (Err e) b
 
 -- no limit that a caller may pick
 abbrev pub limit_bad : ℕ → Bool

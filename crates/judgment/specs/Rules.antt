@@ -2,8 +2,7 @@
 -- Krishnaswami 2013; the worklist is the paper of 2019's (Zhao, Oliveira and Schrijvers). In every difference the Rust decides: these are the
 -- functions of `worklist.rs` that `check_type` reaches, in the Rust's order of pushes, fresh numbers, solutions and tests. At each rule stands its
 -- name in DK, or "papers silent". Both papers are meant as their published rules are known: the texts were not at hand. Assumes nothing.
-use Rattle.std.specs.Prelude.{ℕ, zero, suc, cond, List, [], ◌∷◌, ◌++◌, eqb, leb, ltb, length}
-use Rattle.std.proofs.Math.Option.{Option, none, some}
+use Rattle.std.specs.Prelude.{ℕ, zero, suc, cond, List, [], ◌∷◌, ◌++◌, eqb, leb, ltb, length, Option, None, Some}
 use Rattle.nodes.specs.Nodes.{node, Ty}
 use Rattle.spelling.specs.declared.Triple.{Triple}
 use Rattle.sheet.specs.Plan.{◌∶◌, Bindings, lookup}
@@ -207,8 +206,8 @@ module _ (E : Env) where
     cond (eqb c (length ps)) (again ps) (refuse (ArityMismatch (length ps) c) [])
 
   abbrev pub pattern_constructor : ℕ → ℕ → Ty → (List Ty → Rule) → Option Ty → Rule
-  pattern_constructor x c t again none = refuse (UnboundDataConstructor x) []
-  pattern_constructor x c t again (some k) = extract_signature k (pattern_parts c t again)
+  pattern_constructor x c t again None = refuse (UnboundDataConstructor x) []
+  pattern_constructor x c t again (Some k) = extract_signature k (pattern_parts c t again)
 
   abbrev pub pattern_by : ℕ → ℕ → Ty → Bindings → (List Ty → Bindings → Rule) → PatternView → Rule
   pattern_by x c t bs again is_wildcard = again [] bs
@@ -230,14 +229,14 @@ module _ (E : Env) where
 
   ---------------------------------------------------------------- solve_inference
   abbrev pub variable : ℕ → Ty → Option Ty → Option Ty → Option Ty → Rule
-  variable x t (some u) b c = push (sub u t) done
-  variable x t none (some u) c = push (sub u t) done
-  variable x t none none (some u) = push (sub u t) done
-  variable x t none none none = refuse (UnboundVariable x) []
+  variable x t (Some u) b c = push (sub u t) done
+  variable x t None (Some u) c = push (sub u t) done
+  variable x t None None (Some u) = push (sub u t) done
+  variable x t None None None = refuse (UnboundVariable x) []
 
   abbrev pub constructor : ℕ → Ty → Option Ty → Rule
-  constructor x t none = refuse (UnboundDataConstructor x) []
-  constructor x t (some k) = instantiate_constructor k λ u. push (sub u t) done
+  constructor x t None = refuse (UnboundDataConstructor x) []
+  constructor x t (Some k) = instantiate_constructor k λ u. push (sub u t) done
 
   abbrev pub infer_by : Ty → TermView → Rule
   -- Var. A context variable hides one on the board.
@@ -298,8 +297,8 @@ module _ (E : Env) where
 
   -- →I. The Lambda's own type is compared with the Arrow's argument: papers silent.
   abbrev pub check_arrow : Term → Ty → Ty → Ty → Option Lambda → Rule
-  check_arrow e t a b none = synthesize e t
-  check_arrow e t a b (some f) = do
+  check_arrow e t a b None = synthesize e t
+  check_arrow e t a b (Some f) = do
     push (sub f.type a)
     push (var f.param f.type)
     push (chk f.body b)

@@ -1,7 +1,6 @@
 -- The solutions, in the order in which they were given, and writing out.
 -- Assumes nothing.
-use Rattle.std.specs.Prelude.{ℕ, zero, suc, ◌+◌, Bool, true, false, cond, ◌||◌, List, [], ◌∷◌, ◌++◌, eqb, length, ◌≢◌}
-use Rattle.std.proofs.Math.Option.{Option, none, some}
+use Rattle.std.specs.Prelude.{ℕ, zero, suc, ◌+◌, Bool, true, false, cond, ◌||◌, List, [], ◌∷◌, ◌++◌, eqb, length, ◌≢◌, Option, None, Some}
 use Rattle.nodes.specs.Lists.{All}
 use Rattle.nodes.specs.Nodes.{Node, node, Ty}
 use Rattle.judgment.specs.Types.{unknown}
@@ -19,14 +18,14 @@ abbrev pub value : Solution → Ty
 value (◌≔◌ k s) = s
 
 unfoldable pub find : ℕ → Solutions → Option Ty
-find k [] = none
-find k (◌≔◌ j s ∷ σ) = cond (eqb j k) (some s) (find k σ)
+find k [] = None
+find k (◌≔◌ j s ∷ σ) = cond (eqb j k) (Some s) (find k σ)
 
 -- ---- writing out
 -- one link: a solved unknown is followed into its solution
 abbrev pub or_unknown : ℕ → Option Ty → Ty
-or_unknown v none = unknown v
-or_unknown v (some s) = s
+or_unknown v None = unknown v
+or_unknown v (Some s) = s
 
 abbrev pub link : Solutions → Node → Ty
 link σ (node k v) = cond (eqb k 17) (or_unknown v (find v σ)) (node k v ∷ [])
@@ -36,8 +35,8 @@ links σ [] = []
 links σ (n ∷ ns) = link σ n ++ links σ ns
 
 abbrev pub known : Option Ty → Bool
-known none = false
-known (some s) = true
+known None = false
+known (Some s) = true
 
 abbrev pub is_solved : Solutions → Node → Bool
 is_solved σ (node k v) = cond (eqb k 17) (known (find v σ)) false

@@ -1,7 +1,6 @@
 -- Terms: where they stand on the sheet, and their lines in prefix order. No rule hangs on where a term stands; the board's words tell it.
 -- Assumes nothing.
-use Rattle.std.specs.Prelude.{ℕ, zero, suc, ◌+◌, cond, List, [], ◌∷◌, eqb, length}
-use Rattle.std.proofs.Math.Option.{Option, none, some}
+use Rattle.std.specs.Prelude.{ℕ, zero, suc, ◌+◌, cond, List, [], ◌∷◌, eqb, length, Option, None, Some}
 use Rattle.nodes.specs.Nodes.{Ty}
 use Rattle.nodes.specs.Parts.{take_parts, drop_parts}
 use Rattle.spelling.specs.declared.Triple.{Triple}
@@ -24,10 +23,10 @@ pub record Lambda : Type 0 where
   pub body : Term
 
 abbrev pub lambda_by : List Triple → ℕ → Option Lambda
-lambda_by [] next = none
+lambda_by [] next = None
 lambda_by (t ∷ ls) next =
     let parts : Term = record { line = next; lines = ls } in
-    cond (eqb t.kind 23) (some (record { param = t.value; type = nodes_of (part 0 parts).lines; body = part 1 parts })) none
+    cond (eqb t.kind 23) (Some (record { param = t.value; type = nodes_of (part 0 parts).lines; body = part 1 parts })) None
 
 unfoldable pub lambda_of : Term → Option Lambda
 lambda_of e = lambda_by e.lines (e.line + 1)

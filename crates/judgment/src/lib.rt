@@ -2,7 +2,7 @@
 #![tactic(auto)]
 
 ghost use Rattle.std.specs.Prelude.{◌≡◌};
-ghost use Rattle.judgment.specs.Result.{error_number, error_details};
+ghost use Rattle.judgment.specs.Result.{error_number, error_details, numbers, refused_at};
 
 // The errors that worklist.rs raises, the limits, and the strict call's scope. A type is here by its number of nodes; its nodes go into the report.
 #[derive(Clone, Copy)]
@@ -34,6 +34,38 @@ pub struct Answer {
     pub detail1: u32,
     pub detail2: u32,
     pub plain: u32,
+}
+
+impl Answer {
+    // Of a call that came to no run.
+    pub fn refused(number: u32, line: u32) -> Answer
+        ensures { result ≡ refused_at number line }
+    {
+        Answer {
+            number,
+            line,
+            taken: 0,
+            fresh: 0,
+            detail1: 0,
+            detail2: 0,
+            plain: 0,
+        }
+    }
+
+    // In the order in which a caller reads them.
+    pub fn numbers(self) -> [u32; 7]
+        ensures { result ≡ numbers self }
+    {
+        [
+            self.number,
+            self.line,
+            self.taken,
+            self.fresh,
+            self.detail1,
+            self.detail2,
+            self.plain,
+        ]
+    }
 }
 
 #[derive(Clone, Copy)]

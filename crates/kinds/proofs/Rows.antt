@@ -1,18 +1,13 @@
 -- What holds of every row of the table. Assumes nothing.
-use mathlib.Core.Path.{◌≡◌, refl, sym, ap, ◌∙◌, subst⁻¹}
-use mathlib.Core.Logic.{◌⊎◌, inl, inr}
-use mathlib.Core.Bool.{Bool, true, false, not, cond, ◌&&◌, ◌||◌, and-eq-true_iff}
-use mathlib.Core.List.{List, [], ◌∷◌}
-use Prim.Native.Nat.{ℕ, ◌+◌, ◌*◌, ◌/◌, ◌%◌, ◌≤◌, ◌<◌, max}
-use native.Mathlib.Omega.{arith}
-use lib.Dec.{eqb, leb}
-use lib.ListN.{get_or-map}
-use borrow.Author.Tests.{eq-eqb, ne_eqb, leb-true, eqb-true, eqb-false}
+use Rattle.std.proofs.Common.{Option, Some, None, ◌≡◌, refl, sym, ap, ◌∙◌, ◌⊎◌, inl, inr, Bool, true, false, not, cond, ◌&&◌, ◌||◌, List, [], ◌∷◌, ℕ, ◌+◌, ◌*◌, ◌/◌, ◌%◌, ◌≤◌, ◌<◌, max, arith, eqb, leb, ltb, length, get_or, eq-eqb, ne_eqb, leb-true, eqb-true}
+use Rattle.kinds.specs.declared.Parts.{Parts}
+use mathlib.Core.Path.{subst⁻¹}
+use mathlib.Core.Bool.{and-eq-true_iff}
+use lib.ListN.{get_or-map, get_or-eq_default}
+use borrow.Author.Tests.{eqb-false, ltb-true, ltb-false}
 use Rattle.spelling.specs.declared.Triple.{Triple}
 use Rattle.kinds.specs.declared.Row.{Row}
-use Rattle.kinds.specs.declared.Head.{Head}
-use Rattle.kinds.specs.declared.Head.TheVariants.{Parts, No}
-use Rattle.kinds.specs.Kinds.{Listed, find, table, row_of, unlisted, nothing, an_arm, an_entry, an_expected, a_goal, row_in, is_leaf, begins, head_of, parts_of, Tabled}
+use Rattle.kinds.specs.Kinds.{Listed, find, table, row_of, unlisted, nothing, an_arm, an_entry, an_expected, a_goal, row_in, is_leaf, begins, head_of, parts_of, Tabled, parts_by}
 use Rattle.kinds.proofs.Table.{tabled, at}
 
 -- the largest kind listed
@@ -70,6 +65,18 @@ word_of k = let r = row_of k in r.sort * 1048576 + r.value * 65536 + r.count * 4
 pub words-tabled : Tabled (tabled word_of 0 44)
 unfolding tabled row_of find table
 words-tabled k h = sym (get_or-map row_in (tabled word_of 0 44) k 0) ∙ at row_of (row_in 0) 44 k h
+
+-- past the words no kind is listed
+pub row-read : (w : List ℕ) (k : ℕ) → length w ≡ 44 → Tabled w → row_in (get_or w k 0) ≡ row_of k
+unfolding row_of table
+row-read w k e h = go (ltb k 44) refl
+  where
+    go : (t : Bool) → ltb k 44 ≡ t → row_in (get_or w k 0) ≡ row_of k
+    go true q = h k (ltb-true k 44 q)
+    go false q =
+        let l = ltb-false k 44 q in
+        let z : get_or w k 0 ≡ 0 = get_or-eq_default w 0 (omega arith) in
+        rw z (sym (above k table l))
 
 -- its last three digits are those of what follows
 two_digits : (v : ℕ) → v % 256 ≡ 16 * (v / 16 % 16) + v % 16
@@ -154,10 +161,10 @@ few-parts t h = go (eqb (row_of t.kind).each nothing) (eqb (row_of t.kind).each 
     go false false = let ty = few-types t.kind in let te = few-terms t.kind in omega arith
 
 -- a part begins with a line exactly if the line says what must follow it
-pub begins-head : (f : Head → Bool) → ((ty te e n : ℕ) → f (Parts ty te e n) ≡ true) → f No ≡ false → (x : ℕ) (t : Triple) → begins x t ≡ f (head_of x t)
+pub begins-head : (f : Option Parts → Bool) → ((p : Parts) → f (Some p) ≡ true) → f None ≡ false → (x : ℕ) (t : Triple) → begins x t ≡ f (head_of x t)
 unfolding head_of
 begins-head f some none x t = go (begins x t)
   where
-    go : (b : Bool) → b ≡ f (cond b (Parts (row_of t.kind).types (row_of t.kind).terms (row_of t.kind).each t.count) No)
-    go true = sym (some (row_of t.kind).types (row_of t.kind).terms (row_of t.kind).each t.count)
+    go : (b : Bool) → b ≡ f (cond b (Some (parts_by (row_of t.kind) t.count)) None)
+    go true = sym (some (parts_by (row_of t.kind) t.count))
     go false = sym none

@@ -1,12 +1,10 @@
--- The kinds of document 01: the plan's own lines 1 to 4, types 11 to 16, terms 21 to 30, patterns 41 to 43; what a line's fields hold, and
--- which parts follow it.
--- Assumes nothing: these are definitions.
-use Rattle.std.specs.Prelude.{◌≡◌, Bool, true, cond, ◌&&◌, List, [], ◌∷◌, ℕ, ◌+◌, ◌*◌, ◌/◌, ◌%◌, ◌<◌, get_or, leb, eqb}
+-- The kinds of document 01: the plan's own lines 1 to 4, types 11 to 16, terms 21 to 30, patterns 41 to 43; what a
+-- line's fields hold, and which parts follow it. Assumes nothing: these are definitions.
+use Rattle.kinds.specs.declared.Parts.{Parts}
+use Rattle.std.specs.Prelude.{◌≡◌, Bool, true, cond, ◌&&◌, List, [], ◌∷◌, ℕ, ◌+◌, ◌*◌, ◌/◌, ◌%◌, ◌<◌, get_or, leb, eqb, Option, Some, None}
 use Rattle.sizes.specs.Sizes.{highest_name}
 use Rattle.spelling.specs.declared.Triple.{Triple}
 use Rattle.kinds.specs.declared.Row.{Row}
-use Rattle.kinds.specs.declared.Head.{Head}
-use Rattle.kinds.specs.declared.Head.TheVariants.{Parts, No}
 
 -- sorts of parts; an arm is a pattern and then a term
 abbrev pub nothing : ℕ
@@ -123,11 +121,13 @@ fields_ok r t = value_ok r.value t.value && count_ok r.count t.count
 unfoldable pub begins : ℕ → Triple → Bool
 begins x t = let r = row_of t.kind in eqb r.sort x && fields_ok r t
 
--- what must follow it
-unfoldable pub head_of : ℕ → Triple → Head
-head_of x t =
-    let r = row_of t.kind in
-    cond (begins x t) (Parts r.types r.terms r.each t.count) No
+-- what must follow a line of the row r with the count n: types, then terms, then n times each
+abbrev pub parts_by : Row → ℕ → Parts
+parts_by r n = record { types = r.types; terms = r.terms; each = r.each; count = n }
+
+-- what must follow it, if it begins such a part
+unfoldable pub head_of : ℕ → Triple → Option Parts
+head_of x t = cond (begins x t) (Some (parts_by (row_of t.kind) t.count)) None
 
 -- nothing follows a line of the row r
 abbrev pub is_leaf : Row → Bool

@@ -52,7 +52,8 @@ pub struct Row {
     pub each: u64,
 }
 
-// The rows by kind, a hexadecimal digit a field, in the order of Row. A constant array is laid down anew at each use, so a row is one word.
+// The rows by kind, a hexadecimal digit a field, in the order of Row. A constant array is laid down anew at each use,
+// so a row is one word.
 const TABLE: [u32; 44] = [
     0x000000, // 0
     0x510100, // 1 data constructor
@@ -116,10 +117,7 @@ pub fn unpacked(word: u32) -> Row
 fn row_at(kind: u64) -> Row
     ensures { result ≡ row_of kind }
 {
-    if kind < 44 {
-        return unpacked(TABLE[kind as usize]);
-    }
-    unpacked(0)
+    unpacked(word_in(&TABLE, kind))
 }
 
 // The rows by kind as words, for a caller that looks up many: it makes them once and lends them.
@@ -134,10 +132,7 @@ pub fn word_in(words: &[u32; 44], kind: u64) -> u32
     requires { Tabled words.now }
     ensures { row_in result ≡ row_of kind }
 {
-    if kind < 44 {
-        return words[kind as usize];
-    }
-    0
+    words.get(kind as usize).copied().unwrap_or(0)
 }
 
 // No part follows a line whose row is that word.
@@ -150,20 +145,11 @@ pub fn is_leaf(word: u32) -> bool
 fn value_ok(rule: u64, value: u64) -> bool
     ensures { result ≡ value_ok rule value }
 {
-    if rule == UNUSED {
-        return value == 0;
-    }
-    if rule == NUMBER {
-        return true;
-    }
-    if 1 <= value {
-        if rule == NAME {
-            value <= HIGHEST_NAME
-        } else {
-            value <= 6
-        }
-    } else {
-        false
+    match rule {
+        UNUSED => value == 0,
+        NUMBER => true,
+        NAME => 1 <= value && value <= HIGHEST_NAME,
+        _ => 1 <= value && value <= 6,
     }
 }
 
@@ -179,55 +165,47 @@ fn count_ok(rule: u64, count: u64) -> bool
     count <= most_count(rule)
 }
 
+// The fields of a line of that row are in range.
+fn row_takes(row: Row, t: Triple) -> bool
+    ensures { result ≡ fields_ok row t }
+{
+    value_ok(row.value, t.value) && count_ok(row.count, t.count)
+}
+
 // The fields of a line whose row is that word are in range.
 pub fn fields_ok(word: u32, t: Triple) -> bool
     ensures { result ≡ fields_ok (row_in word) t }
 {
-    let row = unpacked(word);
-    if value_ok(row.value, t.value) {
-        return count_ok(row.count, t.count);
-    }
-    false
+    row_takes(unpacked(word), t)
 }
 
 // What must follow a line: types, then terms, then count times each.
 #[derive(Clone, Copy)]
-pub enum Head {
-    Parts {
-        types: u64,
-        terms: u64,
-        each: u64,
-        count: u64,
-    },
-    // No part of the sort begins with this line.
-    No,
+pub struct Parts {
+    pub types: u64,
+    pub terms: u64,
+    pub each: u64,
+    pub count: u64,
 }
 
-pub fn head_of(t: Triple, sort: u64) -> Head
+// What must follow the line; None where no part of the sort begins with it.
+#[tactic(auto, unfolding(crate::specs::Kinds::head_of, crate::specs::Kinds::begins))]
+pub fn head_of(t: Triple, sort: u64) -> Option<Parts>
     ensures { result ≡ head_of sort t }
 {
     let row = row_at(t.kind);
-    if row.sort == sort {
-        if value_ok(row.value, t.value) {
-            if count_ok(row.count, t.count) {
-                return Head::Parts {
-                    types: row.types,
-                    terms: row.terms,
-                    each: row.each,
-                    count: t.count,
-                };
-            }
-        }
-    }
-    Head::No
+    (row.sort == sort && row_takes(row, t)).then_some(Parts {
+        types: row.types,
+        terms: row.terms,
+        each: row.each,
+        count: t.count,
+    })
 }
 
 // A part of the sort begins with this line.
+#[tactic(auto, unfolding(crate::specs::Kinds::head_of))]
 pub fn begins(t: Triple, sort: u64) -> bool
     ensures { result ≡ begins_with sort t }
 {
-    match head_of(t, sort) {
-        Head::Parts { .. } => true,
-        Head::No => false,
-    }
+    head_of(t, sort).is_some()
 }

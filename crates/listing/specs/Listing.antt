@@ -1,15 +1,13 @@
--- A plan as people write it: a triple a line, its kind, value and count with blanks between. It is read byte by byte, up to its first
--- fault. Assumes nothing: these are definitions; `proofs/Rows.antt` has examples of each.
-use Rattle.std.specs.Prelude.{ℕ, ◌+◌, ◌-◌, ◌*◌, ◌%◌, ◌^◌, ◌≤◌, Bool, true, false, cond, ◌&&◌, ◌||◌, List, [], ◌∷◌, ◌==◌, nat_lt, slice_set}
+-- A plan as people write it: a triple a line, its kind, value and count with blanks between. It is read byte by byte,
+-- up to its first fault. Assumes nothing: these are definitions; `proofs/Rows.antt` has examples of each.
+use Rattle.std.specs.Prelude.{ℕ, ◌+◌, ◌-◌, ◌*◌, ◌%◌, ◌^◌, ◌≤◌, Bool, true, false, cond, ◌&&◌, ◌||◌, List, [], ◌∷◌, ◌==◌, nat_lt, slice_set, Option, Some, None, is_none, Result, Ok, Err}
 use Rattle.sizes.specs.Sizes.{most_lines, triple_words, plan_words}
 use Rattle.spelling.specs.declared.Field.{Field}
 use Rattle.spelling.specs.declared.Field.TheVariants.{Blank, Minus, Number, Bad}
 use Rattle.spelling.specs.Spelling.{step}
 use Rattle.listing.specs.declared.Fault.{Fault}
-use Rattle.listing.specs.declared.Fault.TheVariants.{Fine, NoNumber, Few, Many, Long}
+use Rattle.listing.specs.declared.Fault.TheVariants.{NoNumber, Few, Many, Long}
 use Rattle.listing.specs.declared.Scan.{Scan}
-use Rattle.listing.specs.declared.End.{End}
-use Rattle.listing.specs.declared.End.TheVariants.{Nothing, Word, Wrong}
 
 -- how far the plan is read; the words of its triples, one after the other; and the line that each triple stands on
 pub record State : Type 0 where
@@ -23,27 +21,18 @@ state x w l = record { scan = x; words = w; lines = l }
 -- ---- the scan
 -- before the first byte
 abbrev pub started : Scan
-started = record { line = 1; numbers = 0; field = Blank; comment = false; triples = 0; fault = Fine }
+started = record { line = 1; numbers = 0; field = Blank; comment = false; triples = 0; fault = None }
 
 -- a triple that has begun has its room
 abbrev pub Roomy : Scan → Type 0
 Roomy x = triple_words * x.triples + x.numbers ≤ plan_words
 
-abbrev pub fine : Fault → Bool
-fine Fine = true
-fine NoNumber = false
-fine Few = false
-fine Many = false
-fine Long = false
-
 abbrev pub failed : Scan → Fault → Scan
-failed x f =
-    record { line = x.line; numbers = x.numbers; field = x.field; comment = x.comment; triples = x.triples; fault = f }
+failed x f = record x { fault = Some f }
 
 -- one number more on the line, and no byte of the next field yet
 abbrev pub counted : Scan → Scan
-counted x =
-    record { line = x.line; numbers = x.numbers + 1; field = Blank; comment = x.comment; triples = x.triples; fault = x.fault }
+counted x = record x { numbers = x.numbers + 1; field = Blank }
 
 -- at the start of the next line, after so many triples; lines are counted in 64 bits
 abbrev pub on_next_line : Scan → ℕ → Scan
@@ -68,8 +57,8 @@ commented x b = b == 35 && (x.numbers == 0 && empty x.field)
 abbrev pub field_byte : Scan → ℕ → Scan
 field_byte x b =
     cond (commented x b)
-    (record { line = x.line; numbers = x.numbers; field = x.field; comment = true; triples = x.triples; fault = x.fault })
-    (record { line = x.line; numbers = x.numbers; field = step x.field b; comment = x.comment; triples = x.triples; fault = x.fault })
+    (record x { comment = true })
+    (record x { field = step x.field b })
 
 -- a number by its sign and its magnitude: its word in two's complement, and whether it is one of signed 64 bits
 abbrev pub word_of : Bool → ℕ → ℕ
@@ -79,21 +68,22 @@ abbrev pub signed : Bool → ℕ → Bool
 signed negative m = negative || nat_lt m (2 ^ 63)
 
 -- the end of a number, after so many triples and so many numbers on its line: its word, or what is wrong with its place
-abbrev pub number_end : ℕ → ℕ → ℕ → End
-number_end triples numbers w = cond (nat_lt numbers triple_words) (cond (nat_lt triples most_lines) (Word w) (Wrong Long)) (Wrong Many)
+abbrev pub number_end : ℕ → ℕ → ℕ → Result (Option ℕ) Fault
+number_end triples numbers w =
+    cond (nat_lt numbers triple_words) (cond (nat_lt triples most_lines) (Ok (Some w)) (Err Long)) (Err Many)
 
--- the end of a field
-abbrev pub field_end : Field → ℕ → ℕ → End
-field_end Blank triples numbers = Nothing
-field_end Minus triples numbers = Wrong NoNumber
-field_end (Number n m) triples numbers = cond (signed n m) (number_end triples numbers (word_of n m)) (Wrong NoNumber)
-field_end Bad triples numbers = Wrong NoNumber
+-- the end of a field: the word of its number, nothing where it is blank, or what is wrong
+abbrev pub field_end : Field → ℕ → ℕ → Result (Option ℕ) Fault
+field_end Blank triples numbers = Ok None
+field_end Minus triples numbers = Err NoNumber
+field_end (Number n m) triples numbers = cond (signed n m) (number_end triples numbers (word_of n m)) (Err NoNumber)
+field_end Bad triples numbers = Err NoNumber
 
-abbrev pub after_end : End → State → State
-after_end Nothing s = s
-after_end (Word w) s =
+abbrev pub after_end : Result (Option ℕ) Fault → State → State
+after_end (Ok None) s = s
+after_end (Ok (Some w)) s =
     state (counted s.scan) (slice_set s.words (triple_words * s.scan.triples + s.scan.numbers) w) s.lines
-after_end (Wrong f) s = state (failed s.scan f) s.words s.lines
+after_end (Err f) s = state (failed s.scan f) s.words s.lines
 
 unfoldable pub field_ended : State → State
 field_ended s = after_end (field_end s.scan.field s.scan.triples s.scan.numbers) s
@@ -109,7 +99,7 @@ line_closed s =
     (state (failed s.scan Few) s.words s.lines))
 
 unfoldable pub line_ended : State → State
-line_ended s = let t = field_ended s in cond (fine t.scan.fault) (line_closed t) t
+line_ended s = let t = field_ended s in cond (is_none t.scan.fault) (line_closed t) t
 
 -- a comment goes to the end of its line
 abbrev pub comment_byte : Scan → ℕ → Scan
@@ -119,7 +109,7 @@ comment_byte x b = cond (b == 10) (on_next_line x x.triples) x
 -- after a byte; a fault stays as it is
 unfoldable pub stepped : State → ℕ → State
 stepped s b =
-    cond (fine s.scan.fault)
+    cond (is_none s.scan.fault)
     (cond s.scan.comment
     (state (comment_byte s.scan b) s.words s.lines)
     (cond (b == 10) (line_ended s) (cond (blank b) (field_ended s) (state (field_byte s.scan b) s.words s.lines))))

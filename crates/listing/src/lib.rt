@@ -3,18 +3,19 @@
 // length.
 #![tactic(auto)]
 
-ghost use Rattle.std.specs.Prelude.{◌≡◌, ℕ, ◌<◌, List};
-ghost use Rattle.sizes.specs.Sizes.{triple_words};
-ghost use Rattle.listing.specs.Listing.{state, started, Roomy, fine, failed, counted, on_next_line, blank, empty, commented, field_byte, word_of, signed, number_end, field_end, field_ended, line_closed, line_ended, comment_byte, stepped, fed, ended};
+ghost use Rattle.std.specs.Prelude.{◌≡◌, ◌<◌, replicate};
+ghost use Rattle.sizes.specs.Sizes.{most_lines, triple_words, plan_words};
+ghost use Rattle.listing.specs.Listing.{State, state, started, Roomy, counted, on_next_line, blank, commented, field_byte, word_of, signed, number_end, field_end, field_ended, line_closed, line_ended, comment_byte, stepped, fed, ended};
 
 use sizes::{MOST_LINES, PLAN_WORDS, TRIPLE_WORDS};
 use spelling::{Field, byte_step};
-use std::num::{wrapping_add_u64, wrapping_sub_u64};
+use std::error::Error;
+use std::fmt;
+use std::marker::Model;
 
 // What is wrong with a line.
-#[derive(Clone, Copy)]
+#[derive(Clone, Copy, Debug, PartialEq, Eq)]
 pub enum Fault {
-    Fine,
     // A field that is no number in signed 64 bits.
     NoNumber,
     // Fewer than three numbers, or more.
@@ -23,6 +24,21 @@ pub enum Fault {
     // One triple more than a plan can have.
     Long,
 }
+
+impl fmt::Display for Fault {
+    fn fmt<W: fmt::Write>(&self, f: &mut fmt::Formatter<W>) -> fmt::Result {
+        f.write_str(match self {
+            Fault::NoNumber => {
+                "something here is no number from -9223372036854775808 to 9223372036854775807 in plain digits"
+            }
+            Fault::Few => "a triple is three numbers, kind, value and count, and here are fewer",
+            Fault::Many => "a triple is three numbers, kind, value and count, and here are more",
+            Fault::Long => "a plan has at most 2000 triples, and here is another",
+        })
+    }
+}
+
+impl Error for Fault {}
 
 // How far a plan is read.
 #[derive(Clone, Copy)]
@@ -36,293 +52,238 @@ pub struct Scan {
     pub comment: bool,
     // The triples of the lines before.
     pub triples: usize,
-    pub fault: Fault,
-}
-
-// What the end of a field gives.
-#[derive(Clone, Copy)]
-enum End {
-    Nothing,
-    Word(u64),
-    Wrong(Fault),
-}
-
-// Before the first byte of a plan.
-pub fn start() -> Scan
-    ensures { result ≡ started }
-{
-    Scan {
-        line: 1,
-        numbers: 0,
-        field: Field::Blank,
-        comment: false,
-        triples: 0,
-        fault: Fault::Fine,
-    }
-}
-
-pub fn is_fine(fault: Fault) -> bool
-    ensures { result ≡ fine fault }
-{
-    match fault {
-        Fault::Fine => true,
-        Fault::NoNumber => false,
-        Fault::Few => false,
-        Fault::Many => false,
-        Fault::Long => false,
-    }
-}
-
-fn fail(scan: Scan, fault: Fault) -> Scan
-    ensures { result ≡ failed scan fault }
-{
-    let field = scan.field;
-    Scan {
-        line: scan.line,
-        numbers: scan.numbers,
-        field: field,
-        comment: scan.comment,
-        triples: scan.triples,
-        fault: fault,
-    }
-}
-
-fn count_number(scan: Scan) -> Scan
-    requires { scan.numbers < triple_words }
-    ensures { result ≡ counted scan }
-{
-    let fault = scan.fault;
-    Scan {
-        line: scan.line,
-        numbers: scan.numbers + 1,
-        field: Field::Blank,
-        comment: scan.comment,
-        triples: scan.triples,
-        fault: fault,
-    }
-}
-
-fn next_line(scan: Scan, triples: usize) -> Scan
-    ensures { result ≡ on_next_line scan triples }
-{
-    let fault = scan.fault;
-    Scan {
-        line: wrapping_add_u64(scan.line, 1),
-        numbers: 0,
-        field: Field::Blank,
-        comment: false,
-        triples: triples,
-        fault: fault,
-    }
+    // What ended the reading, if anything did.
+    pub fault: Option<Fault>,
 }
 
 // A space, a tab or a CR.
 fn is_blank(byte: u8) -> bool
     ensures { result ≡ blank byte }
 {
-    if byte == 32 {
-        return true;
-    }
-    if byte == 9 {
-        return true;
-    }
-    byte == 13
-}
-
-fn is_empty(field: Field) -> bool
-    ensures { result ≡ empty field }
-{
-    match field {
-        Field::Blank => true,
-        Field::Minus => false,
-        Field::Number(_, _) => false,
-        Field::Bad => false,
-    }
-}
-
-// The byte makes the line a comment: # before any field.
-fn is_comment(scan: Scan, byte: u8) -> bool
-    ensures { result ≡ commented scan byte }
-{
-    if byte == 35 {
-        if scan.numbers == 0 {
-            let field = scan.field;
-            return is_empty(field);
-        }
-    }
-    false
-}
-
-fn field_byte(scan: Scan, byte: u8) -> Scan
-    ensures { result ≡ field_byte scan byte }
-{
-    let field = scan.field;
-    let fault = scan.fault;
-    if is_comment(scan, byte) {
-        return Scan {
-            line: scan.line,
-            numbers: scan.numbers,
-            field: field,
-            comment: true,
-            triples: scan.triples,
-            fault: fault,
-        };
-    }
-    Scan {
-        line: scan.line,
-        numbers: scan.numbers,
-        field: byte_step(field, byte),
-        comment: scan.comment,
-        triples: scan.triples,
-        fault: fault,
-    }
+    matches!(byte, b' ' | b'\t' | b'\r')
 }
 
 fn word_of(negative: bool, magnitude: u64) -> u64
     ensures { result ≡ word_of negative magnitude }
 {
     if negative {
-        return wrapping_sub_u64(0, magnitude);
+        0u64.wrapping_sub(magnitude)
+    } else {
+        magnitude
     }
-    magnitude
 }
 
 // The number fits in signed 64 bits.
 fn is_signed(negative: bool, magnitude: u64) -> bool
     ensures { result ≡ signed negative magnitude }
 {
-    if negative {
-        return true;
-    }
-    magnitude < 9223372036854775808
+    negative || magnitude < 1 << 63
 }
 
-fn number_end(triples: usize, numbers: usize, word: u64) -> End
-    ensures { result ≡ number_end triples numbers word }
-{
-    if TRIPLE_WORDS <= numbers {
-        return End::Wrong(Fault::Many);
+impl Scan {
+    // Before the first byte of a plan.
+    pub fn start() -> Scan
+        ensures { result ≡ started }
+    {
+        Scan {
+            line: 1,
+            numbers: 0,
+            field: Field::Blank,
+            comment: false,
+            triples: 0,
+            fault: None,
+        }
     }
-    if MOST_LINES <= triples {
-        return End::Wrong(Fault::Long);
-    }
-    End::Word(word)
-}
 
-fn field_end(field: Field, triples: usize, numbers: usize) -> End
-    ensures { result ≡ field_end field triples numbers }
-{
-    match field {
-        Field::Blank => End::Nothing,
-        Field::Minus => End::Wrong(Fault::NoNumber),
-        Field::Number(n, m) => {
-            if is_signed(n, m) {
-                number_end(triples, numbers, word_of(n, m))
-            } else {
-                End::Wrong(Fault::NoNumber)
+    fn count_number(self) -> Scan
+        requires { self.numbers < triple_words }
+        ensures { result ≡ counted self }
+    {
+        Scan {
+            numbers: self.numbers + 1,
+            field: Field::Blank,
+            ..self
+        }
+    }
+
+    fn next_line(self, triples: usize) -> Scan
+        ensures { result ≡ on_next_line self triples }
+    {
+        Scan {
+            line: self.line.wrapping_add(1),
+            numbers: 0,
+            field: Field::Blank,
+            comment: false,
+            triples,
+            ..self
+        }
+    }
+
+    // The byte makes the line a comment: # before any field.
+    fn is_comment(self, byte: u8) -> bool
+        ensures { result ≡ commented self byte }
+    {
+        byte == b'#' && self.numbers == 0 && matches!(self.field, Field::Blank)
+    }
+
+    fn field_byte(self, byte: u8) -> Scan
+        ensures { result ≡ field_byte self byte }
+    {
+        if self.is_comment(byte) {
+            Scan {
+                comment: true,
+                ..self
+            }
+        } else {
+            Scan {
+                field: byte_step(self.field, byte),
+                ..self
             }
         }
-        Field::Bad => End::Wrong(Fault::NoNumber),
     }
-}
 
-// A number's word goes behind those before it.
-fn end_field(scan: Scan, words: &mut [u64; PLAN_WORDS]) -> Scan
-    ensures { (l : List ℕ) → state result words.new l ≡ field_ended (state scan words.old l) }
-{
-    let field = scan.field;
-    let triples = scan.triples;
-    let numbers = scan.numbers;
-    match field_end(field, triples, numbers) {
-        End::Nothing => scan,
-        End::Word(word) => {
-            words[TRIPLE_WORDS * triples + numbers] = word;
-            count_number(scan)
+    fn comment_byte(self, byte: u8) -> Scan
+        ensures { result ≡ comment_byte self byte }
+    {
+        if byte == b'\n' {
+            self.next_line(self.triples)
+        } else {
+            self
         }
-        End::Wrong(fault) => fail(scan, fault),
     }
-}
 
-fn close_line(scan: Scan, lines: &mut [u64; MOST_LINES]) -> Scan
-    requires { Roomy scan }
-    ensures { (w : List ℕ) → state result w lines.new ≡ line_closed (state scan w lines.old) }
-{
-    let triples = scan.triples;
-    if scan.numbers == 0 {
-        return next_line(scan, triples);
-    }
-    if scan.numbers == TRIPLE_WORDS {
-        lines[triples] = scan.line;
-        return next_line(scan, triples + 1);
-    }
-    fail(scan, Fault::Few)
-}
-
-fn end_line(scan: Scan, words: &mut [u64; PLAN_WORDS], lines: &mut [u64; MOST_LINES]) -> Scan
-    requires { Roomy scan }
-    ensures { state result words.new lines.new ≡ line_ended (state scan words.old lines.old) }
-{
-    let ended = end_field(scan, words);
-    let fault = ended.fault;
-    if is_fine(fault) {
-        return close_line(ended, lines);
-    }
-    ended
-}
-
-fn comment_byte(scan: Scan, byte: u8) -> Scan
-    ensures { result ≡ comment_byte scan byte }
-{
-    let triples = scan.triples;
-    if byte == 10 {
-        return next_line(scan, triples);
-    }
-    scan
-}
-
-fn step(scan: Scan, byte: u8, words: &mut [u64; PLAN_WORDS], lines: &mut [u64; MOST_LINES]) -> Scan
-    requires { Roomy scan }
-    ensures { state result words.new lines.new ≡ stepped (state scan words.old lines.old) byte }
-{
-    let fault = scan.fault;
-    if is_fine(fault) {
-        if scan.comment {
-            return comment_byte(scan, byte);
+    fn number_end(self, word: u64) -> Result<Option<u64>, Fault>
+        ensures { result ≡ number_end self.triples self.numbers word }
+    {
+        if TRIPLE_WORDS <= self.numbers {
+            return Err(Fault::Many);
         }
-        if byte == 10 {
-            return end_line(scan, words, lines);
+        if MOST_LINES <= self.triples {
+            return Err(Fault::Long);
         }
-        if is_blank(byte) {
-            return end_field(scan, words);
-        }
-        return field_byte(scan, byte);
+        Ok(Some(word))
     }
-    scan
+
+    // The word that the field gives, if it is not blank.
+    fn field_end(self) -> Result<Option<u64>, Fault>
+        ensures { result ≡ field_end self.field self.triples self.numbers }
+    {
+        match self.field {
+            Field::Blank => Ok(None),
+            Field::Number(n, m) if is_signed(n, m) => self.number_end(word_of(n, m)),
+            _ => Err(Fault::NoNumber),
+        }
+    }
 }
 
-// Reads on through a block of the plan's bytes. A scan from `start` has room, and so have all that come from it.
-pub fn feed(
-    scan: Scan,
-    block: &[u8],
-    words: &mut [u64; PLAN_WORDS],
-    lines: &mut [u64; MOST_LINES],
-) -> Scan
-    requires { Roomy scan }
-    ensures { (state result words.new lines.new ≡ fed (state scan words.old lines.old) block.now) × Roomy result }
-{
-    let mut reached = scan;
-    let mut i = 0;
-    while i < block.len() {
-        reached = step(reached, block[i], words, lines);
-        i += 1;
-    }
-    reached
+// A plan as far as it is read: the words of its triples, one after the other, and the line that each triple stands on.
+#[derive(Drop)]
+pub struct Plan {
+    pub scan: Scan,
+    pub words: [u64; PLAN_WORDS],
+    pub lines: [u64; MOST_LINES],
 }
 
-// The plan ends here.
-pub fn finish(scan: Scan, words: &mut [u64; PLAN_WORDS], lines: &mut [u64; MOST_LINES]) -> Scan
-    requires { Roomy scan }
-    ensures { (state result words.new lines.new ≡ ended (state scan words.old lines.old)) × Roomy result }
-{
-    step(scan, 10, words, lines)
+impl Model for Plan {
+    ghost Value = { State };
+
+    ghost view = { λ p. state p.scan p.words p.lines };
+
+    ghost invariant = { λ p. Roomy p.scan };
+}
+
+impl Plan {
+    // Nothing is read.
+    pub fn new() -> Plan
+        ensures { result ≡ state started (replicate plan_words 0) (replicate most_lines 0) }
+    {
+        Plan {
+            scan: Scan::start(),
+            words: [0; PLAN_WORDS],
+            lines: [0; MOST_LINES],
+        }
+    }
+
+    // Another plan may follow; its words and lines are laid over those of the one before.
+    pub fn restart(&mut self)
+        ensures { self.new ≡ state started self.old.words self.old.lines }
+    {
+        self.scan = Scan::start();
+    }
+
+    // A number's word goes behind those before it.
+    #[tactic(auto, unfolding(crate::specs::Listing::field_ended))]
+    fn end_field(&mut self)
+        ensures { self.new ≡ field_ended self.old }
+    {
+        let scan = self.scan;
+        match scan.field_end() {
+            Ok(None) => {}
+            Ok(Some(word)) => {
+                self.words[TRIPLE_WORDS * scan.triples + scan.numbers] = word;
+                self.scan = scan.count_number();
+            }
+            Err(fault) => self.scan.fault = Some(fault),
+        }
+    }
+
+    #[tactic(auto, unfolding(crate::specs::Listing::line_closed))]
+    fn close_line(&mut self)
+        ensures { self.new ≡ line_closed self.old }
+    {
+        let scan = self.scan;
+        match scan.numbers {
+            0 => self.scan = scan.next_line(scan.triples),
+            TRIPLE_WORDS => {
+                self.lines[scan.triples] = scan.line;
+                self.scan = scan.next_line(scan.triples + 1);
+            }
+            _ => self.scan.fault = Some(Fault::Few),
+        }
+    }
+
+    #[tactic(auto, unfolding(crate::specs::Listing::line_ended))]
+    fn end_line(&mut self)
+        ensures { self.new ≡ line_ended self.old }
+    {
+        self.end_field();
+        if self.scan.fault.is_none() {
+            self.close_line();
+        }
+    }
+
+    #[tactic(auto, unfolding(crate::specs::Listing::stepped))]
+    fn step(&mut self, byte: u8)
+        ensures { self.new ≡ stepped self.old byte }
+    {
+        if self.scan.fault.is_some() {
+            return;
+        }
+        if self.scan.comment {
+            self.scan = self.scan.comment_byte(byte);
+        } else if byte == b'\n' {
+            self.end_line();
+        } else if is_blank(byte) {
+            self.end_field();
+        } else {
+            self.scan = self.scan.field_byte(byte);
+        }
+    }
+
+    // Reads on through a block of the plan's bytes.
+    pub fn feed(&mut self, block: &[u8])
+        ensures { self.new ≡ fed self.old block.now }
+    {
+        for byte in block {
+            self.step(*byte);
+        }
+    }
+
+    // The plan ends here.
+    #[tactic(auto, unfolding(crate::specs::Listing::ended))]
+    pub fn finish(&mut self)
+        ensures { self.new ≡ ended self.old }
+    {
+        self.step(b'\n');
+    }
 }

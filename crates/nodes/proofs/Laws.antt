@@ -1,15 +1,11 @@
 -- Laws of `words`, `nodes_at` and `sets`. Assumes nothing.
-use mathlib.Core.Path.{◌≡◌, refl, sym, ap, ap₂, ◌∙◌}
-use mathlib.Core.Bool.{Bool, true, false}
-use mathlib.Core.List.{List, [], ◌∷◌, ◌++◌}
-use Prim.Native.Nat.{ℕ, zero, suc, ◌+◌, ◌*◌, ◌-◌, ◌≤◌, ◌<◌}
-use native.Mathlib.Nat.{add-zero, not-suc-le-zero}
-use native.Mathlib.Numerals.{add-one, add-two, towards_suc}
-use native.Mathlib.Omega.{arith}
-use lib.ListN.{length, get_or, set, take, drop, length-set}
-use lib.Seq.{sets, get_or-set_same, get_or-set_other, set_comm}
-use lib.Dec.{leb}
-use borrow.Author.Tests.{leb-true, leb-false, le-leb, lt-leb}
+use Rattle.std.proofs.Common.{◌≡◌, refl, sym, ap, ap₂, ◌∙◌, Bool, true, false, List, [], ◌∷◌, ◌++◌, ℕ, zero, suc, ◌+◌, ◌*◌, ◌-◌, ◌≤◌, ◌<◌, add-zero, not-suc-le-zero, add-one, arith, length, get_or, set, take, drop, replicate, length-set, drop-cons, get_or-set_same, get_or-set_other, leb, leb-true, leb-false, le-leb}
+use native.Mathlib.Numerals.{add-two}
+use lib.ListN.{length-replicate}
+use lib.Seq.{paste, sets, sets-eq, take-length, set_comm}
+use borrow.Author.Tests.{lt-leb}
+use borrow.Rule.Slice.PartMut.{put_mid}
+use Rattle.std.proofs.lemmas.Slice.{put_mid-paste}
 use Rattle.nodes.specs.Nodes.{Node, node, words, nodes_at, zeros}
 
 -- ---- stores one after another
@@ -107,7 +103,7 @@ nodes_at-same (node k v ∷ t) b p h =
     ∙ nodes_at-same t b₂ (suc (suc p)) (omega (arith, length-set (set b p k) (suc p) v, length-set b p k)) in
     rw (e₀, e₁, e₂)
 
--- a turn of the loop that copies: two more stores
+-- one more node stored: two more stores
 pub two-more : (l : List ℕ) (i : ℕ) (t : List Node) (k v : ℕ)
     → set (set (sets l i (words t)) (i + 2 * length t) k) (i + 2 * length t + 1) v ≡ sets l i (words (t ++ (node k v ∷ [])))
 unfolding words
@@ -118,17 +114,6 @@ two-more l i t k v =
     ∙ ap (λ (x : ℕ). sets (sets l i (words t)) x (k ∷ v ∷ [])) (sym e)
     ∙ sym (sets-append l i (words t) (k ∷ v ∷ []))
     ∙ ap (λ (r : List ℕ). sets l i r) (sym (words_append t (node k v ∷ [])))
-
-pub copy_step : (d s : List ℕ) (at from i : ℕ) (e : List ℕ) → e ≡ sets d at (words (nodes_at s from i))
-    → set (set e (at + 2 * i) (get_or s (from + 2 * i) 0)) (at + 2 * i + 1) (get_or s (from + 2 * i + 1) 0) ≡ sets d at (words (nodes_at s from (i + 1)))
-copy_step d s at from i e h =
-    let k : ℕ = get_or s (from + 2 * i) 0 in
-    let v : ℕ = get_or s (from + 2 * i + 1) 0 in
-    let t : List Node = nodes_at s from i in
-    ap (λ (r : List ℕ). set (set r (at + 2 * i) k) (at + 2 * i + 1) v) h
-    ∙ ap (λ (n : ℕ). set (set (sets d at (words t)) (at + 2 * n) k) (at + 2 * n + 1) v) (sym (length-nodes_at s from i))
-    ∙ two-more d at t k v
-    ∙ ap (λ (r : List Node). sets d at (words r)) (sym (nodes_at-snoc s from i))
 
 -- what a run of stores stored
 pub getD-sets-in : (l : List ℕ) (i : ℕ) (vs : List ℕ) (k : ℕ) → k < length vs → i + length vs ≤ length l → get_or (sets l i vs) (i + k) 0 ≡ get_or vs k 0
@@ -164,20 +149,6 @@ nodes_at-agree b b' p zero f = refl
 nodes_at-agree b b' p (suc n) f =
     rw (f p (omega arith) (omega arith), f (p + 1) (omega arith) (omega arith), nodes_at-agree b b' (p + 2) n (λ j l q. f j (omega arith) (omega arith)))
 
--- a turn of the loop that clears: one more 0
-pub clear_step : (l : List ℕ) (at m : ℕ) → set (sets l at (zeros m)) (at + m) 0 ≡ sets l at (zeros (suc m))
-unfolding zeros
-clear_step l at zero = ap (λ (k : ℕ). set l k 0) (add-zero at)
-clear_step l at (suc m) =
-    let e : at + suc m ≡ suc at + m = omega arith in
-    ap (λ (k : ℕ). set (sets (set l at 0) (suc at) (zeros m)) k 0) e ∙ clear_step (set l at 0) (suc at) m
-
-pub clear-turn : (l : List ℕ) (at i : ℕ) (d : List ℕ) → at ≤ i → d ≡ sets l at (zeros (i - at)) → set d i 0 ≡ sets l at (zeros (i + 1 - at))
-clear-turn l at i d h q =
-    let e : i ≡ at + (i - at) = omega arith in
-    let f : i + 1 - at ≡ suc (i - at) = omega arith in
-    rw (q, f) (ap (λ (k : ℕ). set (sets l at (zeros (i - at))) k 0) e ∙ clear_step l at (i - at))
-
 -- ---- a sum tested by a difference
 pub leb-shift : (a n m : ℕ) → n ≤ m → leb a (m - n) ≡ leb (a + n) m
 leb-shift a n m h = go (leb (a + n) m) refl
@@ -185,20 +156,6 @@ leb-shift a n m h = go (leb (a + n) m) refl
     go : (c : Bool) → leb (a + n) m ≡ c → leb a (m - n) ≡ c
     go true q = let l = leb-true (a + n) m q in le-leb a (m - n) (omega arith)
     go false q = let l = leb-false (a + n) m q in lt-leb a (m - n) (omega arith)
-
--- a turn of the loop that moves nodes to the front: what it reads is not yet overwritten
-pub move_step : (l : List ℕ) (from i : ℕ) (e : List ℕ) → e ≡ sets l 0 (words (nodes_at l from i))
-    → set (set e (2 * i) (get_or e (from + 2 * i) 0)) (2 * i + 1) (get_or (set e (2 * i) (get_or e (from + 2 * i) 0)) (from + 2 * i + 1) 0) ≡ sets l 0 (words (nodes_at l from (i + 1)))
-move_step l from i e h =
-    let z : 0 + 2 * i ≡ 2 * i = omega arith in
-    let n = length-words (nodes_at l from i) in
-    let m = length-nodes_at l from i in
-    let read : (j : ℕ) → 2 * i ≤ j → get_or e j 0 ≡ get_or l j 0 =
-    λ j q. ap (λ (x : List ℕ). get_or x j 0) h ∙ getD-sets-above l 0 (words (nodes_at l from i)) j (omega arith) in
-    let a : get_or e (from + 2 * i) 0 ≡ get_or l (from + 2 * i) 0 = read (from + 2 * i) (omega arith) in
-    let b : get_or (set e (2 * i) (get_or l (from + 2 * i) 0)) (from + 2 * i + 1) 0 ≡ get_or l (from + 2 * i + 1) 0 =
-    get_or-set_other e (2 * i) (from + 2 * i + 1) (get_or l (from + 2 * i) 0) 0 (omega arith) ∙ read (from + 2 * i + 1) (omega arith) in
-    rw (a, b) (ap (λ (x : ℕ). set (set e x (get_or l (from + 2 * i) 0)) (x + 1) (get_or l (from + 2 * i + 1) 0)) (sym z) ∙ copy_step l l 0 from i e h)
 
 -- ---- stores in another order
 set_past : (l : List ℕ) (i a j : ℕ) (ws : List ℕ) → i < j → set (sets l j ws) i a ≡ sets (set l i a) j ws
@@ -223,61 +180,44 @@ sets_below l i t j u e =
     ∙ sym (sets-append l i (words t) (words u))
     ∙ ap (sets l i) (sym (words_append t u))
 
--- m more nodes moved up below the k that are moved
-up_turn : (l : List ℕ) (to from i m k : ℕ) (e : List ℕ) → from ≤ to → e ≡ sets l (to + 2 * (i + m)) (words (nodes_at l (from + 2 * (i + m)) k))
-    → sets e (to + 2 * i) (words (nodes_at e (from + 2 * i) m)) ≡ sets l (to + 2 * i) (words (nodes_at l (from + 2 * i) (m + k)))
-up_turn l to from i m k e h q =
-    let t : List Node = nodes_at l (from + 2 * i) m in
-    let u : List Node = nodes_at l (from + 2 * (i + m)) k in
-    let z : length t ≡ m = length-nodes_at l (from + 2 * i) m in
-    let d : to + 2 * i + 2 * length t ≡ to + 2 * (i + m) = omega arith in
-    let f : from + 2 * (i + m) ≡ from + 2 * i + 2 * m = omega arith in
-    let r : nodes_at (sets l (to + 2 * (i + m)) (words u)) (from + 2 * i) m ≡ t = nodes_at-below l (to + 2 * (i + m)) (words u) (from + 2 * i) m (omega arith) in
-    ap (λ (x : List ℕ). sets x (to + 2 * i) (words (nodes_at x (from + 2 * i) m))) q
-    ∙ ap (λ (x : List Node). sets (sets l (to + 2 * (i + m)) (words u)) (to + 2 * i) (words x)) r
-    ∙ sets_below l (to + 2 * i) t (to + 2 * (i + m)) u d
-    ∙ ap (λ (x : List Node). sets l (to + 2 * i) (words x))
-    (ap (λ (x : ℕ). t ++ nodes_at l x k) f ∙ sym (nodes_at-append l (from + 2 * i) m k))
+-- ---- runs of words written at once
 
--- a turn of the loops that move n nodes up, by m
-pub up_step : (l : List ℕ) (to from n i m : ℕ) (e : List ℕ) → from ≤ to → m ≤ i → i ≤ n → e ≡ sets l (to + 2 * i) (words (nodes_at l (from + 2 * i) (n - i)))
-    → sets e (to + 2 * (i - m)) (words (nodes_at e (from + 2 * (i - m)) m)) ≡ sets l (to + 2 * (i - m)) (words (nodes_at l (from + 2 * (i - m)) (n - (i - m))))
-up_step l to from n i m e h b c q =
-    let x : i ≡ i - m + m = omega arith in
-    let y : m + (n - i) ≡ n - (i - m) = omega arith in
-    up_turn l to from (i - m) m (n - i) e h (q ∙ ap (λ (j : ℕ). sets l (to + 2 * j) (words (nodes_at l (from + 2 * j) (n - i)))) x)
-    ∙ ap (λ (j : ℕ). sets l (to + 2 * (i - m)) (words (nodes_at l (from + 2 * (i - m)) j))) y
-
--- no turn was made yet, and the last one was
-pub none-up : (l : List ℕ) (i j n : ℕ) → l ≡ sets l i (words (nodes_at l j (n - n)))
+-- the words of n nodes are those that stand there
+pub words-nodes_at : (b : List ℕ) (p n : ℕ) → p + 2 * n ≤ length b → words (nodes_at b p n) ≡ take (2 * n) (drop p b)
 unfolding words nodes_at
-none-up l i j n =
-    let e : n - n ≡ 0 = omega arith in
-    ap (λ (k : ℕ). sets l i (words (nodes_at l j k))) (sym e)
+words-nodes_at b p zero h = refl
+words-nodes_at b p (suc n) h =
+    let e : 2 * suc n ≡ suc (suc (2 * n)) = omega arith in
+    let f : suc (suc p) ≡ p + 2 = omega arith in
+    rw (e, drop-cons b p 0 (omega arith), drop-cons b (suc p) 0 (omega arith), f, ← add-one p)
+    (ap (λ (r : List ℕ). get_or b p 0 ∷ get_or b (p + 1) 0 ∷ r) (words-nodes_at b (p + 2) n (omega arith)))
 
-pub up_done : (l : List ℕ) (to from n : ℕ) (e : List ℕ) → e ≡ sets l (to + 2 * 0) (words (nodes_at l (from + 2 * 0) (n - 0))) → e ≡ sets l to (words (nodes_at l from n))
-up_done l to from n e q =
-    let x : to + 2 * 0 ≡ to = omega arith in
-    let y : from + 2 * 0 ≡ from = omega arith in
-    let z : n - 0 ≡ n = omega arith in
-    q ∙ rw (x, y, z)
+-- a part of a list replaced by vs
+pub put-sets : (l vs zs : List ℕ) (at k : ℕ) → at + length vs ≤ length l → k ≡ length vs → zs ≡ vs → put_mid at k l zs ≡ sets l at vs
+put-sets l vs zs at k h e f =
+    put_mid-paste at k l zs vs (length vs) f (sym e) refl
+    ∙ ap (λ (r : List ℕ). take at l ++ r ++ drop (at + length vs) l) (take-length vs)
+    ∙ sym (sets-eq vs l at h)
 
--- the nodes that were not moved by the turns are moved at once
-pub up_rest : (l : List ℕ) (to from n m : ℕ) (e e' : List ℕ) → from ≤ to → m ≤ n → e ≡ sets l (to + 2 * m) (words (nodes_at l (from + 2 * m) (n - m)))
-    → e' ≡ sets e to (words (nodes_at e from m)) → e' ≡ sets l to (words (nodes_at l from n))
-up_rest l to from n m e e' h b q p =
-    let x : to + 2 * (m - m) ≡ to = omega arith in
-    let y : from + 2 * (m - m) ≡ from = omega arith in
-    let z : n - (m - m) ≡ n = omega arith in
-    let w : m ≤ m = omega arith in
-    p ∙ ap₂ (λ (i j : ℕ). sets e i (words (nodes_at e j m))) (sym x) (sym y) ∙ up_step l to from n m m e h w b q ∙ rw (x, y, z)
+-- the words from `from` on copied to word `at`, as nodes
+module _ (l b : List ℕ) (at from n k : ℕ) (h : at + 2 * n ≤ length l) (g : from + 2 * n ≤ length b) (e : k ≡ 2 * n) where
+  copied : length (words (nodes_at b from n)) ≡ 2 * n
+  copied = length-words (nodes_at b from n) ∙ ap (λ (m : ℕ). 2 * m) (length-nodes_at b from n)
 
-pub one-node : (l : List ℕ) (to from : ℕ) → set (set l to (get_or l from 0)) (to + 1) (get_or l (from + 1) 0) ≡ sets l to (words (nodes_at l from 1))
-unfolding words nodes_at
-one-node l to from = ap (λ (k : ℕ). set (set l to (get_or l from 0)) k (get_or l (from + 1) 0)) (add-one to)
+  pub paste-nodes : paste l at (drop from b) k ≡ sets l at (words (nodes_at b from n))
+  paste-nodes =
+      let w = words-nodes_at b from n g in
+      let s = copied in
+      sym (sets-eq (words (nodes_at b from n)) l at (omega arith) ∙ rw (s, w, e) refl)
 
-pub four-nodes : (l : List ℕ) (to from : ℕ)
-    → set (set (set (set (set (set (set (set l to (get_or l from 0)) (to + 1) (get_or l (from + 1) 0)) (to + 2) (get_or l (from + 2) 0)) (to + 3) (get_or l (from + 3) 0)) (to + 4) (get_or l (from + 4) 0)) (to + 5) (get_or l (from + 5) 0)) (to + 6) (get_or l (from + 6) 0)) (to + 7) (get_or l (from + 7) 0)
-    ≡ sets l to (words (nodes_at l from 4))
-unfolding words nodes_at
-four-nodes l to from = simp towards_suc
+  pub put-nodes : (zs : List ℕ) (m : ℕ) → m ≡ 2 * n → zs ≡ take m (drop from b) → put_mid at k l zs ≡ sets l at (words (nodes_at b from n))
+  put-nodes zs m d f =
+      let s = copied in
+      put-sets l (words (nodes_at b from n)) zs at k (omega arith) (omega arith) (f ∙ rw d (sym (words-nodes_at b from n g)))
+
+-- n words from `at` on that became 0
+pub put-zeros : (l zs : List ℕ) (at n k m : ℕ) → at + n ≤ length l → k ≡ n → zs ≡ replicate m 0 → m ≡ n → put_mid at k l zs ≡ sets l at (zeros n)
+unfolding zeros
+put-zeros l zs at n k m h e f d =
+    let s : length (zeros n) ≡ n = length-replicate n 0 in
+    put-sets l (zeros n) zs at k (omega arith) (omega arith) (f ∙ ap (λ (j : ℕ). replicate j 0) d)

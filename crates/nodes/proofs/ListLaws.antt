@@ -1,12 +1,7 @@
 -- Laws of `All`, `In` and `count`.
 -- Assumes nothing.
-use Prim.Native.Nat.{ℕ, zero, suc, ◌+◌}
-use native.Mathlib.Omega.{arith}
-use lib.ListN.{take, drop}
-use mathlib.Core.Path.{◌≡◌, refl, subst⁻¹}
-use mathlib.Core.Logic.{inl, inr}
-use mathlib.Core.Bool.{Bool, true, false, cond}
-use mathlib.Core.List.{List, [], ◌∷◌, ◌++◌}
+use Rattle.std.proofs.Common.{ℕ, zero, suc, ◌+◌, arith, take, drop, ◌≡◌, refl, inl, inr, Bool, true, false, cond, List, [], ◌∷◌, ◌++◌}
+use mathlib.Core.Path.{subst⁻¹}
 use Rattle.nodes.specs.Lists.{All, In, count}
 use Rattle.nodes.specs.Parts.{take_parts, drop_parts}
 

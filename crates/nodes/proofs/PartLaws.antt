@@ -1,10 +1,5 @@
 -- Laws of `take_parts`, `drop_parts` and `Whole`, for any number of parts that an element may have. Assumes nothing.
-use mathlib.Core.Path.{◌≡◌, refl, ap}
-use mathlib.Core.List.{List, [], ◌∷◌, ◌++◌}
-use Prim.Native.Nat.{ℕ, zero, suc, ◌+◌, ◌-◌, ◌≤◌}
-use native.Mathlib.Nat.{zero-add}
-use native.Mathlib.Omega.{arith}
-use lib.ListN.{length, take, drop}
+use Rattle.std.proofs.Common.{◌≡◌, refl, ap, List, [], ◌∷◌, ◌++◌, ℕ, zero, suc, ◌+◌, ◌-◌, ◌≤◌, zero-add, arith, length, take, drop}
 use Rattle.nodes.specs.Parts.{take_parts, drop_parts}
 
 module _ {A : Type 0} (parts : A → ℕ) where

@@ -1,9 +1,7 @@
--- Laws of `Whole`: parts put together, replaced and taken apart stay whole, and no whole list begins another. Assumes nothing.
-use mathlib.Core.Path.{◌≡◌, refl, ap, ap₂, ◌∙◌, subst⁻¹}
-use mathlib.Core.List.{List, [], ◌∷◌, ◌++◌}
-use Prim.Native.Nat.{ℕ, zero, suc, ◌+◌, ◌≤◌}
-use native.Mathlib.Omega.{arith}
-use lib.ListN.{length, take}
+-- Laws of `Whole`: parts put together, replaced and taken apart stay whole, and no whole list begins another. Assumes
+-- nothing.
+use Rattle.std.proofs.Common.{◌≡◌, refl, ap, ap₂, ◌∙◌, List, [], ◌∷◌, ◌++◌, ℕ, zero, suc, ◌+◌, ◌≤◌, arith, length, take}
+use mathlib.Core.Path.{subst⁻¹}
 use Rattle.nodes.specs.Parts.{take_parts, drop_parts, Whole}
 use Rattle.nodes.proofs.PartLaws.{take_none}
 

@@ -1,22 +1,14 @@
 -- A run that was refused stays; what each operation leaves of one that goes on. Assumes nothing.
-use mathlib.Core.Path.{◌≡◌, refl, sym, ap, ap₂, ◌∙◌, subst}
-use mathlib.Core.Logic.{◌≢◌}
-use mathlib.Core.Bool.{Bool, true, false, ◌||◌, true≢false}
-use mathlib.Core.Option.{none}
-use mathlib.Core.List.{List, [], ◌∷◌}
-use Prim.Native.Nat.{ℕ, ◌+◌, ◌*◌, ◌≤◌, ◌<◌}
-use native.Mathlib.Numerals.{add-one}
-use native.Mathlib.Omega.{arith}
-use lib.ListN.{length}
-use lib.Dec.{ltb}
-use Rattle.sizes.specs.Sizes.{most_nodes, most_numbers, book_base, book_size}
+use Rattle.std.proofs.Common.{Option, Some, None, ◌≡◌, refl, sym, ap, ap₂, ◌∙◌, subst, ◌≢◌, Bool, true, false, ◌||◌, true≢false, List, [], ◌∷◌, ℕ, ◌+◌, ◌*◌, ◌≤◌, ◌<◌, add-one, arith, length, ltb, leb-true, ltb-true, lt-ltb, le-ltb}
+use Rattle.std.specs.Option.{option_or}
+use Rattle.sizes.specs.Sizes.{most_nodes, most_numbers, book_base}
 use Rattle.nodes.specs.Nodes.{Ty, nodes_at}
 use Rattle.nodes.specs.Lists.{All}
 use Rattle.nodes.proofs.Laws.{length-nodes_at}
 use Rattle.nodes.proofs.ListLaws.{cond_ind}
 use Rattle.spelling.specs.declared.Triple.{Triple}
 use Rattle.judgment.specs.declared.TypeError.{TypeError}
-use Rattle.judgment.specs.declared.TypeError.TheVariants.{UnboundVariable, UnboundDataConstructor, NotAFunction, ArityMismatch, SubtypingError, TypeUnificationError, InstantiationError, IntrinsicArityMismatch, UnknownIntrinsic, BoardFull, TypeTooLong, NoFreshNumber, SolutionsFull, OutOfScope}
+use Rattle.judgment.specs.declared.TypeError.TheVariants.{BoardFull, NoFreshNumber, SolutionsFull, OutOfScope}
 use Rattle.judgment.specs.Types.{is_node, occurs}
 use Rattle.judgment.proofs.TypeLaws.{is_node-true}
 use Rattle.judgment.specs.Solutions.{find, solution_nodes, write_out}
@@ -29,44 +21,20 @@ use Rattle.judgment.proofs.Invariant.{Earlier}
 use Rattle.judgment.proofs.SolutionLaws.{find_none}
 use Rattle.board.specs.declared.Board.{Board}
 use Rattle.board.specs.Board.{entry_of, entries_of, Slot, slot_of}
-use Rattle.board.specs.Board.{fitting as fits_board, laid, grown as board_grown, PushAsk as BoardAsk}
+use Rattle.board.specs.Board.{fitting as fits_board, laid, grown as board_grown}
 use Rattle.board.proofs.Stacks.{slot-nodes, laid-entries, laid-stacked, fits-room, fits-facts}
 use Rattle.book.specs.declared.Book.{Book}
 use Rattle.book.specs.Book.{start_of, sols, level_word_of, level_of, levels_of, levelled, lowered, Listed, Booked}
-use Rattle.book.specs.Book.{fitting as fits_book, given, grown as book_grown, SolveAsk as BookAsk}
-use Rattle.book.proofs.Holdings.{nodes-count, length-given, given-sols, given-booked, start-old}
+use Rattle.book.specs.Book.{fitting as fits_book, given, grown as book_grown}
+use Rattle.book.proofs.Holdings.{nodes-count, given-sols, given-booked, start-old}
 use Rattle.book.proofs.Levels.{level-start, level-sols, level-booked, level-other, level-below, lowered-start, lowered-sols, lowered-booked, lowered-other, given-level, levels-put, levels-lowered, levels-given}
-use borrow.Author.Tests.{leb-true, ltb-true, lt-ltb, le-ltb}
-use Rattle.operations.specs.declared.Halt.{Halt}
 use Rattle.operations.specs.declared.Run.{Run}
-use Rattle.operations.specs.State.{reported, halt_of, error_of, outcome_by, state_of, WellFormed, Words, refuse_w, fresh_w, push_w, solve_w, zonk_w, perform_w, Came, Does, Performs, going, stopped, refused_run, made, fresh_run, makes, fresh_words, with_board, Pushes, PushAsk, with_book, Makes, Gives, Made, Solves, SolveAsk}
+use Rattle.operations.specs.State.{reported, outcome_by, state_of, WellFormed, Words, refuse_w, fresh_w, push_w, solve_w, zonk_w, perform_w, Came, Does, Performs, going, stopped, refused_run, made, fresh_run, makes, fresh_words, with_board, Pushes, PushAsk, with_book, Makes, Gives, Made, Solves, SolveAsk}
 
--- ---- a refusal in words is that of its error, and of no other
-halt-is : (e : TypeError) → (going (halt_of e) ≡ false) × (error_of (halt_of e) ≡ e)
-unfolding error_of
-halt-is (UnboundVariable x) = (refl, refl)
-halt-is (UnboundDataConstructor x) = (refl, refl)
-halt-is (NotAFunction n) = (refl, refl)
-halt-is (ArityMismatch e a) = (refl, refl)
-halt-is (SubtypingError l r) = (refl, refl)
-halt-is TypeUnificationError = (refl, refl)
-halt-is (InstantiationError k n) = (refl, refl)
-halt-is (IntrinsicArityMismatch a) = (refl, refl)
-halt-is (UnknownIntrinsic x) = (refl, refl)
-halt-is BoardFull = (refl, refl)
-halt-is TypeTooLong = (refl, refl)
-halt-is NoFreshNumber = (refl, refl)
-halt-is SolutionsFull = (refl, refl)
-halt-is OutOfScope = (refl, refl)
-
-pub halt-stops : (e : TypeError) → going (halt_of e) ≡ false
-halt-stops e = (halt-is e).0
-
-pub error-is : (e : TypeError) → error_of (halt_of e) ≡ e
-error-is e = (halt-is e).1
-
-pub refused-is : (e : TypeError) (rep : List ℕ) (s : State) → outcome_by (halt_of e) rep s ≡ refused e (nodes_at rep 0 (reported e)) s
-refused-is e rep s = rw (halt-stops e, error-is e) refl
+-- a run that goes on was not refused
+pub not-halted : (h : Option TypeError) → going h ≡ true → h ≡ None
+not-halted None e = refl
+not-halted (Some x) e = absurd (true≢false (sym e))
 
 -- an outcome, words and levels, each by its own equation
 pub came : {o o' : Outcome} {x x' : Words} {v v' : Levels} → o ≡ o' → x ≡ x' → v ≡ v' → ◌≡◌ {A = Came} (record { outcome = o; words = x; levels = v }) (record { outcome = o'; words = x'; levels = v' })
@@ -87,11 +55,13 @@ words-stay w ls (solve k t p) x g = cond_ind (λ (y : Words). perform_w w ls p y
 words-stay w ls (zonk t f) x g = rw g (words-stay w ls (f (write_out (sols x.book) t)) x g)
 words-stay w ls (look f) x g = words-stay w ls (f (entries_of ls x.board x.run.counters.board.entries)) x g
 
-pub refused-stays : (L : Limits) (h : Halt) → going h ≡ false → (rep : List ℕ) (s : State) (p : Rule) → outcome_by h rep s ≡ perform_o L p (outcome_by h rep s)
-refused-stays L h e rep s p = rw e (sym (stays L p (error_of h) (nodes_at rep 0 (reported (error_of h))) s))
+pub refused-stays : (L : Limits) (h : Option TypeError) → going h ≡ false → (rep : List ℕ) (s : State) (p : Rule) → outcome_by h rep s ≡ perform_o L p (outcome_by h rep s)
+refused-stays L None e rep s p = absurd (true≢false e)
+refused-stays L (Some x) e rep s p = sym (stays L p x (nodes_at rep 0 (reported x)) s)
 
-pub levels-rest : (L : Limits) (h : Halt) → going h ≡ false → (rep : List ℕ) (s : State) (p : Rule) (v : Levels) → v ≡ perform_l L p (outcome_by h rep s) v
-levels-rest L h e rep s p v = rw e (sym (levels-stay L p (error_of h) (nodes_at rep 0 (reported (error_of h))) s v))
+pub levels-rest : (L : Limits) (h : Option TypeError) → going h ≡ false → (rep : List ℕ) (s : State) (p : Rule) (v : Levels) → v ≡ perform_l L p (outcome_by h rep s) v
+levels-rest L None e rep s p v = absurd (true≢false e)
+levels-rest L (Some x) e rep s p v = sym (levels-stay L p x (nodes_at rep 0 (reported x)) s v)
 
 -- ---- unknowns that were made
 pub older-listed : (t : Ty) {n : ℕ} → n ≤ most_numbers → All (Made n) t → All Listed t
@@ -130,7 +100,7 @@ module _ {b k : List ℕ} {c : Run} (f : WellFormed b k c) (w : Way) (ls : List 
   stops-does g e p q x v = record {
     kept = stopped-kept e;
     taken = refl;
-    outcome = came (refused-is e rep (state_of ls b k c) ∙ q ∙ rw g refl) x (v ∙ rw g refl);
+    outcome = came (q ∙ rw (not-halted c.halt g) refl) x (v ∙ rw (not-halted c.halt g) refl);
   }
 
   pub refuse-does : going c.halt ≡ true → (e : TypeError) → Does w ls b k rep c (refuse e (nodes_at rep 0 (reported e))) b k rep (stopped c e)
@@ -166,7 +136,7 @@ module _ {b k : List ℕ} {c : Run} (f : WellFormed b k c) (w : Way) (ls : List 
       unmade = λ j h. unmade j (omega arith);
     };
     taken = refl;
-    outcome = came (rw (g, e, same, add-one c.counters.fresh)) (rw (q, g, e)) (v ∙ rw g refl);
+    outcome = came (rw (not-halted c.halt g, e, same, add-one c.counters.fresh)) (rw (q, g, e)) (v ∙ rw (not-halted c.halt g) refl);
   }
 
   -- of the level m
@@ -232,12 +202,12 @@ module _ {b k : List ℕ} {c : Run} (f : WellFormed b k c) (w : Way) (ls : List 
             unmade = f.unmade;
           };
           taken = refl;
-          outcome = came (rw (g, fits-room ls f.board (limits_in w) refl refl (entry ls) n (counts ls), e, laid-entries f.board kind number t u few fits ls)) (rw (slots ls, g, e)) refl;
+          outcome = came (rw (not-halted c.halt g, fits-room ls f.board (limits_in w) refl refl (entry ls) n (counts ls), e, laid-entries f.board kind number t u few fits ls)) (rw (slots ls, g, e)) refl;
         }
 
   -- ---- a solution
   module _ (x : ℕ) (t : Ty) (some : 0 < length t) (s : Solves k c x t) (g : going c.halt ≡ true) where
-    none_yet : find x (sols k) ≡ none
+    none_yet : find x (sols k) ≡ None
     none_yet = find_none (sols k) x s.unsolved
 
     used : solution_nodes (sols k) ≡ c.book.nodes
@@ -275,24 +245,33 @@ module _ {b k : List ℕ} {c : Run} (f : WellFormed b k c) (w : Way) (ls : List 
                 );
           };
           taken = refl;
-          outcome = came (rw (g, none_yet, sc, used, e, q)) (rw (sc, g, e)) (levels-lowered (level_of k x) t (given k c.book x t) gb.room listed ∙ ap (lower (level_of k x) t) (levels-given k c.book x t small (omega arith)) ∙ rw (g, none_yet, sc, used, e));
+          outcome = came (rw (not-halted c.halt g, none_yet, sc, used, e, q)) (rw (sc, g, e)) (levels-lowered (level_of k x) t (given k c.book x t) gb.room listed ∙ ap (lower (level_of k x) t) (levels-given k c.book x t small (omega arith)) ∙ rw (not-halted c.halt g, none_yet, sc, used, e));
         }
 
 -- ---- what the functions return
 pub refused-run : (c : Run) (e : TypeError) → going c.halt ≡ true → refused_run c e ≡ stopped c e
 refused-run c e g = rw g
 
-module _ (c : Run) (g : going c.halt ≡ false) where
-  pub refuse-stays : (e : TypeError) → (c ≡ refused_run c e) × Performs c (λ rep. refuse e (nodes_at rep 0 (reported e))) c
-  refuse-stays e = (rw g refl, λ w ls b k rep f. stays-does f w ls rep g (refuse e (nodes_at rep 0 (reported e))))
+pub stays-run : (c : Run) (e : TypeError) → going c.halt ≡ false → refused_run c e ≡ c
+stays-run c e g = rw g
 
-  pub solve-stays : (k : List ℕ) (x : ℕ) (t : Ty) → Gives k c x t k c
-  solve-stays k x t = (rw g refl, rw g refl, λ w ls b rep _ f. stays-does f w ls rep g (solve x t done))
+-- what refusing returns
+abbrev Refuses : Run → TypeError → Run → Type 0
+Refuses c e r = (r ≡ refused_run c e) × Performs c (λ rep. refuse e (nodes_at rep 0 (reported e))) r
 
-module _ (c : Run) (g : going c.halt ≡ true) where
-  pub refuse-returns : (e : TypeError) (h : Halt) → h ≡ halt_of e
-      → (let r : Run = record { counters = c.counters; book = c.book; halt = h } in (r ≡ refused_run c e) × Performs c (λ rep. refuse e (nodes_at rep 0 (reported e))) r)
-  refuse-returns e h q = rw q (rw g refl, λ w ls b k rep f. refuse-does f w ls rep g e)
+-- the first refusal stays
+pub refuse-returns : (c : Run) (e : TypeError) (h : Option TypeError) → h ≡ option_or c.halt (Some e) → Refuses c e (record { counters = c.counters; book = c.book; halt = h })
+refuse-returns c e h q = by c.halt refl
+  where
+    by : (o : Option TypeError) → c.halt ≡ o → Refuses c e (record { counters = c.counters; book = c.book; halt = h })
+    by None p =
+        let g : going c.halt ≡ true = ap going p in
+        let u : h ≡ Some e = q ∙ ap (λ (o : Option TypeError). option_or o (Some e)) p in
+        rw u (sym (refused-run c e g), λ w ls b k rep f. refuse-does f w ls rep g e)
+    by (Some x) p =
+        let g : going c.halt ≡ false = ap going p in
+        let u : h ≡ c.halt = q ∙ ap (λ (o : Option TypeError). option_or o (Some e)) p ∙ sym p in
+        rw u (sym (stays-run c e g), λ w ls b k rep f. stays-does f w ls rep g (refuse e (nodes_at rep 0 (reported e))))
 
 -- a fresh number, by the two tests
 module _ (c : Run) where
@@ -302,29 +281,8 @@ module _ (c : Run) where
   pub full-run : {r : Run} → going c.halt ≡ true → most_numbers ≤ c.counters.fresh → r ≡ refused_run c NoFreshNumber → r ≡ fresh_run c
   full-run g l q = rw (q, g, le-ltb c.counters.fresh most_numbers l) refl
 
-  pub halted-run : going c.halt ≡ false → c ≡ fresh_run c
-  halted-run g = rw g refl
-
-  -- a run that goes on has made it
-  pub goes_on : {r : Run} → r ≡ fresh_run c → going r.halt ≡ true → (going c.halt ≡ true) × (ltb c.counters.fresh most_numbers ≡ true)
-  goes_on {r} e h = by (going c.halt) refl (ltb c.counters.fresh most_numbers) refl
-    where
-      by : (x : Bool) → going c.halt ≡ x → (y : Bool) → ltb c.counters.fresh most_numbers ≡ y → (going c.halt ≡ true) × (ltb c.counters.fresh most_numbers ≡ true)
-      by true p true q = (p, q)
-      by true p false q = let z : r ≡ stopped c NoFreshNumber = e ∙ rw (p, q) in absurd (true≢false (sym h ∙ ap (λ (d : Run). going d.halt) z))
-      by false p y q = let z : r ≡ c = e ∙ rw p in absurd (true≢false (sym h ∙ ap (λ (d : Run). going d.halt) z ∙ p))
-
-  -- and the word of its level is written, or none is
-  pub level-word : {r : Run} → r ≡ fresh_run c → going r.halt ≡ true → (k : List ℕ) (m : ℕ) {k' : List ℕ} → k' ≡ levelled k c.counters.fresh m → k' ≡ makes k c m
-  level-word e h k m q = let z = goes_on e h in q ∙ rw (z.0, z.1) refl
-
-  pub no-level-word : {r : Run} → r ≡ fresh_run c → going r.halt ≡ false → (k : List ℕ) (m : ℕ) → k ≡ makes k c m
-  no-level-word {r} e h k m = by (going c.halt) refl (ltb c.counters.fresh most_numbers) refl
-    where
-      by : (x : Bool) → going c.halt ≡ x → (y : Bool) → ltb c.counters.fresh most_numbers ≡ y → k ≡ makes k c m
-      by true p true q = let z : r ≡ made c = e ∙ rw (p, q) in absurd (true≢false (sym p ∙ ap (λ (d : Run). going d.halt) (sym z) ∙ h))
-      by true p false q = rw (p, q)
-      by false p y q = rw p
+  pub halted-run : {r : Run} → going c.halt ≡ false → r ≡ refused_run c NoFreshNumber → r ≡ fresh_run c
+  halted-run g q = rw (q, g) refl
 
 -- a number of its own level, and one that a level is written for
 pub fresh-returns : (c r : Run) → r ≡ fresh_run c → (r ≡ fresh_run c) × Performs c (λ rep. fresh own (λ n. done)) r
@@ -346,13 +304,8 @@ module _ {c : Run} {b : List ℕ} {kind number : ℕ} {l : List ℕ} {la ln : �
   sizes : ln + rn ≡ length t + length u
   sizes = ap₂ (λ (x y : ℕ). x + y) (sym (length-nodes_at l la ln)) (sym (length-nodes_at r ra rn))
 
-  pub push-stays : going c.halt ≡ false → Pushes b c kind number t u pushed b c
-  push-stays g = (rw g refl, rw g refl, λ w ls k rep f. stays-does f w ls rep g (push (pushed ls) done))
-
-  pub push-asks : fits_board c.counters.board (ln + rn) ≡ true → BoardAsk b c.counters.board l la ln r ra rn
-  push-asks e =
-      let q = fits-facts c.counters.board (ln + rn) e in
-      record { room = a.board.room; few = q.0; fits = q.1; left = a.left; right = a.right }
+  pub push-stays : {p : Run} → going c.halt ≡ false → p ≡ refused_run c BoardFull → Pushes b c kind number t u pushed b p
+  push-stays g q = rw (q ∙ stays-run c BoardFull g) (rw g refl, rw g refl, λ w ls k rep f. stays-does f w ls rep g (push (pushed ls) done))
 
   pub push-returns : {b' : List ℕ} {d : Board} → going c.halt ≡ true → fits_board c.counters.board (ln + rn) ≡ true → (b' ≡ laid b c.counters.board kind number t u) × (d ≡ board_grown c.counters.board (ln + rn))
       → Pushes b c kind number t u pushed b' (with_board c d)
@@ -365,6 +318,9 @@ module _ {c : Run} {b : List ℕ} {kind number : ℕ} {l : List ℕ} {la ln : �
       let f : fits_board c.counters.board (length t + length u) ≡ false = subst (λ (m : ℕ). fits_board c.counters.board m ≡ false) sizes e in
       rw (q ∙ refused-run c BoardFull g) (rw (g, f) refl, rw (g, f) refl, λ w ls k rep h. push-stops h w ls rep kind number t u a.entry g f)
 
+pub solve-stays : (k : List ℕ) (c : Run) (x : ℕ) (t : Ty) {p : Run} → going c.halt ≡ false → p ≡ refused_run c SolutionsFull → Gives k c x t k p
+solve-stays k c x t g q = rw (q ∙ stays-run c SolutionsFull g) (rw g refl, rw g refl, λ w ls b rep _ f. stays-does f w ls rep g (solve x t done))
+
 module _ {k : List ℕ} {c : Run} {x : ℕ} {s : List ℕ} {from n : ℕ} (a : SolveAsk k c x s from n) (g : going c.halt ≡ true) where
   abbrev v : Ty
   v = nodes_at s from n
@@ -375,27 +331,8 @@ module _ {k : List ℕ} {c : Run} {x : ℕ} {s : List ℕ} {from n : ℕ} (a : S
   many : 0 < length v
   many = let z = a.some in omega (arith, long)
 
-  pub solve-asks : fits_book c.book n ≡ true → BookAsk k c.book x s from n
-  solve-asks e = record {
-    room = a.book.room;
-    small = let z = (a.solves g).made in let y = a.numbers in omega arith;
-    fits = leb-true (c.book.nodes + n) most_nodes e;
-    within = a.within;
-  }
-
   small : x < most_numbers
   small = let z = (a.solves g).made in let y = a.numbers in omega arith
-
-  -- what the level of x is read and the others are lowered by
-  pub level-asks : (book_size ≤ length k) × (x < most_numbers)
-  level-asks = (a.book.room, small)
-
-  pub lower-asks : {k' : List ℕ} {m : ℕ} {d : Book} → fits_book c.book n ≡ true → m ≡ level_of k x → (k' ≡ given k c.book x v) × (d ≡ book_grown c.book n)
-      → (book_size ≤ length k') × (m < most_numbers) × (from + 2 * n ≤ length s) × All Listed v
-  lower-asks e q r =
-      let l = leb-true (c.book.nodes + n) most_nodes e in
-      let h = a.book.room in
-      (omega (arith, ap length r.0 ∙ length-given k c.book x v small (omega (arith, long))), rw q (level-below k x a.book small), a.within, older-listed v a.numbers (a.solves g).older)
 
   pub solve-returns : {k₁ k' : List ℕ} {m : ℕ} {d : Book} → fits_book c.book n ≡ true → m ≡ level_of k x → (k₁ ≡ given k c.book x v) × (d ≡ book_grown c.book n) → k' ≡ lowered m v k₁
       → Gives k c x v k' (with_book c d)

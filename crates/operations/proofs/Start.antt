@@ -1,19 +1,16 @@
 -- A run's start: nothing on the board, nothing in the book. Assumes nothing.
-use mathlib.Core.List.{List, []}
-use Prim.Native.Nat.{ℕ, ◌+◌, ◌*◌, ◌≤◌}
-use native.Mathlib.Omega.{arith}
-use lib.ListN.{length}
-use lib.Seq.{sets}
+use Rattle.std.proofs.Common.{None, List, [], ℕ, ◌+◌, ◌*◌, ◌≤◌, arith, length}
+use Rattle.std.proofs.Math.Seq.{sets}
 use Rattle.sizes.specs.Sizes.{board_size, book_size, book_stride}
 use Rattle.judgment.specs.Levels.{own_levels}
 use Rattle.judgment.specs.Result.{book_words}
 use Rattle.board.proofs.Stacks.{new-stacked}
 use Rattle.book.proofs.Words.{new-booked, zero-at}
 use Rattle.operations.specs.declared.Run.{Run}
-use Rattle.operations.specs.State.{no_halt, WellFormed}
+use Rattle.operations.specs.State.{WellFormed}
 
 abbrev pub started : Run
-started = record { counters = record { taken = 0; fresh = 0; board = record { entries = 0; nodes = 0 } }; book = record { nodes = 0 }; halt = no_halt }
+started = record { counters = record { taken = 0; fresh = 0; board = record { entries = 0; nodes = 0 } }; book = record { nodes = 0 }; halt = None }
 
 pub start-formed : (b k : List ℕ) → board_size ≤ length b → book_size ≤ length k → WellFormed b (sets k 0 (book_words [] own_levels 0)) started
 start-formed b k lb lk = record {

@@ -1,14 +1,5 @@
 -- One operation, and then the rest of a rule: the proof of a rule in code follows the rule. Assumes nothing.
-use mathlib.Core.Path.{◌≡◌, refl, sym, ap, ◌∙◌}
-use mathlib.Core.Logic.{◌≢◌}
-use mathlib.Core.Bool.{Bool, true, false, true≢false}
-use mathlib.Core.Option.{Option, none, some}
-use mathlib.Core.List.{List, [], ◌∷◌, ◌++◌}
-use Prim.Native.Nat.{ℕ, ◌+◌, ◌*◌, ◌≤◌, ◌<◌}
-use native.Mathlib.Nat.{le_refl, le_trans}
-use native.Mathlib.Omega.{arith}
-use lib.Dec.{ltb}
-use lib.ListN.{length}
+use Rattle.std.proofs.Common.{Option, None, Some, ◌≡◌, refl, sym, ap, ◌∙◌, ◌≢◌, Bool, true, false, true≢false, List, [], ◌∷◌, ◌++◌, ℕ, ◌+◌, ◌*◌, ◌≤◌, ◌<◌, le_refl, le_trans, arith, ltb, length, ne_eqb}
 use Rattle.sizes.specs.Sizes.{most_numbers}
 use Rattle.nodes.specs.Nodes.{node, Ty, kind, nodes_at}
 use Rattle.nodes.specs.Lists.{All}
@@ -28,22 +19,23 @@ use Rattle.judgment.proofs.SolutionLaws.{other-free}
 use Rattle.board.specs.Board.{entries_of}
 use Rattle.book.specs.Book.{sols, levels_of}
 use Rattle.book.proofs.Holdings.{free_of}
-use borrow.Author.Tests.{ne_eqb}
-use Rattle.operations.proofs.Latch.{halt-stops, came, words-stay, refused-stays, levels-rest}
-use Rattle.operations.specs.declared.Halt.{Halt}
+use Rattle.operations.proofs.Latch.{not-halted, came, words-stay, refused-stays, levels-rest}
 use Rattle.operations.specs.declared.Run.{Run}
 use Rattle.operations.specs.declared.Zonked.{Zonked}
 use Rattle.operations.specs.State.{outcome_by, state_of, outcome_of, WellFormed, refuse_w, Came, came_to, perform_c, Does, Performs, PerformsOnBoard, PerformsOnBook, going, stopped, refused_run, made, fresh_run, Gives, Solves, SolveAsk, Zonks, Scoped, way_in}
 
 -- ---- what an outcome holds, refused or not
-counter-is : (h : Halt) (rep : List ℕ) (Γ : Entries) (σ : Solutions) (n : ℕ) → counter_of (outcome_by h rep (state Γ σ n)) ≡ n
-counter-is h rep Γ σ n = cond_ind (λ (o : Outcome). counter_of o ≡ n) (going h) (λ _. refl) (λ _. refl)
+counter-is : (h : Option TypeError) (rep : List ℕ) (Γ : Entries) (σ : Solutions) (n : ℕ) → counter_of (outcome_by h rep (state Γ σ n)) ≡ n
+counter-is None rep Γ σ n = refl
+counter-is (Some e) rep Γ σ n = refl
 
-board-is : (h : Halt) (rep : List ℕ) (Γ : Entries) (σ : Solutions) (n : ℕ) → board_of (outcome_by h rep (state Γ σ n)) ≡ Γ
-board-is h rep Γ σ n = cond_ind (λ (o : Outcome). board_of o ≡ Γ) (going h) (λ _. refl) (λ _. refl)
+board-is : (h : Option TypeError) (rep : List ℕ) (Γ : Entries) (σ : Solutions) (n : ℕ) → board_of (outcome_by h rep (state Γ σ n)) ≡ Γ
+board-is None rep Γ σ n = refl
+board-is (Some e) rep Γ σ n = refl
 
-solutions-are : (h : Halt) (rep : List ℕ) (Γ : Entries) (σ : Solutions) (n : ℕ) → solutions_of (outcome_by h rep (state Γ σ n)) ≡ σ
-solutions-are h rep Γ σ n = cond_ind (λ (o : Outcome). solutions_of o ≡ σ) (going h) (λ _. refl) (λ _. refl)
+solutions-are : (h : Option TypeError) (rep : List ℕ) (Γ : Entries) (σ : Solutions) (n : ℕ) → solutions_of (outcome_by h rep (state Γ σ n)) ≡ σ
+solutions-are None rep Γ σ n = refl
+solutions-are (Some e) rep Γ σ n = refl
 
 -- a refused run stays, whatever rule comes
 stays-so : (w : Way) (ls : List Triple) (b k rep : List ℕ) (c : Run) (p : Rule) → going c.halt ≡ false → perform_c w ls p (came_to ls b k rep c) ≡ came_to ls b k rep c
@@ -67,7 +59,7 @@ fresh-is w ls b k rep c o f =
 
 -- a refusal, whatever follows
 stopped-so : (c : Run) (e : TypeError) → going (refused_run c e).halt ≡ false
-stopped-so c e = cond_ind (λ (r : Run). going r.halt ≡ false) (going c.halt) (λ _. halt-stops e) (λ g. g)
+stopped-so c e = cond_ind (λ (r : Run). going r.halt ≡ false) (going c.halt) (λ _. refl) (λ g. g)
 
 refused-so : (L : Limits) (p : Rule) (e : TypeError) (ts : Ty) (o : Outcome) → perform_o L p (refuse_o L e ts o) ≡ refuse_o L e ts o
 unfolding refuse_o
@@ -172,8 +164,9 @@ abbrev goes : Outcome → Bool
 goes (finished s) = true
 goes (refused e ts s) = false
 
-goes-is : (h : Halt) (rep : List ℕ) (s : State) → goes (outcome_by h rep s) ≡ going h
-goes-is h rep s = cond_ind (λ (o : Outcome). goes o ≡ going h) (going h) (λ e. sym e) (λ e. sym e)
+goes-is : (h : Option TypeError) (rep : List ℕ) (s : State) → goes (outcome_by h rep s) ≡ going h
+goes-is None rep s = refl
+goes-is (Some e) rep s = refl
 
 goes_back : (L : Limits) (p : Rule) (o : Outcome) → goes (perform_o L p o) ≡ true → goes o ≡ true
 goes_back L p (finished s) e = refl
@@ -205,8 +198,8 @@ counter-grows L (push e p) o = le_trans (one o) (counter-grows L p (push_o L e o
 counter-grows L (solve k t p) o = le_trans (one o) (counter-grows L p (solve_o L k t o))
   where
     by : (m : Option Ty) (n : ℕ) (x y z : Outcome) → n ≤ counter_of x → n ≤ counter_of y → n ≤ counter_of z → n ≤ counter_of (solving m t x y z)
-    by none n x y z a c d = a
-    by (some u) n x y z a c d = cond_ind (λ (x : Outcome). n ≤ counter_of x) (can_unify t u) (λ _. c) (λ _. d)
+    by None n x y z a c d = a
+    by (Some u) n x y z a c d = cond_ind (λ (x : Outcome). n ≤ counter_of x) (can_unify t u) (λ _. c) (λ _. d)
 
     one : (o : Outcome) → counter_of o ≤ counter_of (solve_o L k t o)
     one (finished (state Γ σ n)) =
@@ -253,7 +246,8 @@ fresh-sols {w} {ls} {b} {k} {rep} {c} {o} {b'} {k'} {rep'} {r} d =
     ∙ kept-sols (limits_in w) (outcome_of ls b k rep c)
     ∙ solutions-are c.halt rep (entries_of ls b c.counters.board.entries) (sols k) c.counters.fresh
 
--- A pair of the number that c makes and of a later one may solve an older unknown; r is the run that solves it, and has made both; its book has the solutions of before.
+-- A pair of the number that c makes and of a later one may solve an older unknown; r is the run that solves it, and has
+-- made both; its book has the solutions of before.
 pub pair-solves : {b k : List ℕ} {c : Run} (k₂ : List ℕ) (r : Run) (kind x y : ℕ) → (kind ≡ 17 → ⊥) → WellFormed b k c → sols k₂ ≡ sols k → x < c.counters.fresh → Free (solved_unknowns (sols k)) (node 17 x) → c.counters.fresh ≤ y → y < r.counters.fresh
     → Solves k₂ r x (node kind 0 ∷ (unknown c.counters.fresh ++ unknown y))
 pair-solves {k = k} {c = c} k₂ r kind x y pair f same known new l m =
@@ -289,5 +283,5 @@ report-free {w} {ls} {b} {k} {rep} {rep₁} {c} {p} g d = record {
   outcome = d.outcome ∙ ap (perform_c w ls p) (came (same c.halt g) refl refl);
 }
   where
-    same : (h : Halt) → going h ≡ true → outcome_by h rep₁ (state_of ls b k c) ≡ outcome_by h rep (state_of ls b k c)
-    same h e = rw e refl
+    same : (h : Option TypeError) → going h ≡ true → outcome_by h rep₁ (state_of ls b k c) ≡ outcome_by h rep (state_of ls b k c)
+    same h e = rw (not-halted h e) refl

@@ -1,28 +1,20 @@
 -- What a write-out leaves. Assumes nothing.
-use mathlib.Core.Path.{◌≡◌, refl, sym, ap, ap₂, ◌∙◌}
-use mathlib.Core.Bool.{Bool, true, false, cond, true≢false}
-use mathlib.Core.List.{List, []}
-use Prim.Native.Nat.{ℕ, ◌+◌, ◌*◌, ◌-◌, ◌≤◌, ◌<◌}
-use native.Mathlib.Omega.{arith}
-use lib.ListN.{length, take}
-use lib.Seq.{sets, length-sets, take_all}
-use lib.Dec.{leb}
-use borrow.Author.Tests.{le-leb, lt-leb, leb-true}
+use Rattle.judgment.specs.declared.TypeError.{TypeError}
+use Rattle.std.proofs.Common.{Option, Some, None, ◌≡◌, refl, sym, ap, ap₂, ◌∙◌, Bool, true, false, cond, true≢false, List, [], ℕ, ◌+◌, ◌*◌, ◌-◌, ◌≤◌, ◌<◌, arith, length, take, take_all, leb, le-leb, leb-true}
+use Rattle.std.proofs.Math.Seq.{sets, length-sets}
+use borrow.Author.Tests.{lt-leb}
 use Rattle.nodes.specs.Nodes.{Ty, words, nodes_at}
 use Rattle.nodes.proofs.Laws.{nodes_at-same, nodes_at-below}
 use Rattle.judgment.specs.declared.TypeError.TheVariants.{TypeTooLong}
 use Rattle.judgment.specs.Solutions.{write_out}
 use Rattle.judgment.specs.Board.{done, zonk}
 use Rattle.judgment.specs.Chain.{zonk_o}
-use Rattle.book.specs.declared.Wrote.{Wrote}
-use Rattle.book.specs.declared.Wrote.TheVariants.{Fits, Over}
-use Rattle.book.specs.Book.{sols, WriteAsk, wrote, written_to}
+use Rattle.book.specs.Book.{sols, wrote, written_to}
 use Rattle.book.proofs.Turns.{fits_told, over-told}
-use Rattle.operations.specs.declared.Halt.{Halt}
 use Rattle.operations.specs.declared.Run.{Run}
 use Rattle.operations.specs.declared.Zonked.{Zonked}
-use Rattle.operations.specs.State.{halt_of, state_of, WellFormed, zonk_w, going, stopped, refused_run, zonk_by, zonk_run, zonk_words, ZonkAsk, Zonks}
-use Rattle.operations.proofs.Latch.{refused-is, came, stays-does}
+use Rattle.operations.specs.State.{WellFormed, zonk_w, going, stopped, refused_run, zonk_by, zonk_run, zonk_words, ZonkAsk, Zonks}
+use Rattle.operations.proofs.Latch.{not-halted, came, stays-does}
 
 module _ {k : List ℕ} {c : Run} {s : List ℕ} {at n : ℕ} {rep : List ℕ} {to w : ℕ} (a : ZonkAsk k c s at n rep to w) where
   abbrev t : Ty
@@ -34,12 +26,6 @@ module _ {k : List ℕ} {c : Run} {s : List ℕ} {at n : ℕ} {rep : List ℕ} {
   -- what the function returns
   abbrev Returns : List ℕ → Zonked → Type 0
   Returns rep' z = (z ≡ zonk_run c T to w) × (rep' ≡ zonk_words rep c T to w) × Zonks k rep c t to w rep' z
-
-  pub zonk-asks : WriteAsk s at n k rep to (to + w)
-  zonk-asks = record { within = a.within; book = (c.book, a.book); room = a.room; most = omega arith }
-
-  pub zonk-end : {r : Wrote} {end : ℕ} → r ≡ wrote T to (to + w) → r ≡ Fits end → to ≤ end
-  zonk-end {end = end} p e = let z = (fits_told T [] to (to + w) rep end (sym p ∙ e)).1 in omega arith
 
   pub zonk-stays : going c.halt ≡ false → Returns rep (record { run = c; nodes = 0 })
   zonk-stays g = (
@@ -57,7 +43,7 @@ module _ {k : List ℕ} {c : Run} {s : List ℕ} {at n : ℕ} {rep : List ℕ} {
     same_length : length rep' ≡ length rep
     same_length = ap length q ∙ length-sets rep (2 * to) (words (take (to + w - to) T))
 
-    moved : {b : List ℕ} (h : Halt) → WellFormed b k c → WellFormed b k (record { counters = c.counters; book = c.book; halt = h })
+    moved : {b : List ℕ} (h : Option TypeError) → WellFormed b k c → WellFormed b k (record { counters = c.counters; book = c.book; halt = h })
     moved h f = record {
       board = f.board;
       book = f.book;
@@ -65,7 +51,7 @@ module _ {k : List ℕ} {c : Run} {s : List ℕ} {at n : ℕ} {rep : List ℕ} {
       unmade = f.unmade;
     }
 
-    pub zonk-fits : {r : Wrote} {end : ℕ} → r ≡ wrote T to (to + w) → r ≡ Fits end → Returns rep' (record { run = c; nodes = end - to })
+    pub zonk-fits : {r : (Option ℕ)} {end : ℕ} → r ≡ wrote T to (to + w) → r ≡ Some end → Returns rep' (record { run = c; nodes = end - to })
     unfolding zonk_o zonk_w
     zonk-fits {end = end} p e =
         let m = fits_told T [] to (to + w) rep end (sym p ∙ e) in
@@ -77,7 +63,7 @@ module _ {k : List ℕ} {c : Run} {s : List ℕ} {at n : ℕ} {rep : List ℕ} {
             does = λ z ls b f. record {
               kept = moved c.halt f;
               taken = refl;
-              outcome = came (rw (g, le-leb (length T) w few)) (rw (g, le-leb (length T) w few)) refl;
+              outcome = came (rw (not-halted c.halt g, le-leb (length T) w few)) (rw (g, le-leb (length T) w few)) refl;
             };
             nodes = λ _.
                 let r = a.room in
@@ -87,7 +73,7 @@ module _ {k : List ℕ} {c : Run} {s : List ℕ} {at n : ℕ} {rep : List ℕ} {
           },
         )
 
-    pub zonk-over : {r : Wrote} {d : Run} → r ≡ wrote T to (to + w) → r ≡ Over → d ≡ refused_run c TypeTooLong → Returns rep' (record { run = d; nodes = 0 })
+    pub zonk-over : {r : (Option ℕ)} {d : Run} → r ≡ wrote T to (to + w) → r ≡ None → d ≡ refused_run c TypeTooLong → Returns rep' (record { run = d; nodes = 0 })
     unfolding zonk_o zonk_w nodes_at
     zonk-over p e u =
         let m = over-told T [] to (to + w) rep (sym p ∙ e) in
@@ -98,9 +84,9 @@ module _ {k : List ℕ} {c : Run} {s : List ℕ} {at n : ℕ} {rep : List ℕ} {
           rw g q,
           record {
             does = λ z ls b f. record {
-              kept = moved (halt_of TypeTooLong) f;
+              kept = moved (Some TypeTooLong) f;
               taken = refl;
-              outcome = came (refused-is TypeTooLong rep' (state_of ls b k c) ∙ rw (g, lt-leb (length T) w many)) (rw (g, lt-leb (length T) w many)) refl;
+              outcome = came (rw (not-halted c.halt g, lt-leb (length T) w many)) (rw (g, lt-leb (length T) w many)) refl;
             };
             nodes = λ z. absurd (true≢false (sym z));
             within = let r = a.room in omega (arith, same_length);
@@ -126,7 +112,7 @@ module _ (c : Run) (t : Ty) (to w : ℕ) where
   pub zonk-fresh : (zonk_run c t to w).run.counters.fresh ≡ c.counters.fresh
   zonk-fresh = by (going c.halt) (leb (to + length t) (to + w))
     where
-      by : (x y : Bool) → (cond x (zonk_by (cond y (Fits (to + length t)) Over) c to) (record { run = c; nodes = 0 })).run.counters.fresh ≡ c.counters.fresh
+      by : (x y : Bool) → (cond x (zonk_by (cond y (Some (to + length t)) None) c to) (record { run = c; nodes = 0 })).run.counters.fresh ≡ c.counters.fresh
       by true true = refl
       by true false = refl
       by false y = refl

@@ -1,5 +1,6 @@
--- What the words of board, book and report and a run's counters stand for, and what an operation leaves of them. Assumes nothing: these are definitions.
-use Rattle.std.specs.Prelude.{◌≡◌, ◌≢◌, Bool, true, false, cond, List, ◌∷◌, ℕ, ◌+◌, ◌*◌, ◌-◌, ◌≤◌, ◌<◌, length, eqb, leb, ltb}
+-- What the words of board, book and report and a run's counters stand for, and what an operation leaves of them.
+-- Assumes nothing: these are definitions.
+use Rattle.std.specs.Prelude.{◌≡◌, ◌≢◌, Bool, true, false, cond, List, ◌∷◌, ℕ, ◌+◌, ◌*◌, ◌-◌, ◌≤◌, ◌<◌, length, leb, ltb, Option, Some, None}
 use Rattle.sizes.specs.Sizes.{most_numbers, book_base}
 use Rattle.nodes.specs.Nodes.{Node, node, Ty, kind, number, nodes_at}
 use Rattle.nodes.specs.Lists.{All}
@@ -9,18 +10,15 @@ use Rattle.judgment.specs.declared.TypeError.TheVariants.{UnboundVariable, Unbou
 use Rattle.judgment.specs.Solutions.{write_out, solved_unknowns}
 use Rattle.judgment.specs.Board.{Entry, Origin, own, universal, splits, Rule, done, refuse, fresh, push, solve, zonk, look, State, state, Outcome, finished, refused}
 use Rattle.judgment.specs.Chain.{perform_o, perform_l}
-use Rattle.judgment.specs.Result.{error_number, error_details, Way, limits_in, way_of}
+use Rattle.judgment.specs.Result.{Way, limits_in, way_of}
 use Rattle.judgment.specs.Levels.{Levels, Mode, first_call, strict_call}
 use Rattle.judgment.specs.Good.{Free}
 use Rattle.board.specs.declared.Board.{Board}
 use Rattle.board.specs.Board.{entry_of, entries_of, Stacked, slot_of}
 use Rattle.board.specs.Board.{fitting as fits_board, laid, grown as board_grown}
 use Rattle.book.specs.declared.Book.{Book}
-use Rattle.book.specs.declared.Wrote.{Wrote}
-use Rattle.book.specs.declared.Wrote.TheVariants.{Fits, Over}
 use Rattle.book.specs.Book.{start_of, sols, level_word_of, level_of, levels_of, levelled, lowered, Booked, wrote, written_to}
 use Rattle.book.specs.Book.{fitting as fits_book, given, grown as book_grown}
-use Rattle.operations.specs.declared.Halt.{Halt}
 use Rattle.operations.specs.declared.Run.{Run}
 use Rattle.operations.specs.declared.Zonked.{Zonked}
 
@@ -42,35 +40,14 @@ reported NoFreshNumber = 0
 reported SolutionsFull = 0
 reported OutOfScope = 0
 
--- a refusal in words: the number of its error and the two details. 0 is none
-abbrev pub no_halt : Halt
-no_halt = record { number = 0; first = 0; second = 0 }
+-- not refused
+abbrev pub going : Option TypeError → Bool
+going None = true
+going (Some e) = false
 
-abbrev pub halt_of : TypeError → Halt
-halt_of e = record { number = error_number e; first = (error_details e).0; second = (error_details e).1 }
-
-abbrev pub going : Halt → Bool
-going h = eqb h.number 0
-
--- the error that has these numbers (`error-is` in proofs/Latch.antt: `error_of (halt_of e)` is e)
-unfoldable pub error_of : Halt → TypeError
-error_of h =
-    cond (eqb h.number 11) (UnboundVariable h.first)
-    (cond (eqb h.number 12) (UnboundDataConstructor h.first)
-    (cond (eqb h.number 13) (NotAFunction h.first)
-    (cond (eqb h.number 14) (ArityMismatch h.first h.second)
-    (cond (eqb h.number 15) (SubtypingError h.first h.second)
-    (cond (eqb h.number 16) TypeUnificationError
-    (cond (eqb h.number 17) (InstantiationError h.first h.second)
-    (cond (eqb h.number 18) (IntrinsicArityMismatch h.second)
-    (cond (eqb h.number 19) (UnknownIntrinsic h.first)
-    (cond (eqb h.number 22) BoardFull
-    (cond (eqb h.number 23) TypeTooLong
-    (cond (eqb h.number 24) NoFreshNumber
-    (cond (eqb h.number 39) OutOfScope SolutionsFull))))))))))))
-
-abbrev pub outcome_by : Halt → List ℕ → State → Outcome
-outcome_by h rep s = cond (going h) (finished s) (refused (error_of h) (nodes_at rep 0 (reported (error_of h))) s)
+abbrev pub outcome_by : Option TypeError → List ℕ → State → Outcome
+outcome_by None rep s = finished s
+outcome_by (Some e) rep s = refused e (nodes_at rep 0 (reported e)) s
 
 abbrev pub state_of : List Triple → List ℕ → List ℕ → Run → State
 state_of ls b k c = state (entries_of ls b c.counters.board.entries) (sols k) c.counters.fresh
@@ -91,7 +68,7 @@ Bookable b c = (k : List ℕ) × WellFormed b k c
 
 -- ---- the operations on words: a refused run stays as it is
 abbrev pub stopped : Run → TypeError → Run
-stopped c e = record { counters = c.counters; book = c.book; halt = halt_of e }
+stopped c e = record { counters = c.counters; book = c.book; halt = Some e }
 
 abbrev pub refused_run : Run → TypeError → Run
 refused_run c e = cond (going c.halt) (stopped c e) c
@@ -184,8 +161,10 @@ came_to ls b k rep c = record { outcome = outcome_of ls b k rep c; words = recor
 abbrev pub perform_c : Way → List Triple → Rule → Came → Came
 perform_c w ls p o = record { outcome = perform_o (limits_in w) p o.outcome; words = perform_w w ls p o.words; levels = perform_l (limits_in w) p o.outcome o.levels }
 
--- What code that performs a rule leaves, w being what the run is told and ls the lines of the sheet: the outcome and the levels that the definition has, and every word of board and book.
--- The report is fixed as far as it holds types that a refusal reports. Beside that code writes to it as it does to any room that it is lent: a function's contract says which words.
+-- What code that performs a rule leaves, w being what the run is told and ls the lines of the sheet: the outcome and
+-- the levels that the definition has, and every word of board and book.
+-- The report is fixed as far as it holds types that a refusal reports. Beside that code writes to it as it does to any
+-- room that it is lent: a function's contract says which words.
 pub record Does (w : Way) (ls : List Triple) (b k rep : List ℕ) (c : Run) (p : Rule) (b' k' rep' : List ℕ) (r : Run) : Type 0 where
   pub kept : WellFormed b' k' r
   pub taken : r.counters.taken ≡ c.counters.taken
@@ -255,9 +234,9 @@ pub record SolveAsk (k : List ℕ) (c : Run) (x : ℕ) (s : List ℕ) («from» 
   pub solves : going c.halt ≡ true → Solves k c x (nodes_at s «from» n)
 
 -- a write-out to node `to` of the report
-abbrev pub zonk_by : Wrote → Run → ℕ → Zonked
-zonk_by (Fits n) c to = record { run = c; nodes = n - to }
-zonk_by Over c to = record { run = stopped c TypeTooLong; nodes = 0 }
+abbrev pub zonk_by : Option ℕ → Run → ℕ → Zonked
+zonk_by (Some n) c to = record { run = c; nodes = n - to }
+zonk_by None c to = record { run = stopped c TypeTooLong; nodes = 0 }
 
 abbrev pub zonk_run : Run → Ty → ℕ → ℕ → Zonked
 zonk_run c t to w = cond (going c.halt) (zonk_by (wrote t to (to + w)) c to) (record { run = c; nodes = 0 })

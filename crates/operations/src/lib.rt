@@ -1,5 +1,5 @@
-// The operations that the rules are made of (worklist.rs: `fresh_evar`, `push`, `solve_evar`, `zonk`, an error returned). A run that was refused stays as it is, so a
-// rule is straight-line code in the Rust's order.
+// The operations that the rules are made of (worklist.rs: `fresh_evar`, `push`, `solve_evar`, `zonk`, an error
+// returned). A run that was refused stays as it is, so a rule is straight-line code in the Rust's order.
 #![tactic(auto)]
 
 ghost use Rattle.std.specs.Prelude.{◌≡◌, [], ◌+◌, ◌*◌, ◌≤◌, ◌<◌, length};
@@ -9,31 +9,11 @@ ghost use Rattle.judgment.specs.Board.{refuse as refuse_rule, own, universal, sp
 ghost use Rattle.board.specs.Board.{term_at, entry_of, Stacked};
 ghost use Rattle.sizes.specs.Sizes.{most_numbers};
 ghost use Rattle.book.specs.Book.{sols, Booked};
-ghost use Rattle.operations.specs.State.{reported, no_halt, halt_of, error_of, Performs, going, refused_run, fresh_run, makes, Makes, Pushes, PushAsk, Gives, SolveAsk, zonk_run, zonk_words, ZonkAsk, Zonks};
+ghost use Rattle.operations.specs.State.{reported, Performs, going, refused_run, fresh_run, makes, Makes, Pushes, PushAsk, Gives, SolveAsk, zonk_run, zonk_words, ZonkAsk, Zonks};
 
 use board::Board;
-use book::{Book, Wrote, level, lower, set_level, write_out};
-use judgment::{TypeError, error_details, error_number};
-
-// Why a run was refused: the number of the error and its two details. The number 0 is none.
-#[derive(Clone, Copy)]
-pub struct Halt {
-    pub number: u32,
-    pub first: u32,
-    pub second: u32,
-}
-
-impl Halt {
-    pub fn none() -> Halt
-        ensures { result ≡ no_halt }
-    {
-        Halt {
-            number: 0,
-            first: 0,
-            second: 0,
-        }
-    }
-}
+use book::{Book, level, lower, set_level, write_out};
+use judgment::TypeError;
 
 // The counters of a run: entries taken, fresh numbers, the board's entries and their nodes. A step is lent them.
 #[derive(Clone, Copy)]
@@ -43,12 +23,22 @@ pub struct Counters {
     pub board: Board,
 }
 
-// What the rules hand on: the counters, the nodes of the book, and the refusal.
+// The kinds of the board's entries but for a TVar, which has the kind of its node.
+#[derive(Clone, Copy)]
+pub enum Entry {
+    Var = 2,
+    Sub = 3,
+    Inf = 4,
+    Chk = 5,
+    InfApp = 6,
+}
+
+// What the rules hand on: the counters, the nodes of the book, and why the run was refused, if it was.
 #[derive(Clone, Copy)]
 pub struct Run {
     pub counters: Counters,
     pub book: Book,
-    pub halt: Halt,
+    pub halt: Option<TypeError>,
 }
 
 // A type written out: the run after it, and its nodes.
@@ -58,84 +48,37 @@ pub struct Zonked {
     pub nodes: usize,
 }
 
-pub fn is_going(h: Halt) -> bool
+pub fn is_going(h: Option<TypeError>) -> bool
     ensures { result ≡ going h }
 {
-    h.number == 0
+    h.is_none()
 }
 
-fn halt_of(e: TypeError) -> Halt
-    ensures { result ≡ halt_of e }
-{
-    let d = error_details(e);
-    Halt {
-        number: error_number(e),
-        first: d.0,
-        second: d.1,
-    }
-}
-
-// The error of a run that was refused.
-pub fn error_of(h: Halt) -> TypeError
-    ensures { result ≡ error_of h }
-{
-    let number = h.number;
-    match number {
-        11 => TypeError::UnboundVariable(h.first),
-        12 => TypeError::UnboundDataConstructor(h.first),
-        13 => TypeError::NotAFunction(h.first),
-        14 => TypeError::ArityMismatch(h.first, h.second),
-        15 => TypeError::SubtypingError(h.first, h.second),
-        16 => TypeError::TypeUnificationError,
-        17 => TypeError::InstantiationError(h.first, h.second),
-        18 => TypeError::IntrinsicArityMismatch(h.second),
-        19 => TypeError::UnknownIntrinsic(h.first),
-        22 => TypeError::BoardFull,
-        23 => TypeError::TypeTooLong,
-        24 => TypeError::NoFreshNumber,
-        39 => TypeError::OutOfScope,
-        _ => TypeError::SolutionsFull,
-    }
-}
-
-// Refuses. The types that the error names stand at the front of the report.
+// Refuses; the first refusal of a run stays. The types that the error names stand at the front of the report.
 pub fn refuse(c: Run, e: TypeError) -> Run
     ensures { (result ≡ refused_run c e) × Performs c (λ rep. refuse_rule e (nodes_at rep 0 (reported e))) result }
 {
-    let halt = c.halt;
-    if is_going(halt) {
-        let counters = c.counters;
-        let book = c.book;
-        let refusal = halt_of(e);
-        return Run {
-            counters,
-            book,
-            halt: refusal,
-        };
+    Run {
+        halt: c.halt.or(Some(e)),
+        ..c
     }
-    c
 }
 
 // Makes a fresh number, of its own level: it is the counter before.
 pub fn fresh_evar(c: Run) -> Run
     ensures { (result ≡ fresh_run c) × Performs c (λ rep. fresh_rule own (λ n. done)) result }
 {
-    let halt = c.halt;
-    if is_going(halt) {
-        let mut counters = c.counters;
-        let fresh = counters.fresh;
-        if (fresh as usize) < Book::NUMBERS {
-            counters.fresh = fresh + 1;
-            let book = c.book;
-            return Run {
-                counters,
-                book,
-                halt,
-            };
-        }
-        return refuse(c, TypeError::NoFreshNumber);
+    let fresh = c.counters.fresh;
+    if is_going(c.halt) && (fresh as usize) < Book::NUMBERS {
+        return Run {
+            counters: Counters {
+                fresh: fresh + 1,
+                ..c.counters
+            },
+            ..c
+        };
     }
-    c
+    refuse(c, TypeError::NoFreshNumber)
 }
 
 // Makes a fresh number of the level m.
@@ -145,10 +88,8 @@ fn fresh_level(book: &mut [u32], c: Run, m: u32) -> Run
 {
     let n = c.counters.fresh;
     let r = fresh_evar(c);
-    let halt = r.halt;
-    if is_going(halt) {
+    if is_going(r.halt) {
         set_level(book, n, m);
-        return r;
     }
     r
 }
@@ -186,47 +127,33 @@ pub fn push(
     requires { PushAsk board.old c kind number l.now la ln r.now ra rn }
     ensures { Pushes board.old c kind number (nodes_at l.now la ln) (nodes_at r.now ra rn) (λ ls. entry_of ls kind number (nodes_at l.now la ln) (nodes_at r.now ra rn)) board.new result }
 {
-    let halt = c.halt;
-    if is_going(halt) {
-        let mut counters = c.counters;
-        let b = counters.board;
-        if b.fits(ln + rn) {
-            let grown = board::push(board, b, kind, number, l, la, ln, r, ra, rn);
-            counters.board = grown;
-            let book = c.book;
-            return Run {
-                counters,
-                book,
-                halt,
-            };
-        }
-        return refuse(c, TypeError::BoardFull);
+    let b = c.counters.board;
+    if is_going(c.halt) && b.fits(ln + rn) {
+        let grown = board::push(board, b, kind, number, l, la, ln, r, ra, rn);
+        return Run {
+            counters: Counters {
+                board: grown,
+                ..c.counters
+            },
+            ..c
+        };
     }
-    c
+    refuse(c, TypeError::BoardFull)
 }
 
-// Gives the unsolved unknown x the n nodes at word `from` of src, which are in scope; no unknown in them keeps a higher level than that of x.
+// Gives the unsolved unknown x the n nodes at word `from` of src, which are in scope; no unknown in them keeps a higher
+// level than that of x.
 pub fn solve_evar(book: &mut [u32], c: Run, x: u32, src: &[u32], from: usize, n: usize) -> Run
     requires { SolveAsk book.old c x src.now from n }
     ensures { Gives book.old c x (nodes_at src.now from n) book.new result }
 {
-    let halt = c.halt;
-    if is_going(halt) {
-        let b = c.book;
-        if b.fits(n) {
-            let m = level(book, x);
-            let grown = book::solve(book, b, x, src, from, n);
-            lower(book, m, src, from, n);
-            let counters = c.counters;
-            return Run {
-                counters,
-                book: grown,
-                halt,
-            };
-        }
-        return refuse(c, TypeError::SolutionsFull);
+    if is_going(c.halt) && c.book.fits(n) {
+        let m = level(book, x);
+        let grown = book::solve(book, c.book, x, src, from, n);
+        lower(book, m, src, from, n);
+        return Run { book: grown, ..c };
     }
-    c
+    refuse(c, TypeError::SolutionsFull)
 }
 
 // Writes out the n nodes at word `at` of src, to the report from node `to` on; a type of more than w nodes is refused.
@@ -243,20 +170,18 @@ pub fn zonk(
     requires { ZonkAsk book.now c src.now at n report.old to w }
     ensures { (result ≡ zonk_run c (write_out (sols book.now) (nodes_at src.now at n)) to w) × (report.new ≡ zonk_words report.old c (write_out (sols book.now) (nodes_at src.now at n)) to w) × Zonks book.now report.old c (nodes_at src.now at n) to w report.new result }
 {
-    let halt = c.halt;
-    if is_going(halt) {
-        match write_out(src, at, n, book, report, to, to + w) {
-            Wrote::Fits(end) => Zonked {
-                run: c,
-                nodes: end - to,
-            },
-            Wrote::Over => Zonked {
-                run: refuse(c, TypeError::TypeTooLong),
-                nodes: 0,
-            },
-        }
-    } else {
-        Zonked { run: c, nodes: 0 }
+    if !is_going(c.halt) {
+        return Zonked { run: c, nodes: 0 };
+    }
+    match write_out(src, at, n, book, report, to, to + w) {
+        Some(end) => Zonked {
+            run: c,
+            nodes: end - to,
+        },
+        None => Zonked {
+            run: refuse(c, TypeError::TypeTooLong),
+            nodes: 0,
+        },
     }
 }
 
@@ -265,15 +190,14 @@ pub fn push_tvar(board: &mut [u32], c: Run, kind: u32, number: u32) -> Run
     requires { Stacked board.old c.counters.board × (6 < kind) }
     ensures { Pushes board.old c kind number [] [] (λ ls. tvar (node kind number)) board.new result }
 {
-    let none = [0u32];
-    push(board, c, kind, number, &none, 0, 0, &none, 0, 0)
+    push(board, c, kind, number, &[], 0, 0, &[], 0, 0)
 }
 
 pub fn push_var(board: &mut [u32], c: Run, name: u32, t: &[u32], ta: usize, tn: usize) -> Run
     requires { Stacked board.old c.counters.board × (ta + 2 * tn ≤ length t.now) }
     ensures { Pushes board.old c 2 name (nodes_at t.now ta tn) [] (λ ls. var name (nodes_at t.now ta tn)) board.new result }
 {
-    push(board, c, 2, name, t, ta, tn, t, 0, 0)
+    push(board, c, Entry::Var as u32, name, t, ta, tn, t, 0, 0)
 }
 
 pub fn push_sub(
@@ -289,21 +213,21 @@ pub fn push_sub(
     requires { Stacked board.old c.counters.board × (la + 2 * ln ≤ length l.now) × (ra + 2 * rn ≤ length r.now) }
     ensures { Pushes board.old c 3 0 (nodes_at l.now la ln) (nodes_at r.now ra rn) (λ ls. sub (nodes_at l.now la ln) (nodes_at r.now ra rn)) board.new result }
 {
-    push(board, c, 3, 0, l, la, ln, r, ra, rn)
+    push(board, c, Entry::Sub as u32, 0, l, la, ln, r, ra, rn)
 }
 
 pub fn push_inf(board: &mut [u32], c: Run, line: u32, t: &[u32], ta: usize, tn: usize) -> Run
     requires { Stacked board.old c.counters.board × (ta + 2 * tn ≤ length t.now) }
     ensures { Pushes board.old c 4 line (nodes_at t.now ta tn) [] (λ ls. inf (term_at ls line) (nodes_at t.now ta tn)) board.new result }
 {
-    push(board, c, 4, line, t, ta, tn, t, 0, 0)
+    push(board, c, Entry::Inf as u32, line, t, ta, tn, t, 0, 0)
 }
 
 pub fn push_chk(board: &mut [u32], c: Run, line: u32, t: &[u32], ta: usize, tn: usize) -> Run
     requires { Stacked board.old c.counters.board × (ta + 2 * tn ≤ length t.now) }
     ensures { Pushes board.old c 5 line (nodes_at t.now ta tn) [] (λ ls. chk (term_at ls line) (nodes_at t.now ta tn)) board.new result }
 {
-    push(board, c, 5, line, t, ta, tn, t, 0, 0)
+    push(board, c, Entry::Chk as u32, line, t, ta, tn, t, 0, 0)
 }
 
 pub fn push_inf_app(
@@ -320,5 +244,6 @@ pub fn push_inf_app(
     requires { Stacked board.old c.counters.board × (fa + 2 * fcount ≤ length f.now) × (ta + 2 * tn ≤ length t.now) }
     ensures { Pushes board.old c 6 line (nodes_at f.now fa fcount) (nodes_at t.now ta tn) (λ ls. inf_app (nodes_at f.now fa fcount) (term_at ls line) (nodes_at t.now ta tn)) board.new result }
 {
-    push(board, c, 6, line, f, fa, fcount, t, ta, tn)
+    let kind = Entry::InfApp as u32;
+    push(board, c, kind, line, f, fa, fcount, t, ta, tn)
 }

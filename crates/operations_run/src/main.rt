@@ -12,12 +12,12 @@ ghost use Rattle.operations.specs.State.{WellFormed, Does, Scoped};
 ghost use Rattle.operations_run.specs.Script.{script as script_rule};
 
 use board::{Board, clear_board};
-use book::{Book, Met, Rest, clear_book, compare, solve, write_out};
+use book::{Book, Rest, Unlike, clear_book, compare, solve, write_out};
 use judgment::TypeError;
 use nodes::{clear_words, wide};
 use operations::{
-    Counters, Halt, Run, Zonked, fresh_evar, is_going, push_sub, push_tvar, push_var, refuse,
-    solve_evar, zonk,
+    Counters, Run, Zonked, fresh_evar, is_going, push_sub, push_tvar, push_var, refuse, solve_evar,
+    zonk,
 };
 use sizes::{BOARD_SIZE, BOOK_SIZE, USUAL_LIMIT, USUAL_REPORT};
 
@@ -55,12 +55,10 @@ fn chain(book: &mut [u32]) -> Book
 {
     clear_book(book);
     let mut b = Book::new();
-    let mut k = 0u32;
-    while k < 999 {
+    for k in 0..999 {
         b = solve_by(book, b, k, 17, k + 1);
-        k += 1;
     }
-    solve_by(book, b, k, 12, 1)
+    solve_by(book, b, 999, 12, 1)
 }
 
 fn number(rt: &HostRuntime, n: usize) {
@@ -69,33 +67,29 @@ fn number(rt: &HostRuntime, n: usize) {
 
 // Writes out the place and the value of each word that is not 0.
 fn words(rt: &HostRuntime, w: &[u32]) {
-    let mut i = 0;
-    while i < w.len() {
-        let x = wide(w[i]);
-        if x != 0 {
+    for (i, x) in w.iter().enumerate() {
+        if *x != 0 {
             number(rt, i);
             let _space = rt.write_all(b" ");
-            number(rt, x);
+            number(rt, wide(*x));
             let _end = rt.write_all(b"\n");
         }
-        i += 1;
     }
 }
 
 // Writes out the counters, and whether the run goes on.
 fn show_counters(rt: &HostRuntime, c: Run) {
     let board = c.counters.board;
-    let book = c.book;
-    let halt = c.halt;
     number(rt, wide(c.counters.fresh));
-    let _one = rt.write_all(b" ");
-    number(rt, board.entries);
-    let _two = rt.write_all(b" ");
-    number(rt, board.nodes);
-    let _three = rt.write_all(b" ");
-    number(rt, book.nodes);
-    let _four = rt.write_all(b" ");
-    number(rt, is_going(halt) as usize);
+    for n in [
+        board.entries,
+        board.nodes,
+        c.book.nodes,
+        usize::from(is_going(c.halt)),
+    ] {
+        let _space = rt.write_all(b" ");
+        number(rt, n);
+    }
     let _end = rt.write_all(b"\n");
 }
 
@@ -121,7 +115,7 @@ fn run(rt: &HostRuntime, board: &mut [u32], book: &mut [u32], report: &mut [u32]
     let start = Run {
         counters,
         book: Book::new(),
-        halt: Halt::none(),
+        halt: None,
     };
     let c1 = script(board, book, report, start);
     let c2 = script(board, book, report, c1);
@@ -131,18 +125,13 @@ fn run(rt: &HostRuntime, board: &mut [u32], book: &mut [u32], report: &mut [u32]
     show(rt, board, book, report, c4);
 }
 
-fn show_met(rt: &HostRuntime, m: Met) {
-    match m {
-        Met::Same(_) => {
-            let _same = rt.write_all(b"same\n");
-        }
-        Met::Differ => {
-            let _differ = rt.write_all(b"differ\n");
-        }
-        Met::Over => {
-            let _over = rt.write_all(b"over\n");
-        }
-    }
+fn show_met(rt: &HostRuntime, m: Result<Rest, Unlike>) {
+    let text = match m {
+        Ok(_) => "same",
+        Err(Unlike::Differ) => "differ",
+        Err(Unlike::Over) => "over",
+    };
+    let _met = rt.println(text);
 }
 
 // Follows that chain from 0: compared with Int, and written out.

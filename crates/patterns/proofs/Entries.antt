@@ -1,10 +1,6 @@
 -- Where the type of a constructor stands, on a sheet that is taken. Assumes nothing.
-use mathlib.Core.Path.{◌≡◌, sym}
-use mathlib.Core.Bool.{Bool, true, false, cond}
-use mathlib.Core.List.{List, [], ◌∷◌}
-use Prim.Native.Nat.{ℕ, zero, suc, ◌+◌, ◌≤◌, ◌<◌}
-use native.Mathlib.Omega.{arith}
-use lib.ListN.{length, take, drop}
+use Rattle.sheet.specs.declared.Extent.{Extent}
+use Rattle.std.proofs.Common.{Option, Some, ◌≡◌, sym, ap, Bool, true, false, cond, List, [], ◌∷◌, ℕ, zero, suc, ◌+◌, ◌≤◌, ◌<◌, arith, length, take, drop}
 use Rattle.sizes.specs.Sizes.{most_nodes}
 use Rattle.nodes.specs.Parts.{Whole}
 use Rattle.nodes.specs.Lists.{All}
@@ -12,8 +8,6 @@ use Rattle.nodes.proofs.ListLaws.{cond_ind}
 use Rattle.nodes.proofs.PartLaws.{length-take}
 use Rattle.spelling.specs.declared.Triple.{Triple}
 use Rattle.kinds.specs.Kinds.{a_type, parts_of}
-use Rattle.sheet.specs.declared.Found.{Found}
-use Rattle.sheet.specs.declared.Found.TheVariants.{At}
 use Rattle.sheet.specs.Plan.{Narrow, is_entry, named, Declaration, declarations, find_in, find_entry, lookup, type_at, plan_of}
 use Rattle.sheet.specs.Form.{IsPart, Typed}
 use Rattle.sheet.proofs.Declarations.{find-lookup}
@@ -38,19 +32,20 @@ declared-within (t ∷ ts) zero at n h =
     cond_ind (All (Within n)) (is_entry t) (λ _. (let l = length-take parts_of ts 1 in omega arith, declared-within ts 1 (at + 1) n (omega arith))) (λ _. tt)
 
 module _ (ls : List Triple) (k x line count : ℕ) where
-  found-by : (P : ℕ → ℕ → Type 0) (b : Bool) (e : Declaration) (f : Found) → cond b (At e.line e.count) f ≡ At line count → P e.line e.count → (f ≡ At line count → P line count) → P line count
+  found-by : (P : ℕ → ℕ → Type 0) (b : Bool) (e : Declaration) (f : Option Extent) → cond b (Some (record { line = e.line; count = e.count })) f ≡ Some (record { line = line; count = count }) → P e.line e.count → (f ≡ Some (record { line = line; count = count }) → P line count) → P line count
   found-by P true e f q h g =
-      let a : e.line ≡ line = cc in
-      let c : e.count ≡ count = cc in
+      let same : ◌≡◌ {A = Extent} (record { line = e.line; count = e.count }) (record { line = line; count = count }) = cc in
+      let a : e.line ≡ line = ap (λ (z : Extent). z.line) same in
+      let c : e.count ≡ count = ap (λ (z : Extent). z.count) same in
       rw (← a, ← c) h
   found-by P false e f q h g = g q
 
-  found-typed : (es : List Declaration) → Typed ls es → find_in k x es ≡ At line count → IsPart a_type (take count (drop line ls))
+  found-typed : (es : List Declaration) → Typed ls es → find_in k x es ≡ Some (record { line = line; count = count }) → IsPart a_type (take count (drop line ls))
   unfolding find_in
   found-typed [] t q = absurd (let z : ◌≡◌ {A = ℕ} 0 1 = cc in omega arith)
   found-typed (e ∷ es) t q = found-by (λ l c. IsPart a_type (take c (drop l ls))) (named k x e.head) e (find_in k x es) q t.0 (found-typed es t.1)
 
-  found_within : (n : ℕ) (es : List Declaration) → All (Within n) es → find_in k x es ≡ At line count → line + count ≤ n
+  found_within : (n : ℕ) (es : List Declaration) → All (Within n) es → find_in k x es ≡ Some (record { line = line; count = count }) → line + count ≤ n
   unfolding find_in Within
   found_within n [] t q = absurd (let z : ◌≡◌ {A = ℕ} 0 1 = cc in omega arith)
   found_within n (e ∷ es) t q = found-by (λ l c. l + c ≤ n) (named k x e.head) e (find_in k x es) q t.0 (found_within n es t.1)
@@ -59,7 +54,7 @@ some-lines : (n : ℕ) (ls : List Triple) → IsPart a_type (take n ls) → 0 < 
 some-lines zero ls f = absurd f
 some-lines (suc n) ls f = omega arith
 
-pub entry_at : (ls : List Triple) (x line count : ℕ) → Sheet ls → At line count ≡ find_entry 1 x ls
+pub entry_at : (ls : List Triple) (x line count : ℕ) → Sheet ls → Some (record { line = line; count = count }) ≡ find_entry 1 x ls
     → (0 < count) × (count ≤ most_nodes) × (line + count ≤ length ls) × All Narrow (take count (drop line ls)) × All TypeLine (take count (drop line ls)) × Whole parts_of (take count (drop line ls)) 1 × Declared ls line count
 unfolding find_entry
 entry_at ls x line count h q =

@@ -1,16 +1,8 @@
 -- One line of a pattern. Assumes nothing.
-use mathlib.Core.Path.{◌≡◌, refl, sym, ap, ◌∙◌, subst}
-use mathlib.Core.Logic.{◌≢◌}
-use mathlib.Core.Option.{Option}
-use mathlib.Core.List.{List, [], ◌∷◌, ◌++◌}
-use Prim.Native.Nat.{ℕ, ◌+◌, ◌*◌, ◌-◌, ◌≤◌, ◌<◌}
-use native.Mathlib.Omega.{arith}
-use borrow.Author.Tests.{ne_eqb}
-use lib.ListN.{length, get_or, take, drop}
-use lib.Seq.{sets}
+use Rattle.std.proofs.Common.{Option, Some, None, ◌≡◌, refl, sym, ap, ◌∙◌, subst, ◌≢◌, List, [], ◌∷◌, ◌++◌, ℕ, ◌+◌, ◌*◌, ◌-◌, ◌≤◌, ◌<◌, arith, ne_eqb, length, get_or, take, drop}
+use Rattle.std.proofs.lemmas.List.Edits.{sets}
 use Rattle.nodes.specs.Nodes.{Ty, nodes_at}
 use Rattle.spelling.specs.declared.Triple.{Triple}
-use Rattle.sheet.specs.declared.Found.TheVariants.{At, Nothing}
 use Rattle.sheet.specs.Plan.{no_triple, Bindings, lookup, find_entry, type_at}
 use Rattle.sheet.proofs.Copies.{lines_cons}
 use Rattle.judgment.specs.declared.TypeError.TheVariants.{UnboundDataConstructor}
@@ -50,7 +42,7 @@ frame-none w n r arity z = record {
 
 -- ---- a constructor pattern
 module _ {b : List ℕ} {c : Run} (ls : List Triple) (x count : ℕ) (t : Ty) (w : List ℕ) (n : ℕ) where
-  pub naming-hit : {b' w' : List ℕ} {o : Parts} {d : ℕ} (line lines base : ℕ) → At line lines ≡ find_entry 1 x ls → base ≡ c.counters.fresh → Frames ls w n
+  pub naming-hit : {b' w' : List ℕ} {o : Parts} {d : ℕ} (line lines base : ℕ) → Some (record { line = line; count = lines }) ≡ find_entry 1 x ls → base ≡ c.counters.fresh → Frames ls w n
       → Parting b c ls line lines count t b' o → Adds w n (body_of line lines o.nodes base) o.arity w' d
       → Naming b c ls x count t w n b' w' (record { run = o.run; depth = d })
   naming-hit {b'} {w'} {o} {d} line lines base q e f p a =
@@ -72,7 +64,7 @@ module _ {b : List ℕ} {c : Run} (ls : List Triple) (x count : ℕ) (t : Ty) (w
         };
       }
 
-  pub naming-miss : {r : Run} → Nothing ≡ find_entry 1 x ls → Ready b c → Frames ls w n → (r ≡ refused_run c (UnboundDataConstructor x)) × Performs c (λ rep. refuse (UnboundDataConstructor x) (nodes_at rep 0 0)) r
+  pub naming-miss : {r : Run} → None ≡ find_entry 1 x ls → Ready b c → Frames ls w n → (r ≡ refused_run c (UnboundDataConstructor x)) × Performs c (λ rep. refuse (UnboundDataConstructor x) (nodes_at rep 0 0)) r
       → Naming b c ls x count t w n b w (record { run = r; depth = n })
   naming-miss {r} q h f d = record {
     depth = omega arith;

@@ -1,11 +1,7 @@
--- A constructor pattern: the constructor's type opened, its result below the type that is wanted, the counts compared. Assumes nothing.
-use mathlib.Core.Path.{◌≡◌, refl, sym, ap, ap₂, ◌∙◌, subst⁻¹}
-use mathlib.Core.Bool.{cond}
-use mathlib.Core.List.{List, []}
-use Prim.Native.Nat.{ℕ, zero, suc, ◌+◌, ◌-◌, ◌≤◌}
-use native.Mathlib.Omega.{arith}
-use lib.Dec.{eqb}
-use lib.ListN.{length, take, drop, length-drop}
+-- A constructor pattern: the constructor's type opened, its result below the type that is wanted, the counts compared.
+-- Assumes nothing.
+use Rattle.std.proofs.Common.{◌≡◌, refl, sym, ap, ap₂, ◌∙◌, cond, List, [], ℕ, zero, suc, ◌+◌, ◌-◌, ◌≤◌, arith, eqb, length, take, drop, length-drop}
+use mathlib.Core.Path.{subst⁻¹}
 use Rattle.sizes.specs.Sizes.{most_nodes}
 use Rattle.nodes.specs.Nodes.{Ty}
 use Rattle.nodes.specs.Parts.{Whole}

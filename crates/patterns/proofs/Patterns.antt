@@ -1,11 +1,7 @@
 -- A pattern from its first line to its last. Assumes nothing.
-use mathlib.Core.Path.{◌≡◌, refl, sym, ap, ap₂, ◌∙◌, subst⁻¹}
-use mathlib.Core.List.{List, [], ◌∷◌, ◌++◌}
-use Prim.Native.Nat.{ℕ, ◌+◌, ◌*◌, ◌-◌, ◌≤◌, ◌<◌}
-use native.Mathlib.Nat.{not-suc-le-zero}
-use native.Mathlib.Omega.{arith}
-use lib.ListN.{length, get_or, take, drop}
-use lib.Seq.{sets}
+use Rattle.std.proofs.Common.{◌≡◌, refl, sym, ap, ap₂, ◌∙◌, List, [], ◌∷◌, ◌++◌, ℕ, ◌+◌, ◌*◌, ◌-◌, ◌≤◌, ◌<◌, not-suc-le-zero, arith, length, get_or, take, drop, false}
+use mathlib.Core.Path.{subst⁻¹}
+use Rattle.std.proofs.lemmas.List.Edits.{sets}
 use Rattle.sizes.specs.Sizes.{most_numbers}
 use Rattle.nodes.specs.Nodes.{Ty}
 use Rattle.nodes.specs.Lists.{All}
@@ -15,7 +11,6 @@ use Rattle.sheet.proofs.Copies.{copy-narrow}
 use Rattle.judgment.specs.Types.{unknown}
 use Rattle.judgment.specs.Board.{Rule}
 use Rattle.judgment.specs.Rules.{Env, check_patterns}
-use mathlib.Core.Bool.{false}
 use Rattle.operations.specs.declared.Run.{Run}
 use Rattle.operations.specs.State.{going}
 use Rattle.references.specs.declared.TypeRef.{TypeRef}

@@ -1,17 +1,8 @@
 -- The rooms of a pattern, by the tests that the code makes. Assumes nothing.
-use mathlib.Core.Path.{◌≡◌, refl, sym, ap, ◌∙◌}
-use mathlib.Core.Logic.{◌≢◌}
-use mathlib.Core.Bool.{Bool, true, false, cond}
-use mathlib.Core.List.{List, [], ◌∷◌}
-use Prim.Native.Nat.{ℕ, ◌+◌, ◌*◌, ◌-◌, ◌≤◌, ◌<◌}
-use native.Mathlib.Omega.{arith}
-use borrow.Author.Tests.{eq-eqb, ne_eqb, lt-ltb}
-use lib.Dec.{eqb}
-use lib.ListN.{length, get_or, take, drop}
-use lib.Seq.{sets}
+use Rattle.std.proofs.Common.{Some, None, ◌≡◌, refl, sym, ap, ◌∙◌, ◌≢◌, Bool, true, false, cond, List, [], ◌∷◌, ℕ, ◌+◌, ◌*◌, ◌-◌, ◌≤◌, ◌<◌, arith, eq-eqb, ne_eqb, lt-ltb, eqb, length, get_or, take, drop}
+use Rattle.std.proofs.lemmas.List.Edits.{sets}
 use Rattle.nodes.specs.Nodes.{Ty, words}
 use Rattle.spelling.specs.declared.Triple.{Triple}
-use Rattle.sheet.specs.declared.Found.TheVariants.{At, Nothing}
 use Rattle.sheet.specs.Plan.{no_triple, nodes_of, find_entry}
 use Rattle.sheet.proofs.Copies.{lines_cons}
 use Rattle.judgment.specs.declared.TypeError.TheVariants.{ArityMismatch, UnboundDataConstructor}
@@ -63,13 +54,13 @@ unfolding frame_words frame_depth
 frame-zero w n r arity e = rw e (refl, refl)
 
 module _ (ls : List Triple) (x count : ℕ) (want : TypeRef) (c : Run) (w : List ℕ) (n : ℕ) (l r : List ℕ) where
-  pub rooms-hit : (line m base : ℕ) → At line m ≡ find_entry 1 x ls → base ≡ c.counters.fresh → {o : Parts} {w' l' r' : List ℕ} {d : ℕ} → o ≡ parts_answer ls line m count want c
+  pub rooms-hit : (line m base : ℕ) → Some (record { line = line; count = m }) ≡ find_entry 1 x ls → base ≡ c.counters.fresh → {o : Parts} {w' l' r' : List ℕ} {d : ℕ} → o ≡ parts_answer ls line m count want c
       → l' ≡ result_out ls line m c.counters.fresh l → r' ≡ instance_out ls want r → w' ≡ frame_words w n (body_of line m o.nodes base) o.arity → d ≡ frame_depth n o.arity
       → (v : List ℕ) (j : ℕ) → rooms o.run w' d v j l' r' ≡ constructor_rooms ls x count want (rooms c w n v j l r) (find_entry 1 x ls)
   unfolding constructor_rooms
   rooms-hit line m base q e p el er ew ed v j = rw (← q, ew, ed, e, p, el, er)
 
-  pub rooms-miss : {c' : Run} → Nothing ≡ find_entry 1 x ls → c' ≡ refused_run c (UnboundDataConstructor x) → (v : List ℕ) (j : ℕ) → rooms c' w n v j l r ≡ constructor_rooms ls x count want (rooms c w n v j l r) (find_entry 1 x ls)
+  pub rooms-miss : {c' : Run} → None ≡ find_entry 1 x ls → c' ≡ refused_run c (UnboundDataConstructor x) → (v : List ℕ) (j : ℕ) → rooms c' w n v j l r ≡ constructor_rooms ls x count want (rooms c w n v j l r) (find_entry 1 x ls)
   unfolding constructor_rooms
   rooms-miss q e v j = rw (← q, e)
 

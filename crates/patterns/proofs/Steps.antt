@@ -1,12 +1,6 @@
 -- Turns, one after the other. Assumes nothing.
-use mathlib.Core.Path.{◌≡◌, refl, sym, ap, ◌∙◌, subst⁻¹}
-use mathlib.Core.Bool.{Bool, true, false, true≢false}
-use mathlib.Core.List.{List, []}
-use mathlib.Core.Logic.{◌≢◌}
-use Prim.Native.Nat.{ℕ, ◌+◌}
-use native.Mathlib.Nat.{add-zero}
-use borrow.Author.Tests.{eq-eqb, ne_eqb}
-use lib.ListN.{length}
+use Rattle.std.proofs.Common.{◌≡◌, refl, sym, ap, ◌∙◌, Bool, true, false, true≢false, List, [], ◌≢◌, ℕ, ◌+◌, add-zero, eq-eqb, ne_eqb, length}
+use mathlib.Core.Path.{subst⁻¹}
 use Rattle.nodes.specs.Nodes.{Ty, nodes_at}
 use Rattle.nodes.proofs.ListLaws.{cond_ind}
 use Rattle.spelling.specs.declared.Triple.{Triple}

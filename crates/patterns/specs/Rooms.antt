@@ -1,9 +1,8 @@
 -- Every word of the room that the code of a pattern is lent, line by line. Assumes nothing: these are definitions.
-use Rattle.std.specs.Prelude.{◌≡◌, cond, List, [], ◌∷◌, ℕ, ◌+◌, ◌*◌, ◌-◌, eqb, ltb, length, take, drop}
+use Rattle.sheet.specs.declared.Extent.{Extent}
+use Rattle.std.specs.Prelude.{◌≡◌, cond, List, [], ◌∷◌, ℕ, ◌+◌, ◌*◌, ◌-◌, eqb, ltb, length, take, drop, Option, Some, None}
 use Rattle.std.proofs.lemmas.List.Edits.{sets}
 use Rattle.spelling.specs.declared.Triple.{Triple}
-use Rattle.sheet.specs.declared.Found.{Found}
-use Rattle.sheet.specs.declared.Found.TheVariants.{At, Nothing}
 use Rattle.sheet.specs.Plan.{nodes_of, find_entry}
 use Rattle.judgment.specs.declared.TypeError.TheVariants.{ArityMismatch, UnboundDataConstructor}
 use Rattle.nodes.specs.Nodes.{words}
@@ -19,7 +18,8 @@ use Rattle.patterns.specs.declared.Parts.{Parts}
 use Rattle.patterns.specs.declared.Checked.{Checked}
 use Rattle.patterns.specs.Readings.{body_of}
 
--- What stands between two lines: the run, the words of the frames and how many there are, those of the bindings and how many, and two buffers for types.
+-- What stands between two lines: the run, the words of the frames and how many there are, those of the bindings and how
+-- many, and two buffers for types.
 pub record Rooms : Type 0 where
   pub run : Run
   pub frames : List ℕ
@@ -37,7 +37,8 @@ rooms c w n v j l r = record { run = c; frames = w; depth = n; bindings = v; bou
 unfoldable pub arity_run : Run → ℕ → ℕ → Run
 arity_run c arity count = cond (eqb count arity) c (refused_run c (ArityMismatch arity count))
 
--- what `pattern_parts` answers for a type of n lines from line `first` on: it is opened, its result pushed as a Sub, the counts compared
+-- what `pattern_parts` answers for a type of n lines from line `first` on: it is opened, its result pushed as a Sub,
+-- the counts compared
 unfoldable pub parts_answer : List Triple → ℕ → ℕ → ℕ → TypeRef → Run → Parts
 parts_answer ls first n count want c =
     let t = nodes_of (take n (drop first ls)) in
@@ -65,13 +66,15 @@ unfoldable pub frame_depth : ℕ → ℕ → ℕ
 frame_depth n arity = cond (ltb 0 arity) (n + 1) n
 
 -- by what the sheet has under the constructor's name x
-unfoldable pub constructor_rooms : List Triple → ℕ → ℕ → TypeRef → Rooms → Found → Rooms
-constructor_rooms ls x count want s (At line n) =
+unfoldable pub constructor_rooms : List Triple → ℕ → ℕ → TypeRef → Rooms → Option Extent → Rooms
+constructor_rooms ls x count want s (Some e) =
+    let line = e.line in
+    let n = e.count in
     let p = parts_answer ls line n count want s.run in
     let w = frame_words s.frames s.depth (body_of line n p.nodes s.run.counters.fresh) p.arity in
     rooms p.run w (frame_depth s.depth p.arity) s.bindings s.bound
     (result_out ls line n s.run.counters.fresh s.left) (instance_out ls want s.right)
-constructor_rooms ls x count want s Nothing =
+constructor_rooms ls x count want s None =
     rooms (refused_run s.run (UnboundDataConstructor x)) s.frames s.depth s.bindings s.bound s.left s.right
 
 -- ---- a line

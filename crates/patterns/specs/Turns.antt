@@ -13,7 +13,8 @@ pub record Ready (b : List ℕ) (c : Run) : Type 0 where
   pub board : Stacked b c.counters.board
   pub numbers : c.counters.fresh ≤ most_numbers
 
--- From p to q, whatever follows: performing q after is performing p before. It holds of a refused run whatever q is, since a refused outcome stays.
+-- From p to q, whatever follows: performing q after is performing p before. It holds of a refused run whatever q is,
+-- since a refused outcome stays.
 pub record Turn {A : Type 0} (ls : List Triple) (b : List ℕ) (c : Run) (p : (A → Rule) → Rule) (b' : List ℕ) (r : Run) (q : (A → Rule) → Rule) : Type 0 where
   pub ready : Ready b' r
   pub taken : r.counters.taken ≡ c.counters.taken

@@ -12,13 +12,14 @@ ghost use Rattle.patterns.specs.Turns.{Ready};
 ghost use Rattle.patterns.specs.Readings.{Arity, PartsAsk, Parting, Adds, NameAsk, Naming, LineAsk, Lining, CheckAsk, Checking};
 ghost use Rattle.patterns.specs.Rooms.{rooms, arity_run, parts_answer, result_out, frame_words, frame_depth, constructor_rooms, line_rooms, pattern_rooms, Leaves};
 
-use constructors::{apply_type_substitutions, instantiate_constructor_type};
+use constructors::{Opened, apply_type_substitutions, instantiate_constructor_type};
 use judgment::TypeError;
 use nodes::wide;
 use operations::{Run, is_going, push_sub, refuse};
-use references::{TypeRef, instance, signature};
-use sheet::{Found, find_entry, triple_at};
-use tables::{insert, next, put};
+use references::{Ending, TypeRef, instance, signature};
+use sheet::{Extent, find_entry, triple_at};
+use spelling::Triple;
+use tables::{Upcoming, insert, next, put};
 
 // Refuses, unless the counts agree.
 fn check_arity(c: Run, arity: usize, count: usize) -> Run
@@ -26,9 +27,10 @@ fn check_arity(c: Run, arity: usize, count: usize) -> Run
     ensures { ((ls : List Triple) (b : List ℕ) → Ready b c → Arity ls b c arity count result) × (result ≡ arity_run c arity count) }
 {
     if count == arity {
-        return c;
+        c
+    } else {
+        refuse(c, TypeError::ArityMismatch(arity as u32, count as u32))
     }
-    refuse(c, TypeError::ArityMismatch(arity as u32, count as u32))
 }
 
 // The run, how many nodes the constructor's opened type has, and how many parameters.
@@ -39,7 +41,8 @@ pub struct Parts {
     pub arity: usize,
 }
 
-// A pattern of the constructor whose type has n lines from line `first` on: its result must be below `want`, and then the counts must agree. l and r are scratch.
+// A pattern of the constructor whose type has n lines from line `first` on: its result must be below `want`, and then
+// the counts must agree. l and r are scratch.
 fn pattern_parts(
     board: &mut [u32],
     c: Run,
@@ -55,13 +58,9 @@ fn pattern_parts(
     ensures { Parting board.old c (rows s.now) first n count (type_of (rows s.now) want) board.new result × (result ≡ parts_answer (rows s.now) first n count want c) × (l.new ≡ result_out (rows s.now) first n c.counters.fresh l.old) × (r.new ≡ instance_out (rows s.now) want r.old) }
 {
     instance(r, s, want);
-    let o = instantiate_constructor_type(board, c, s, first, n);
-    let opened = o.run;
-    let names = o.names;
+    let Opened { run: opened, names } = instantiate_constructor_type(board, c, s, first, n);
     let nodes = n - names;
-    let e = signature(s, first + names, nodes);
-    let arity = e.arity;
-    let start = e.start;
+    let Ending { arity, start } = signature(s, first + names, nodes);
     let ln = nodes - start;
     apply_type_substitutions(l, s, first + (names + start), ln, c.counters.fresh);
     let pushed = push_sub(board, opened, l, 0, ln, r, 0, want.count);
@@ -76,9 +75,10 @@ fn add_frame(w: &mut [usize], n: usize, r: TypeRef, arity: usize) -> usize
 {
     if 0 < arity {
         put(w, n, 0, r);
-        return n + 1;
+        n + 1
+    } else {
+        n
     }
-    n
 }
 
 #[derive(Clone, Copy)]
@@ -103,28 +103,33 @@ fn constructor_line(
     requires { NameAsk board.old c (rows s.now) name count want w.old n l.old r.old × Ended s.now }
     ensures { Naming board.old c (rows s.now) name count (type_of (rows s.now) want) w.old n board.new w.new result × ((v : List ℕ) (j : ℕ) → rooms result.run w.new result.depth v j l.new r.new ≡ constructor_rooms (rows s.now) name count want (rooms c w.old n v j l.old r.old) (find_entry 1 name (rows s.now))) }
 {
-    match find_entry(s, 1, name) {
-        Found::At { line, count: lines } => {
-            let base = wide(c.counters.fresh);
-            let o = pattern_parts(board, c, s, line, lines, count as usize, want, l, r);
-            let run = o.run;
-            let nodes = o.nodes;
-            let arity = o.arity;
-            let body = TypeRef {
-                first: line,
-                lines,
-                at: lines - nodes,
-                count: nodes,
-                base,
-            };
-            let depth = add_frame(w, n, body, arity);
-            Named { run, depth }
-        }
-        Found::Nothing => Named {
+    let Some(Extent { line, count: lines }) = find_entry(s, 1, name) else {
+        return Named {
             run: refuse(c, TypeError::UnboundDataConstructor(name as u32)),
             depth: n,
-        },
-    }
+        };
+    };
+    let base = wide(c.counters.fresh);
+    let Parts { run, nodes, arity } = pattern_parts(
+        board,
+        c,
+        s,
+        line,
+        lines,
+        count as usize,
+        want,
+        l,
+        r,
+    );
+    let body = TypeRef {
+        first: line,
+        lines,
+        at: lines - nodes,
+        count: nodes,
+        base,
+    };
+    let depth = add_frame(w, n, body, arity);
+    Named { run, depth }
 }
 
 // The run, how many frames are left, and how many names are bound.
@@ -151,33 +156,34 @@ fn pattern_line(
     requires { LineAsk board.old c (rows s.now) p w.old n v.old j l.old r.old × Ended s.now }
     ensures { Lining board.old c (rows s.now) p w.old n v.old j board.new w.new v.new result × (rooms result.run w.new result.depth v.new result.bound l.new r.new ≡ line_rooms (rows s.now) (get_or (rows s.now) p no_triple) (rooms c w.old n v.old j l.old r.old)) }
 {
-    let t = triple_at(s, p);
-    let name = t.value;
-    let count = t.count;
-    let u = next(s, w, n);
-    let want = u.want;
-    let d = u.depth;
-    if t.kind == 42 {
-        let bound = insert(v, j, name as usize, want);
-        return Lined {
+    let Triple {
+        kind,
+        value,
+        count,
+        ..
+    } = triple_at(s, p);
+    let Upcoming { want, depth } = next(s, w, n);
+    match kind {
+        42 => Lined {
             run: c,
-            depth: d,
-            bound,
-        };
-    }
-    if t.kind == 43 {
-        let o = constructor_line(board, c, s, name, count, want, w, d, l, r);
-        let run = o.run;
-        return Lined {
-            run,
-            depth: o.depth,
+            depth,
+            bound: insert(v, j, value as usize, want),
+        },
+        43 => {
+            let Named { run, depth } = constructor_line(
+                board, c, s, value, count, want, w, depth, l, r,
+            );
+            Lined {
+                run,
+                depth,
+                bound: j,
+            }
+        }
+        _ => Lined {
+            run: c,
+            depth,
             bound: j,
-        };
-    }
-    Lined {
-        run: c,
-        depth: d,
-        bound: j,
+        },
     }
 }
 
@@ -188,7 +194,8 @@ pub struct Checked {
     pub bound: usize,
 }
 
-// The `lines` lines of a pattern from line `first` on, against the unknown u. The bindings stand in v; w, l and r are scratch.
+// The `lines` lines of a pattern from line `first` on, against the unknown u. The bindings stand in v; w, l and r are
+// scratch.
 pub fn check_pattern(
     board: &mut [u32],
     c: Run,
@@ -220,19 +227,15 @@ pub fn check_pattern(
     let mut run = c;
     let mut n: usize = 1;
     let mut j: usize = 0;
-    let mut i: usize = 0;
-    while i < lines {
-        if n == 0 {
-            return Checked { run, bound: j };
+    for i in 0..lines {
+        if n == 0 || !is_going(run.halt) {
+            break;
         }
-        if !is_going(run.halt) {
-            return Checked { run, bound: j };
-        }
-        let o = pattern_line(board, run, s, first + i, w, n, v, j, l, r);
-        run = o.run;
-        n = o.depth;
-        j = o.bound;
-        i += 1;
+        Lined {
+            run,
+            depth: n,
+            bound: j,
+        } = pattern_line(board, run, s, first + i, w, n, v, j, l, r);
     }
     Checked { run, bound: j }
 }

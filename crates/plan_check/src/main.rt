@@ -2,9 +2,8 @@
 #![tactic(auto)]
 
 use columns::ANSWER_BYTES;
-use input::Got;
 use sizes::{BOARD_SIZE, BOOK_SIZE, SHEET_BYTES, USUAL_REPORT};
-use telling::tell_out;
+use telling::Desk;
 
 // A sheet that fills its buffer is too long, and gets 3 as it stands.
 fn main(rt: HostRuntime) {
@@ -12,19 +11,14 @@ fn main(rt: HostRuntime) {
     let mut board = [0u32; BOARD_SIZE];
     let mut book = [0u32; BOOK_SIZE];
     let mut report = [0u32; USUAL_REPORT];
-    let mut text = [0u8; ANSWER_BYTES];
-    let mut stdin = rt.stdin();
-    let Got::To(_) = tell_out(
-        &rt,
-        &mut stdin,
-        b"",
-        &mut sheet,
-        &mut board,
-        &mut book,
-        &mut report,
-        &mut text,
-    ) else {
-        let _told = rt.eprintln("plan_check: standard input was not read");
-        return;
+    let mut desk = Desk {
+        board: &mut board,
+        book: &mut book,
+        report: &mut report,
+        text: [0; ANSWER_BYTES],
     };
+    let told = desk.tell_out(&rt, &mut rt.stdin(), b"", &mut sheet);
+    if told.is_err() {
+        let _told = rt.eprintln("plan_check: standard input was not read");
+    }
 }

@@ -2,121 +2,63 @@
 #![tactic(auto)]
 
 ghost use Rattle.std.specs.Prelude.{◌≡◌, length};
-ghost use Rattle.telling.specs.Told.{ToldOf};
+ghost use Rattle.telling.specs.Told.{lent, SameLent, ToldOf};
 
 use columns::ANSWER_BYTES;
-use input::Got;
+use input::each_file;
 use sizes::{BOARD_SIZE, BOOK_SIZE, SHEET_BYTES, USUAL_REPORT};
-use std::env::FillError;
 use std::fs::File;
-use std::io::Read;
-use std::rt::{Env, Files};
-use std::str;
-use telling::tell_out;
+use std::rt::Files;
+use std::{fmt, io};
+use telling::Desk;
 
-// Bytes of the longest argument that is read.
-const NAME_BYTES: usize = 4096;
-
-// As `plan_check` does, from an open file in place of standard input.
-fn tell_opened<P: Print + Eprint, R: Read>(
-    rt: &P,
-    file: &mut R,
-    name: &str,
-    sheet: &mut [u8; SHEET_BYTES + 1],
-    board: &mut [u32],
-    book: &mut [u32],
-    report: &mut [u32],
-    text: &mut [u8; ANSWER_BYTES],
-) -> Got
-    ensures { (length sheet.new ≡ length sheet.old) × ToldOf result sheet.new (record { board = board.entry.now; book = book.old; report = report.old }) text.old text.new (record { board = board.exit.now; book = book.new; report = report.new }) }
-{
-    let got = tell_out(rt, file, name.as_bytes(), sheet, board, book, report, text);
-    if let Got::Failed = got {
-        let _name = rt.eprint(name);
-        let _told = rt.eprintln(": not read");
-    }
-    got
+// Why nothing is told of a file.
+#[derive(Clone, Copy)]
+enum Untold {
+    NotOpened(io::Error),
+    NotRead,
 }
 
-// The file of that name.
+impl fmt::Display for Untold {
+    fn fmt<W: fmt::Write>(&self, f: &mut fmt::Formatter<W>) -> fmt::Result {
+        match self {
+            Untold::NotOpened(e) => e.fmt(f),
+            Untold::NotRead => f.write_str("not read"),
+        }
+    }
+}
+
+// As `plan_check` does, from the file of that name in place of standard input.
 fn tell_file<P: Files + Print + Eprint>(
     rt: &P,
     name: &str,
     sheet: &mut [u8; SHEET_BYTES + 1],
-    board: &mut [u32],
-    book: &mut [u32],
-    report: &mut [u32],
-    text: &mut [u8; ANSWER_BYTES],
-) -> Got
-    ensures { (length sheet.new ≡ length sheet.old) × ToldOf result sheet.new (record { board = board.entry.now; book = book.old; report = report.old }) text.old text.new (record { board = board.exit.now; book = book.new; report = report.new }) }
+    desk: &mut Desk,
+) -> Result<usize, Untold>
+    ensures bytes { length sheet.new ≡ length sheet.old }
+    ensures told { ToldOf result sheet.new (lent desk.old) desk.old.text desk.new.text (lent desk.new) }
+    ensures same { SameLent desk.old desk.new }
 {
-    match File::open(rt, name) {
-        Ok(mut file) => tell_opened(rt, &mut file, name, sheet, board, book, report, text),
-        Err(e) => {
-            let _name = rt.eprint(name);
-            let _colon = rt.eprint(": ");
-            let _told = rt.eprintln(e);
-            Got::Failed
-        }
-    }
+    let mut file = File::open(rt, name).map_err(Untold::NotOpened)?;
+    desk.tell_out(rt, &mut file, name.as_bytes(), sheet)
+        .map_err(|_| Untold::NotRead)
 }
 
-// The file that an argument names.
-fn tell_argument<P: Files + Print + Eprint>(
-    rt: &P,
-    name: &[u8],
-    sheet: &mut [u8; SHEET_BYTES + 1],
-    board: &mut [u32],
-    book: &mut [u32],
-    report: &mut [u32],
-    text: &mut [u8; ANSWER_BYTES],
-) -> Got
-    ensures { (length sheet.new ≡ length sheet.old) × ToldOf result sheet.new (record { board = board.entry.now; book = book.old; report = report.old }) text.old text.new (record { board = board.exit.now; book = book.new; report = report.new }) }
-{
-    let Ok(name) = str::from_utf8(name) else {
-        let _told = rt.eprintln("plan_check_runs: the name of a file is no text");
-        return Got::Failed;
-    };
-    tell_file(rt, name, sheet, board, book, report, text)
-}
-
-// One after the other, in buffers that hold what the file before left.
-fn tell_arguments<P: Env + Files + Print + Eprint>(
-    rt: &P,
-    name: &mut [u8],
-    sheet: &mut [u8; SHEET_BYTES + 1],
-    board: &mut [u32],
-    book: &mut [u32],
-    report: &mut [u32],
-    text: &mut [u8; ANSWER_BYTES],
-) {
-    for at in 1..usize::MAX {
-        match rt.arg(at, name) {
-            Ok(bytes) => {
-                let _got = tell_argument(rt, &name[..bytes], sheet, board, book, report, text);
-            }
-            Err(FillError::TooLong) => {
-                let _told = rt.eprintln("plan_check_runs: the name of a file is too long");
-            }
-            Err(FillError::NotPresent) => return,
-        }
-    }
-}
-
+// One file after the other, in buffers that hold what the one before left.
 fn main(rt: HostRuntime) {
-    let mut name = [0u8; NAME_BYTES];
     let mut sheet = [0u8; SHEET_BYTES + 1];
     let mut board = [0u32; BOARD_SIZE];
     let mut book = [0u32; BOOK_SIZE];
     let mut report = [0u32; USUAL_REPORT];
-    let mut text = [0u8; ANSWER_BYTES];
-    tell_arguments(
-        &rt,
-        &mut name,
-        &mut sheet,
-        &mut board,
-        &mut book,
-        &mut report,
-        &mut text,
-    );
+    let mut desk = Desk {
+        board: &mut board,
+        book: &mut book,
+        report: &mut report,
+        text: [0; ANSWER_BYTES],
+    };
+    each_file(&rt, "plan_check_runs", |name| {
+        if let Err(why) = tell_file(&rt, name, &mut sheet, &mut desk) {
+            let _told = eprintln!(rt; "{name}: {why}");
+        }
+    });
 }

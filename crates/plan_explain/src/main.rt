@@ -1,29 +1,16 @@
-// Reads a sheet on standard input, checks its plan with the ceiling 10,000 and the limit 1,024, and says in words what came out.
+// Reads a sheet on standard input, checks its plan with the ceiling 10,000 and the limit 1,024, and says in words what
+// came out.
 #![tactic(auto)]
 
 ghost use Rattle.std.specs.Prelude.{◌≡◌, ◌≤◌, length};
 ghost use Rattle.sizes.specs.Sizes.{usual_report};
-ghost use Rattle.plan_explain.specs.Told.{Told, ToldOf};
+ghost use Rattle.plan_explain.specs.Told.{ToldOf};
 
 use checker::check_type;
-use input::{Got, fill};
+use input::fill;
 use sentences::explain;
 use sizes::{BOARD_SIZE, BOOK_SIZE, HIGHEST_CEILING, SHEET_BYTES, USUAL_LIMIT, USUAL_REPORT};
-
-// What is to be said of a sheet, at the front of `text`. Answers how many bytes that is.
-fn tell(
-    sheet: &[u8],
-    board: &mut [u32],
-    book: &mut [u32],
-    report: &mut [u32],
-    text: &mut [u8],
-) -> usize
-    requires { (length report.old ≡ usual_report) × (48000 ≤ length text.old) }
-    ensures { Told sheet.now (record { board = board.entry.now; book = book.old; report = report.old }) text.old text.new result (record { board = board.exit.now; book = book.new; report = report.new }) }
-{
-    let answer = check_type(sheet, HIGHEST_CEILING, USUAL_LIMIT, board, book, report);
-    explain(text, answer, report)
-}
+use std::io;
 
 fn write_out(rt: &HostRuntime, text: &[u8]) {
     if rt.write_all(text).is_err() {
@@ -31,7 +18,8 @@ fn write_out(rt: &HostRuntime, text: &[u8]) {
     }
 }
 
-// Of standard input: told, written out, and how many bytes that is. A sheet that fills the buffer is too long, and gets 3 as it stands.
+// Of standard input: told, written out, and how many bytes that is. A sheet that fills the buffer is too long, and gets
+// 3 as it stands.
 fn tell_input(
     rt: &HostRuntime,
     sheet: &mut [u8],
@@ -39,17 +27,22 @@ fn tell_input(
     book: &mut [u32],
     report: &mut [u32],
     text: &mut [u8],
-) -> Got
+) -> io::Result<usize>
     requires { (length report.old ≡ usual_report) × (48000 ≤ length text.old) }
     ensures { (length sheet.new ≡ length sheet.old) × ToldOf result sheet.new (record { board = board.entry.now; book = book.old; report = report.old }) text.old text.new (record { board = board.exit.now; book = book.new; report = report.new }) }
 {
-    let Got::To(n) = fill(rt, sheet, 0) else {
-        let _told = rt.eprintln("plan_explain: standard input was not read");
-        return Got::Failed;
-    };
-    let end = tell(&sheet[..n], board, book, report, text);
+    let n = fill(rt, sheet, 0)?;
+    let answer = check_type(
+        &sheet[..n],
+        HIGHEST_CEILING,
+        USUAL_LIMIT,
+        board,
+        book,
+        report,
+    );
+    let end = explain(text, answer, report);
     write_out(rt, &text[..end]);
-    Got::To(end)
+    Ok(end)
 }
 
 fn main(rt: HostRuntime) {
@@ -58,7 +51,7 @@ fn main(rt: HostRuntime) {
     let mut book = [0u32; BOOK_SIZE];
     let mut report = [0u32; USUAL_REPORT];
     let mut text = [0u8; 48000];
-    let _told = tell_input(
+    let told = tell_input(
         &rt,
         &mut sheet,
         &mut board,
@@ -66,4 +59,7 @@ fn main(rt: HostRuntime) {
         &mut report,
         &mut text,
     );
+    if told.is_err() {
+        let _told = rt.eprintln("plan_explain: standard input was not read");
+    }
 }

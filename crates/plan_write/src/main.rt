@@ -2,21 +2,16 @@
 // is wrong with it.
 #![tactic(auto)]
 
-use drafting::draft_out;
-use sizes::{MOST_LINES, PLAN_WORDS, SHEET_BYTES};
-
-// Bytes that are read at once.
-const BLOCK_BYTES: usize = 65536;
+use drafting::{BLOCK_BYTES, Desk};
+use listing::Plan;
+use sizes::SHEET_BYTES;
 
 fn main(rt: HostRuntime) {
     let mut block = [0u8; BLOCK_BYTES];
-    let mut words = [0u64; PLAN_WORDS];
-    let mut lines = [0u64; MOST_LINES];
-    let mut sheet = [0u8; SHEET_BYTES];
-    let mut stdin = rt.stdin();
-    let stdout = rt.stdout();
-    let stderr = rt.stderr();
-    let _outcome = draft_out(
-        &mut stdin, &stdout, &stderr, &mut block, &mut words, &mut lines, &mut sheet,
-    );
+    let mut desk = Desk {
+        block: &mut block,
+        plan: Plan::new(),
+        sheet: [0; SHEET_BYTES],
+    };
+    let _outcome = desk.draft_out(&mut rt.stdin(), &rt.stdout(), &rt.stderr());
 }

@@ -2,81 +2,33 @@
 // standard output.
 #![tactic(auto)]
 
-use drafting::draft_out;
-use sizes::{MOST_LINES, PLAN_WORDS, SHEET_BYTES};
-use std::env::FillError;
+use drafting::{BLOCK_BYTES, Desk};
+use input::each_file;
+use listing::Plan;
+use sizes::SHEET_BYTES;
 use std::fs::File;
-use std::rt::{Env, Files};
-use std::str;
+use std::io;
+use std::rt::Files;
 
-// Bytes of the longest argument that is read, and those that are read of a file at once.
-const NAME_BYTES: usize = 4096;
-
-const BLOCK_BYTES: usize = 65536;
-
-// As `plan_write` does, from a file in place of standard input. Answers whether it could be opened.
-fn write_file<P: Files + Print>(
-    rt: &P,
-    name: &str,
-    block: &mut [u8],
-    words: &mut [u64; PLAN_WORDS],
-    lines: &mut [u64; MOST_LINES],
-    sheet: &mut [u8; SHEET_BYTES],
-) -> bool {
-    let Ok(mut file) = File::open(rt, name) else {
-        return false;
-    };
+// As `plan_write` does, from the file of that name in place of standard input, if it can be opened.
+fn write_file<P: Files + Print>(rt: &P, name: &str, desk: &mut Desk) -> io::Result<()> {
+    let mut file = File::open(rt, name)?;
     let _name = rt.println(name);
-    let _outcome = draft_out(&mut file, rt, rt, block, words, lines, sheet);
-    true
+    let _outcome = desk.draft_out(&mut file, rt, rt);
+    Ok(())
 }
 
-// The file that an argument names.
-fn write_argument<P: Files + Print + Eprint>(
-    rt: &P,
-    name: &[u8],
-    block: &mut [u8],
-    words: &mut [u64; PLAN_WORDS],
-    lines: &mut [u64; MOST_LINES],
-    sheet: &mut [u8; SHEET_BYTES],
-) {
-    let Ok(name) = str::from_utf8(name) else {
-        let _told = rt.eprintln("plan_write_runs: the name of a file is no text");
-        return;
-    };
-    if !write_file(rt, name, block, words, lines, sheet) {
-        let _name = rt.eprint(name);
-        let _told = rt.eprintln(": not read");
-    }
-}
-
-// One after the other, in buffers that hold what the file before left.
-fn write_arguments<P: Env + Files + Print + Eprint>(
-    rt: &P,
-    name: &mut [u8],
-    block: &mut [u8],
-    words: &mut [u64; PLAN_WORDS],
-    lines: &mut [u64; MOST_LINES],
-    sheet: &mut [u8; SHEET_BYTES],
-) {
-    for at in 1..usize::MAX {
-        match rt.arg(at, name) {
-            Ok(bytes) => write_argument(rt, &name[..bytes], block, words, lines, sheet),
-            Err(FillError::TooLong) => {
-                let _told = rt.eprintln("plan_write_runs: the name of a file is too long");
-            }
-            Err(FillError::NotPresent) => return,
-        }
-    }
-}
-
+// One file after the other, in buffers that hold what the one before left.
 fn main(rt: HostRuntime) {
-    let mut name = [0u8; NAME_BYTES];
     let mut block = [0u8; BLOCK_BYTES];
-    let mut words = [0u64; PLAN_WORDS];
-    let mut lines = [0u64; MOST_LINES];
-    let mut sheet = [0u8; SHEET_BYTES];
-    write_arguments(
-        &rt, &mut name, &mut block, &mut words, &mut lines, &mut sheet,
-    );
+    let mut desk = Desk {
+        block: &mut block,
+        plan: Plan::new(),
+        sheet: [0; SHEET_BYTES],
+    };
+    each_file(&rt, "plan_write_runs", |name| {
+        if write_file(&rt, name, &mut desk).is_err() {
+            let _told = eprintln!(rt; "{name}: not read");
+        }
+    });
 }

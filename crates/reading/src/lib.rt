@@ -1,15 +1,16 @@
-// The sheet reader of document 01: a record of the borrowed sheet and its next line, thin, over plain functions; and refusals 3, 4 and 5.
-// Whoever has a sheet and a line number calls `next_of_sheet` or `term_of_sheet`, whose contracts say nothing of the record.
+// The sheet reader of document 01: a record of the borrowed sheet and its next line, thin, over plain functions; and
+// refusals 3, 4 and 5. Whoever has a sheet and a line number calls `next_of_sheet` or `term_of_sheet`, whose contracts
+// say nothing of the record.
 #![tactic(auto)]
 
 ghost use Rattle.std.specs.Prelude.{◌≡◌, ◌+◌, ◌<◌, ◌^◌};
 ghost use Rattle.spelling.specs.Spelling.{line_at, lines_of, first_misspelt};
 ghost use Rattle.grammar.specs.Grammar.{sub_term};
-ghost use Rattle.grammar.specs.Check.{refusal, check};
+ghost use Rattle.grammar.specs.Check.{length_ok, refusal, check};
 
-use grammar::{Check, Got, read_sheet, sub_term};
+use grammar::{SheetError, read_sheet, sub_term};
 use sizes::{LINE_LENGTH, SHEET_BYTES};
-use spelling::{Line, line_at};
+use spelling::{Triple, line_at};
 
 #[derive(Clone, Copy)]
 pub struct Reader<'a> {
@@ -34,7 +35,7 @@ pub fn moved<'a>(r: Reader<'a>, line: usize) -> Reader<'a>
 }
 
 // What its next line says.
-pub fn line<'a>(r: Reader<'a>) -> Line
+pub fn line<'a>(r: Reader<'a>) -> Option<Triple>
     ensures { result ≡ line_at r.entry.sheet.now r.entry.line }
 {
     line_at(r.sheet, r.line)
@@ -43,7 +44,7 @@ pub fn line<'a>(r: Reader<'a>) -> Line
 // What its next line says, and the reader at the line after.
 #[derive(Clone, Copy)]
 pub struct Step<'a> {
-    pub line: Line,
+    pub line: Option<Triple>,
     pub reader: Reader<'a>,
 }
 
@@ -67,7 +68,7 @@ pub fn term<'a>(r: Reader<'a>) -> &'a [u8]
 // What a line of a sheet says, and the line that the reader is at then.
 #[derive(Clone, Copy)]
 pub struct Lined {
-    pub line: Line,
+    pub line: Option<Triple>,
     pub next: usize,
 }
 
@@ -94,46 +95,41 @@ pub fn first_misspelt(s: &[u8]) -> usize
     ensures { result ≡ first_misspelt (lines_of s.now) }
 {
     let lines = s.len() / LINE_LENGTH;
-    let mut i = 0;
-    while i < lines {
-        let n = next_of_sheet(s, i);
-        let line = n.line;
-        match line {
-            Line::Spelt(_) => {
-                i = n.next;
-            }
-            Line::Misspelt => {
-                return i;
-            }
+    for i in 0..lines {
+        if next_of_sheet(s, i).line.is_none() {
+            return i;
         }
     }
-    i
+    lines
 }
 
-// A sheet that is no plan, line l of which can't continue one: a misspelt line anywhere comes before.
-fn refused_at(s: &[u8], l: usize) -> Check
-    ensures { result ≡ refusal s.now l }
+// What a sheet is refused for that the grammar refuses for e: a misspelt line anywhere comes before.
+fn refused_for(s: &[u8], e: SheetError) -> SheetError
+    ensures { Err result ≡ refusal s.now e }
 {
     let i = first_misspelt(s);
     if i < s.len() / LINE_LENGTH {
-        return Check::Misspelt(i + 1);
+        return SheetError::Misspelt(i + 1);
     }
-    Check::Unfit(l)
+    e
+}
+
+// A sheet of one to 2,000 whole lines.
+fn length_ok(n: usize) -> bool
+    ensures { result ≡ length_ok n }
+{
+    0 < n && n <= SHEET_BYTES && n % LINE_LENGTH == 0
 }
 
 // The tests of a sheet. Lines that make up a plan are spelt, so only a refused sheet is searched for a misspelt one.
-pub fn check_sheet(s: &[u8]) -> Check
+pub fn check_sheet(s: &[u8]) -> Result<(), SheetError>
     ensures { result ≡ check s.now }
 {
-    if 0 < s.len() {
-        if s.len() <= SHEET_BYTES {
-            if s.len() % LINE_LENGTH == 0 {
-                return match read_sheet(s) {
-                    Got::Next(_) => Check::Plan,
-                    Got::Refused(l) => refused_at(s, l),
-                };
-            }
-        }
+    if !length_ok(s.len()) {
+        return Err(SheetError::Length);
     }
-    Check::Length
+    match read_sheet(s) {
+        Ok(_) => Ok(()),
+        Err(e) => Err(refused_for(s, e)),
+    }
 }

@@ -1,13 +1,7 @@
--- Lines of types: their parts are those of their nodes, and an Arrow's two parts stand where the lines' ends say. Assumes nothing.
-use mathlib.Core.Path.{◌≡◌, refl, sym, ap, ◌∙◌, subst}
-use mathlib.Core.Bool.{Bool, true, false, and-eq-true_iff}
-use mathlib.Core.List.{List, [], ◌∷◌, ◌++◌, append_assoc}
-use Prim.Native.Nat.{ℕ, zero, suc, ◌+◌, ◌-◌, ◌≤◌, ◌<◌}
-use native.Mathlib.Nat.{add-zero}
-use native.Mathlib.Omega.{arith}
-use lib.Dec.{eqb}
-use borrow.Author.Tests.{eqb-true}
-use lib.ListN.{length, get_or, take, drop, length-take, length-drop, take-append-drop}
+-- Lines of types: their parts are those of their nodes, and an Arrow's two parts stand where the lines' ends say.
+-- Assumes nothing.
+use Rattle.std.proofs.Common.{Some, ◌≡◌, refl, sym, ap, ◌∙◌, subst, Bool, true, false, List, [], ◌∷◌, ◌++◌, append_assoc, ℕ, zero, suc, ◌+◌, ◌-◌, ◌≤◌, ◌<◌, add-zero, arith, eqb, eqb-true, length, get_or, take, drop, length-take, length-drop, take-append-drop}
+use mathlib.Core.Bool.{and-eq-true_iff}
 use Rattle.nodes.specs.Nodes.{Ty, node_parts}
 use Rattle.nodes.specs.Parts.{take_parts, drop_parts, Whole}
 use Rattle.nodes.specs.Lists.{All}
@@ -15,7 +9,6 @@ use Rattle.nodes.proofs.PartLaws.{is-take, is-drop, take-drop}
 use Rattle.nodes.proofs.Wholes.{whole_split, whole-few}
 use Rattle.nodes.proofs.Wholes as wholes
 use Rattle.spelling.specs.declared.Triple.{Triple}
-use Rattle.spelling.specs.declared.Line.TheVariants.{Spelt}
 use Rattle.kinds.specs.Kinds.{a_type, parts_of}
 use Rattle.grammar.specs.Grammar.{Item, part, entries, ok, due}
 use Rattle.sheet.specs.Plan.{no_triple, line_node, nodes_of, part_line}
@@ -37,11 +30,11 @@ types-all [] (x ∷ ahead) f ty = absurd f
 types-all (t ∷ ts) [] f ty = absurd f
 types-all (t ∷ ts) (entries k n ∷ ahead) f ty = absurd ty
 types-all (t ∷ ts) (part x ∷ ahead) f ty =
-    let g : (ok (part a_type) (Spelt t) ≡ true) × Forms ts (due (part a_type) (Spelt t) ++ ahead) = rw ty.0 at f in
+    let g : (ok (part a_type) (Some t) ≡ true) × Forms ts (due (part a_type) (Some t) ++ ahead) = rw ty.0 at f in
     let l = type-line t g.0 in
     let d = (due-parts a_type t g.0).0 in
-    let all = types-all ts (due (part a_type) (Spelt t) ++ ahead) g.1 (only-append a_type (due (part a_type) (Spelt t)) ahead l.0 ty.1) in
-    ((sym l.1 ∙ d, all.0), rw (lib.ListN.length-append (due (part a_type) (Spelt t)) ahead, d) at all.1)
+    let all = types-all ts (due (part a_type) (Some t) ++ ahead) g.1 (only-append a_type (due (part a_type) (Some t)) ahead l.0 ty.1) in
+    ((sym l.1 ∙ d, all.0), rw (lib.ListN.length-append (due (part a_type) (Some t)) ahead, d) at all.1)
 
 pub type-lines : (ts : List Triple) → IsPart a_type ts → All TypeLine ts × Whole parts_of ts 1
 type-lines ts f = types-all ts (part a_type ∷ []) f (refl, tt)

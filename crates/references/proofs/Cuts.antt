@@ -1,11 +1,5 @@
 -- Parts of renamed types. Assumes nothing.
-use mathlib.Core.Path.{◌≡◌, refl, ap, ◌∙◌}
-use mathlib.Core.Bool.{Bool, true, false, cond, ◌&&◌}
-use mathlib.Core.List.{[], ◌∷◌}
-use Prim.Native.Nat.{ℕ, zero, suc, ◌+◌}
-use lib.Dec.{eqb}
-use borrow.Author.Tests.{eqb-true}
-use lib.ListN.{length, take, drop}
+use Rattle.std.proofs.Common.{◌≡◌, refl, ap, ◌∙◌, Bool, true, false, cond, ◌&&◌, [], ◌∷◌, ℕ, zero, suc, ◌+◌, eqb, eqb-true, length, take, drop}
 use Rattle.nodes.specs.Nodes.{Node, node, Ty, node_parts}
 use Rattle.nodes.specs.Parts.{take_parts, drop_parts}
 use Rattle.judgment.specs.Types.{first, rest, Renaming, rename, rename_node}

@@ -1,5 +1,6 @@
--- What a reference stands for: a part of an opened type, or the parameters that such a part still has. Assumes nothing: these are definitions.
-use Rattle.std.specs.Prelude.{◌≡◌, cond, List, [], ◌∷◌, ℕ, ◌+◌, ◌-◌, ◌≤◌, ◌<◌, eqb, ltb, length, take, drop}
+-- What a reference stands for: a part of an opened type, or the parameters that such a part still has. Assumes nothing:
+-- these are definitions.
+use Rattle.std.specs.Prelude.{◌≡◌, cond, List, [], ◌∷◌, ℕ, ◌+◌, ◌-◌, ◌≤◌, ◌<◌, eqb, ltb, length, take, drop, Some}
 use Rattle.std.proofs.lemmas.List.Edits.{sets}
 use Rattle.sizes.specs.Sizes.{most_nodes, most_numbers}
 use Rattle.nodes.specs.Nodes.{Ty, node_parts, words}
@@ -7,7 +8,6 @@ use Rattle.nodes.specs.Parts.{Whole}
 use Rattle.nodes.specs.Lists.{All}
 use Rattle.spelling.specs.declared.Triple.{Triple}
 use Rattle.kinds.specs.Kinds.{parts_of}
-use Rattle.sheet.specs.declared.Found.TheVariants.{At}
 use Rattle.sheet.specs.Plan.{line_node, nodes_of, Narrow, find_entry}
 use Rattle.judgment.specs.Types.{first, unknown, Renaming, rename, front_names}
 use Rattle.constructors.specs.Opening.{pairs}
@@ -34,7 +34,7 @@ instance_out ls r o = sets o 0 (words (type_of ls r))
 -- a constructor's type stands at these lines
 pub record Declared (ls : List Triple) (first n : ℕ) : Type 0 where
   pub name : ℕ
-  pub found : find_entry 1 name ls ≡ At first n
+  pub found : find_entry 1 name ls ≡ Some (record { line = first; count = n })
 
 -- as many parts follow a line of a type as follow its node
 abbrev pub TypeLine : Triple → Type 0

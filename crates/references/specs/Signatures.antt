@@ -1,4 +1,5 @@
--- The Arrows at the front of a type: the types of the parameters, and the result. Assumes nothing: these are definitions.
+-- The Arrows at the front of a type: the types of the parameters, and the result. Assumes nothing: these are
+-- definitions.
 use Rattle.std.specs.Prelude.{Bool, cond, ◌&&◌, List, [], ◌∷◌, ℕ, zero, suc, ◌-◌, eqb, length}
 use Rattle.nodes.specs.Nodes.{Node, node, Ty}
 use Rattle.judgment.specs.Types.{first, rest}

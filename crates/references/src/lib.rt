@@ -15,7 +15,8 @@ use constructors::apply_type_substitutions;
 use sheet::{part_line, triple_at};
 use spelling::Triple;
 
-// `count` nodes from node `at` on of the type of so many lines from line `first` on, the unknowns from `base` on put for its quantifiers. Of no lines: the unknown `base`.
+// `count` nodes from node `at` on of the type of so many lines from line `first` on, the unknowns from `base` on put
+// for its quantifiers. Of no lines: the unknown `base`.
 #[derive(Clone, Copy)]
 pub struct TypeRef {
     pub first: usize,
@@ -28,10 +29,7 @@ pub struct TypeRef {
 fn is_arrow(t: Triple) -> bool
     ensures { result ≡ arrow_head (line_node t) }
 {
-    if t.kind == 13 {
-        return t.value == 0;
-    }
-    false
+    t.kind == 13 && t.value == 0
 }
 
 // How many Arrows stand at the front of a type, and at which of its nodes the result starts.
@@ -48,14 +46,9 @@ pub fn signature(s: &[u64], first: usize, n: usize) -> Ending
 {
     let mut arity = 0;
     let mut i = 0;
-    while i < n {
-        let line = first + i;
-        if is_arrow(triple_at(s, line)) {
-            i = part_line(s, line + 1, 1) - first;
-            arity += 1;
-        } else {
-            return Ending { arity, start: i };
-        }
+    while i < n && is_arrow(triple_at(s, first + i)) {
+        i = part_line(s, first + i + 1, 1) - first;
+        arity += 1;
     }
     Ending { arity, start: i }
 }
@@ -69,9 +62,9 @@ pub fn instance(out: &mut [u32], s: &[u64], r: TypeRef)
     if r.lines == 0 {
         out[0] = 17;
         out[1] = base;
-        return;
+    } else {
+        apply_type_substitutions(out, s, r.first + r.at, r.count, base);
     }
-    apply_type_substitutions(out, s, r.first + r.at, r.count, base);
 }
 
 // How many nodes the first parameter has, and whether others follow it.

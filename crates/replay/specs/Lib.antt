@@ -2,3 +2,4 @@ pub mod Parsing
 pub mod Recorded
 pub mod Reading
 pub mod Replay
+pub mod Lines

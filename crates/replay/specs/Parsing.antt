@@ -1,5 +1,6 @@
 -- What the numbers of a text say, read one after another. Assumes nothing: these are definitions.
 use Rattle.std.specs.Prelude.{ℕ, zero, suc, ◌+◌, ◌-◌, ◌*◌, Bool, true, false, cond, ◌&&◌, ◌||◌, List, [], ◌∷◌, ◌==◌, nat_le, nat_lt}
+use Rattle.replay.specs.declared.cursor.Number.{Number}
 
 -- what a text says at its front, and the bytes after it; or that it does not say such a thing
 pub data Parse (A : Type 0) : Type 0 where
@@ -20,11 +21,6 @@ pure x s = gives x s
 abbrev pub fail : {A : Type 0} → List ℕ → Parse A
 fail s = fails
 
--- a number with its sign
-pub record Number : Type 0 where
-  pub negative : Bool
-  pub magnitude : ℕ
-
 -- a number that has ended has digits
 abbrev pub number_if : Bool → Bool → ℕ → List ℕ → Parse Number
 number_if some minus n t = cond some (gives (record { negative = minus; magnitude = n }) t) fails
@@ -32,8 +28,8 @@ number_if some minus n t = cond some (gives (record { negative = minus; magnitud
 abbrev pub is_digit : ℕ → Bool
 is_digit b = nat_le 48 b && nat_le b 57
 
--- the digits up to the end or a space, which is passed; `some` if there were digits, n what they say. Ten times a number of more than
--- 922337203685477580 might not fit 64 bits.
+-- the digits up to the end or a space, which is passed; `some` if there were digits, n what they say. Ten times a number
+-- of more than 922337203685477580 might not fit 64 bits.
 unfoldable pub digits : Bool → Bool → ℕ → List ℕ → Parse Number
 digits some minus n [] = number_if some minus n []
 digits some minus n (b ∷ t) =

@@ -1,16 +1,19 @@
--- What a line of the recorded list says: a call, and every number and word that is wanted after it. Assumes nothing: these are definitions.
+-- What a line of the recorded list says: a call, and every number and word that is wanted after it. Assumes nothing: these
+-- are definitions.
 -- A record is numbers with a space between two:
---   call ceiling lines (kind value count)* answer                                                  call 1 the first, 2 the strict one
---   call ceiling limit board book report lines (kind value count)* bytes edits (place byte)* answer   call 3 the first, 4 the strict one
--- with an answer
+--   call ceiling lines (kind value count)* answer
+-- where call is 1 the first, 2 the strict one, or
+--   call ceiling limit board book report lines (kind value count)* bytes edits (place byte)* answer
+-- where call is 3 the first, 4 the strict one; with an answer
 --   seven numbers, nodes (kind number)*, solutions (unknown nodes (kind number)*)*, levels
 use Rattle.std.specs.Prelude.{ℕ, ◌+◌, ◌-◌, ◌*◌, Bool, true, false, cond, ◌&&◌, ◌||◌, List, replicate, ◌==◌, nat_le, nat_lt, slice_index, slice_set}
 use Rattle.std.proofs.lemmas.List.Edits.{sets}
 use Rattle.sizes.specs.Sizes.{most_lines, line_length, most_nodes, most_numbers, board_size, book_base, book_stride, book_size, report_stride, usual_limit, usual_report}
 use Rattle.nodes.specs.Nodes.{zeros}
 use Rattle.spelling.specs.Text.{line_text}
-use Rattle.replay.specs.declared.Loan.{Loan}
-use Rattle.replay.specs.declared.Plan.{Plan}
+use Rattle.replay.specs.declared.record.Kind.{Kind}
+use Rattle.replay.specs.declared.record.Loan.{Loan}
+use Rattle.replay.specs.declared.record.Plan.{Plan}
 use Rattle.replay.specs.Parsing.{◌>>=◌, Parse, pure, fail, number, word, up_to, times, ended}
 
 -- ---- the words wanted after a call: the board's from 0 on, then the book's, the report's and the seven numbers;
@@ -156,10 +159,6 @@ answer_into limit w = do
   cond (is_run (slice_index w1 seven_from)) (run_into limit w1) (no_run_into w1)
 
 -- ---- the call
-pub record Kind : Type 0 where
-  pub strict : Bool
-  pub raw : Bool
-
 abbrev pub kind_of : ℕ → List ℕ → Parse Kind
 kind_of n =
     cond (n == 1) (pure (record { strict = false; raw = false }))

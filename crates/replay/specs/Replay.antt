@@ -1,27 +1,20 @@
 -- What the contracts of the replay cite. Assumes nothing: these are definitions.
-use Rattle.std.specs.Prelude.{◌≡◌, ℕ, ◌+◌, ◌-◌, ◌%◌, ◌^◌, ◌<◌, ◌≤◌, Bool, true, false, cond, List, [], ◌∷◌, ◌++◌, length, take, drop, ◌==◌, ◌≢◌, nat_lt, slice_index, slice_range}
+use Rattle.std.specs.Prelude.{◌≡◌, ℕ, ◌+◌, ◌%◌, ◌^◌, Bool, true, false, List, [], ◌∷◌, ◌++◌, take, drop, ◌==◌}
+use Rattle.replay.specs.declared.Counts.{Counts}
 use Rattle.sizes.specs.Sizes.{book_size, usual_report}
 use Rattle.judgment.specs.Result.{Buffers, Called, call, numbers}
 use Rattle.operations.specs.State.{mode_of}
-use Rattle.replay.specs.declared.Loan.{Loan}
-use Rattle.replay.specs.declared.Plan.{Plan}
-use Rattle.replay.specs.declared.Unread.{Unread}
-use Rattle.replay.specs.declared.Step.{Step}
-use Rattle.replay.specs.declared.Step.TheVariants.{Line, Ended, Failed}
-use Rattle.replay.specs.declared.Verdict.{Verdict}
-use Rattle.replay.specs.declared.Verdict.TheVariants.{Same, Differs, Malformed}
-use Rattle.replay.specs.declared.Counts.{Counts}
+use Rattle.replay.specs.declared.record.Loan.{Loan}
+use Rattle.replay.specs.declared.record.Plan.{Plan}
+use Rattle.replay.specs.declared.room.Room.{Room}
+use Rattle.replay.specs.declared.room.Verdict.{Verdict}
+use Rattle.replay.specs.declared.room.Verdict.TheVariants.{Same, Differs, Malformed}
 use Rattle.replay.specs.Parsing.{fails, gives}
-use Rattle.replay.specs.Recorded.{book_from, report_from, seven_from, wanted, sheet_room, dirt, Record, recorded}
+use Rattle.replay.specs.Recorded.{book_from, report_from, seven_from, dirt, Record, recorded}
 
 -- ---- the call that a record names
--- the program's buffers
-pub record Room (sheet board book report want : List ℕ) : Type 0 where
-  pub sheet-room : length sheet ≡ sheet_room
-  pub board-room : length board ≡ book_from
-  pub book-room : length book ≡ book_size + 8
-  pub report-room : length report ≡ usual_report + 4
-  pub want-room : length want ≡ wanted
+abbrev pub buffers_of : Room → Buffers
+buffers_of x = record { board = x.board; book = x.book; report = x.report }
 
 -- the words that are lent of them
 abbrev pub lent_of : Loan → Buffers → Buffers
@@ -68,55 +61,6 @@ abbrev pub VerdictOf : List ℕ → Verdict → Type 0
 VerdictOf l Same = Judged Holds l
 VerdictOf l Differs = Judged (λ r. Holds r → ⊥) l
 VerdictOf l Malformed = recorded l ≡ fails
-
--- ---- lines of the text
--- the first LF of the bytes from `at` to `end` is at r, or r is the end
-pub record LineEnds (text : List ℕ) (at end r : ℕ) : Type 0 where
-  pub start : at ≤ r
-  pub stop : r ≤ end
-  pub none_before : (k : ℕ) → k < r → at ≤ k → slice_index text k ≢ 10
-  pub feed : r < end → slice_index text r ≡ 10
-
--- the unread bytes lie in a text of m bytes
-pub record UnreadIn (u : Unread) (m : ℕ) : Type 0 where
-  pub start : u.at ≤ u.end
-  pub stop : u.end ≤ m
-
--- the first line, from a to b, and what is unread after it and its LF
-pub record LineAt (text : List ℕ) (at end : ℕ) (more : Bool) (a b : ℕ) (u : Unread) : Type 0 where
-  pub some : at < end
-  pub first : a ≡ at
-  pub ends : LineEnds text at end b
-  pub rest : u ≡ record { at = cond (nat_lt b end) (b + 1) end; end = end; more = more }
-
--- the first line of the bytes from `at` to `end`, or that there are none
-abbrev pub FirstLine : List ℕ → ℕ → ℕ → Bool → Step → Type 0
-FirstLine text at end more (Line a b u) = LineAt text at end more a b u
-FirstLine text at end more Ended = at ≡ end
-FirstLine text at end more Failed = ⊥
-
--- The first line of a text that was filled anew: in front stand the bytes from `at` to `end` of the text before, and what was read follows
--- them. The input goes on if the text is full.
-pub record FilledLine (before : List ℕ) (at end : ℕ) (text : List ℕ) (r : Step) : Type 0 where
-  pub to : ℕ
-  pub held : take (end - at) text ≡ slice_range before at end
-  pub start : end - at ≤ to
-  pub stop : to ≤ length text
-  pub line : FirstLine text 0 to (to == length text) r
-
--- or a read failed
-pub data Refilled (before : List ℕ) (at end : ℕ) (text : List ℕ) (r : Step) : Type 0 where
-  failed : r ≡ Failed → Refilled before at end text r
-  filled : FilledLine before at end text r → Refilled before at end text r
-
--- what is unread has no LF
-abbrev pub Unended : List ℕ → Unread → Type 0
-Unended text u = (k : ℕ) → k < u.end → u.at ≤ k → slice_index text k ≢ 10
-
--- the next line of the text before the call; or, where that has none and the input goes on, of the text filled anew
-pub data NextLine (text : List ℕ) (u : Unread) (text' : List ℕ) (r : Step) : Type 0 where
-  here : text' ≡ text → FirstLine text u.at u.end u.more r → NextLine text u text' r
-  anew : u.more ≡ true → Unended text u → Refilled text u.at u.end text' r → NextLine text u text' r
 
 -- ---- counts
 abbrev pub more : ℕ → ℕ

@@ -1,12 +1,7 @@
 -- How long an explanation gets, and that a large enough buffer holds it whole. Assumes nothing.
-use mathlib.Core.Path.{◌≡◌, sym, ap, ◌∙◌}
-use mathlib.Core.List.{List, ◌++◌}
-use Prim.Native.Nat.{ℕ, ◌+◌, ◌*◌, ◌/◌, ◌≤◌}
+use Rattle.std.proofs.Common.{◌≡◌, sym, ap, ◌∙◌, List, ◌++◌, ℕ, ◌+◌, ◌*◌, ◌/◌, ◌≤◌, arith, eqb, length, take, length-append}
 use Prim.Native.String.{String}
-use native.Mathlib.Omega.{arith}
-use lib.Dec.{eqb}
-use lib.ListN.{length, take, length-append}
-use lib.Seq.{length-sets}
+use Rattle.std.proofs.Math.Seq.{length-sets}
 use Rattle.judgment.specs.declared.Answer.{Answer}
 use Rattle.wording.specs.Texts.{bytes, number_text, least, Wrote}
 use Rattle.wording.proofs.Laws.{front-back}

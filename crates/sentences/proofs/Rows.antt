@@ -1,7 +1,5 @@
 -- What is said of results that no sheet leads the program to, by computation. Assumes nothing.
-use mathlib.Core.Path.{◌≡◌, refl}
-use mathlib.Core.List.{[], ◌∷◌, map}
-use Prim.Native.Nat.{ℕ}
+use Rattle.std.proofs.Common.{◌≡◌, refl, [], ◌∷◌, map, ℕ}
 use Rattle.judgment.specs.declared.Answer.{Answer}
 use Rattle.spelling.specs.Text.{field_text}
 use Rattle.wording.specs.Texts.{bytes, number_text}

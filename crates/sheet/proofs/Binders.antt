@@ -1,15 +1,7 @@
 -- Laws of binders: the names at a type's front, their places, and the table that tells them. Assumes nothing.
-use mathlib.Core.Path.{◌≡◌, refl, sym, ap, ◌∙◌}
-use mathlib.Core.Bool.{Bool, true, false, cond}
-use mathlib.Core.List.{List, [], ◌∷◌}
-use Prim.Native.Nat.{ℕ, zero, suc, ◌+◌, ◌-◌, ◌≤◌, ◌<◌}
-use native.Mathlib.Nat.{add-zero}
-use native.Mathlib.Numerals.{add-one}
-use native.Mathlib.Omega.{arith}
-use lib.ListN.{length, get_or, set, take, drop, length-set, get_or-eq_default}
-use lib.Dec.{eqb, ltb}
-use lib.Seq.{get_or-set_same, get_or-set_other}
-use borrow.Author.Tests.{eqb-true, eqb-false, ne_eqb, eq-eqb, ltb-true, ltb-false}
+use Rattle.std.proofs.Common.{◌≡◌, refl, sym, ap, ◌∙◌, Bool, true, false, cond, List, [], ◌∷◌, ℕ, zero, suc, ◌+◌, ◌-◌, ◌≤◌, ◌<◌, add-zero, add-one, arith, length, get_or, set, take, drop, length-set, eqb, ltb, get_or-set_same, get_or-set_other, eqb-true, ne_eqb, eq-eqb, ltb-true, ltb-false}
+use lib.ListN.{get_or-eq_default}
+use borrow.Author.Tests.{eqb-false}
 use Rattle.nodes.specs.Lists.{All}
 use Rattle.spelling.specs.declared.Triple.{Triple}
 use Rattle.sheet.specs.Plan.{no_triple}
@@ -30,13 +22,6 @@ from-small (y ∷ xs) i x p h = let r = from-small xs (i + 1) x (cond (eqb y x) 
 -- a place is one of the names'
 pub place-small : (xs : List ℕ) (x : ℕ) → place_in xs x ≤ length xs
 place-small xs x = let r = from-small xs 0 x 0 (omega arith) in omega arith
-
-pub binder-small : (xs : List ℕ) (t : Triple) → binder_of xs t ≤ length xs
-binder-small xs t = go (eqb t.kind 11)
-  where
-    go : (b : Bool) → cond b (place_in xs t.value) 0 ≤ length xs
-    go true = place-small xs t.value
-    go false = omega arith
 
 -- counted from another line
 from-line : (xs : List ℕ) (i j x p : ℕ) → place_from xs (i + j) x p - i ≡ place_from xs j x (p - i)
@@ -116,20 +101,6 @@ module _ (u : List ℕ) (i : ℕ) (xs : List ℕ) (l : length u ≡ table_length
 pub binder-is : (u : List ℕ) (i : ℕ) (xs : List ℕ) (t : Triple) → TellsPlaces u i xs → binder_by u i t ≡ binder_of xs t
 binder-is u i xs t f = ap (λ (n : ℕ). cond (eqb t.kind 11) n 0) (f t.value)
 
--- `binder_of`, exit by exit
-module _ (u : List ℕ) (i : ℕ) (t : Triple) where
-  pub binder-var : t.kind ≡ 11 → get_or u t.value 0 - i ≡ binder_by u i t
-  binder-var e = ap (λ (b : Bool). cond b (get_or u t.value 0 - i) 0) (sym (eq-eqb t.kind 11 e))
-
-  pub binder-older : t.kind ≡ 11 → get_or u t.value 0 ≤ i → 0 ≡ binder_by u i t
-  binder-older e h = let z : 0 ≡ get_or u t.value 0 - i = omega arith in z ∙ binder-var e
-
-  pub binder-past : t.kind ≡ 11 → length u ≤ t.value → 0 ≡ binder_by u i t
-  binder-past e h = let z = get_or-eq_default u 0 h in binder-older e (omega arith)
-
-  pub binder-not : (t.kind ≡ 11 → ⊥) → 0 ≡ binder_by u i t
-  binder-not n = ap (λ (b : Bool). cond b (get_or u t.value 0 - i) 0) (sym (ne_eqb t.kind 11 n))
-
 -- ---- the front of the lines from i up to end
 front-next : (ls : List Triple) (i n : ℕ)
     → front_of (take (suc n) (drop i ls)) ≡ cond (eqb (get_or ls i no_triple).kind 14) ((get_or ls i no_triple).value ∷ front_of (take n (drop (suc i) ls))) []
@@ -169,11 +140,11 @@ module _ (ls : List Triple) (i end : ℕ) (u : List ℕ) where
   mark-other e n = let z = ne_eqb (get_or ls i no_triple).kind 14 (λ q. n (ap (λ (v : Triple). v.kind) e ∙ q)) in rw (front-none ls i (end - i) z)
 
   pub mark-next : i < end → {t : Triple} → t ≡ get_or ls i no_triple → t.kind ≡ 14 → {v : List ℕ} → v ≡ set u t.value (i + 1)
-      → (put_names v (i + 1) (front_of (take (end - (i + 1)) (drop (i + 1) ls))) ≡ whole) × (length v ≡ length u)
+      → put_names v (i + 1) (front_of (take (end - (i + 1)) (drop (i + 1) ls))) ≡ whole
   unfolding put_names
   mark-next h {t} e k {v} s =
       let z : eqb (get_or ls i no_triple).kind 14 ≡ true = eq-eqb (get_or ls i no_triple).kind 14 (ap (λ (v : Triple). v.kind) (sym e) ∙ k) in
       let n : end - i ≡ suc (end - (i + 1)) = omega arith in
       let f : front_of (take (end - i) (drop i ls)) ≡ t.value ∷ front_of (take (end - (i + 1)) (drop (i + 1) ls)) =
       ap (λ (m : ℕ). front_of (take m (drop i ls))) n ∙ front-next ls i (end - (i + 1)) ∙ rw (z, e, add-one) in
-      (ap (λ (w : List ℕ). put_names w (i + 1) (front_of (take (end - (i + 1)) (drop (i + 1) ls)))) s ∙ sym (ap (put_names u i) f), ap length s ∙ length-set u t.value (i + 1))
+      ap (λ (w : List ℕ). put_names w (i + 1) (front_of (take (end - (i + 1)) (drop (i + 1) ls)))) s ∙ sym (ap (put_names u i) f)

@@ -1,29 +1,23 @@
 -- Laws of `bind_entries`: its walk over the entries, and what `read_rows` hands it. Assumes nothing.
-use mathlib.Core.Path.{◌≡◌, refl, sym, ap, ap₂, ◌∙◌, subst⁻¹}
-use mathlib.Core.Bool.{Bool, true, false, cond, ◌||◌, false≢true}
-use mathlib.Core.List.{List, [], ◌∷◌, ◌++◌}
-use Prim.Native.Nat.{ℕ, zero, suc, ◌+◌, ◌*◌, ◌-◌, ◌/◌, ◌%◌, ◌≤◌, ◌<◌}
-use native.Mathlib.Nat.{add-zero, mod-lt}
-use native.Mathlib.Omega.{arith}
-use lib.ListN.{length, get_or, set, take, drop, length-set, length-take, length-drop}
-use lib.Dec.{eqb}
-use lib.Seq.{get_or-set_other}
-use borrow.Author.Tests.{eqb-true}
+use Rattle.std.proofs.Common.{Ok, ◌≡◌, refl, sym, ap, ap₂, ◌∙◌, Bool, true, false, cond, ◌||◌, List, [], ◌∷◌, ◌++◌, map, ℕ, zero, suc, ◌+◌, ◌*◌, ◌-◌, ◌/◌, ◌%◌, ◌≤◌, ◌<◌, add-zero, mod-lt, arith, length, get_or, set, take, drop, length-set, length-take, length-drop, eqb, get_or-set_other, eqb-true}
+use mathlib.Core.Path.{subst⁻¹}
+use mathlib.Core.Bool.{false≢true}
+use Rattle.std.specs.List.{list_any}
 use Rattle.sizes.specs.Sizes.{most_lines}
 use Rattle.nodes.specs.Lists.{All}
 use Rattle.nodes.specs.Nodes.{zeros}
 use Rattle.spelling.specs.declared.Triple.{Triple}
 use Rattle.kinds.specs.Kinds.{a_type}
-use Rattle.grammar.specs.declared.Check.TheVariants.{Plan}
 use Rattle.grammar.specs.Check.{check}
+use Rattle.sheet.specs.declared.Entry.{Entry}
 use Rattle.sheet.specs.Plan.{no_triple, triples, part_line, is_entry, Declaration, declarations}
 use Rattle.sheet.specs.Form.{Typed}
-use Rattle.sheet.specs.Rows.{packed, rows, line_count, EndsFrom, first_at, linked, in_front, link_entry, front_of, binder_at, Linked, Ended, row_words, unlinked_words, link_all, put_binders, quantified, bind_type, bind_all, sheet_words}
+use Rattle.sheet.specs.Rows.{packed, rows, line_count, EndsFrom, first_at, linked, in_front, link_entry, front_of, binder_at, Linked, Ended, row_words, unlinked_words, link_all, put_binders, quantified, bind_type, bind_all, sheet_words, entry_of}
 use Rattle.sheet.specs.Used.{table_length}
 use Rattle.sheet.specs.Binders.{put_names, TellsPlaces, UpTo, InTable, FrontFits, FrontsFit, mark_type, mark_all, any_quantified, Bindable, TypeAsk}
 use Rattle.sheet.proofs.Lines.{line-from, line-inside, line-within}
 use Rattle.sheet.proofs.RowLaws.{length-rows, Small, lines-small, bit-small}
-use Rattle.sheet.proofs.Declarations.{from, from_past, from-none, from_one}
+use Rattle.sheet.proofs.Declarations.{from, from_one, EntryAt}
 use Rattle.sheet.proofs.Formed.{formed}
 use Rattle.sheet.proofs.Ranges.{InRange, part-in-range, plan-few}
 use Rattle.sheet.proofs.Binders.{length-names, front-tells, front-upto, front_length}
@@ -43,31 +37,10 @@ bind-none ls d (x ∷ es) e = go (quantified ls x.head x.line) e (λ q. bind-non
     go false e again = again e
 
 module _ (ls : List Triple) where
-  pub any-past : (at : ℕ) → length ls ≤ at → false ≡ any_quantified ls (from ls at)
+  pub any-entry : (es : List Declaration) → list_any (λ (e : Entry). quantified ls e.head e.line) (map entry_of es) ≡ any_quantified ls es
   unfolding any_quantified
-  any-past at h = rw (from_past ls at h)
-
-  module _ (at : ℕ) (h : at < length ls) where
-    abbrev t : Triple
-    t = get_or ls at no_triple
-
-    abbrev next : ℕ
-    next = part_line ls (at + 1) 1
-
-    pub any_none : is_entry t ≡ false → false ≡ any_quantified ls (from ls at)
-    unfolding any_quantified
-    any_none e = rw (from-none ls at h e)
-
-    any-one : is_entry t ≡ true → any_quantified ls (from ls at) ≡ (quantified ls t (at + 1) || any_quantified ls (from ls next))
-    unfolding any_quantified
-    any-one e = ap (any_quantified ls) (from_one ls at h e)
-
-    module _ (entry : is_entry t ≡ true) {u : Triple} (read : u ≡ t) {r : Bool} (tested : r ≡ quantified ls u (at + 1)) where
-      pub any-hit : r ≡ true → true ≡ any_quantified ls (from ls at)
-      any-hit e = sym (any-one entry ∙ ap (λ (b : Bool). b || any_quantified ls (from ls next)) (sym (tested ∙ ap (λ (v : Triple). quantified ls v (at + 1)) read) ∙ e))
-
-      pub any-turn : r ≡ false → {end : ℕ} → end ≡ next → any_quantified ls (from ls end) ≡ any_quantified ls (from ls at)
-      any-turn e f = ap (λ (n : ℕ). any_quantified ls (from ls n)) f ∙ sym (any-one entry ∙ ap (λ (b : Bool). b || any_quantified ls (from ls next)) (sym (tested ∙ ap (λ (v : Triple). quantified ls v (at + 1)) read) ∙ e))
+  any-entry [] = refl
+  any-entry (e ∷ es) = ap (λ (b : Bool). quantified ls e.head e.line || b) (any-entry es)
 
 -- ---- `bind_type`
 module _ {d u : List ℕ} {first end : ℕ} (ask : TypeAsk d u first end) (t : Triple) {r : Bool} (tested : r ≡ quantified (rows d) t first) where
@@ -81,9 +54,6 @@ module _ {d u : List ℕ} {first end : ℕ} (ask : TypeAsk d u first end) (t : T
       → e ≡ bind_type (rows d) d t first (end - first)
   type-done e f g =
       g (front_of ts) (λ x. ap (λ (w : List ℕ). get_or w x 0 - first) f ∙ front-tells u first (front_of ts) ask.table ask.older ask.fit x) ∙ ap (λ (b : Bool). cond b (put_binders d first (front_of ts) ts) d) (sym (sym tested ∙ e))
-
-  pub type-left : r ≡ false → (d ≡ bind_type (rows d) d t first (end - first)) × (u ≡ mark_type (rows d) u t first (end - first))
-  type-left e = (ap (λ (b : Bool). cond b (put_binders d first (front_of ts) ts) d) (sym (sym tested ∙ e)), ap (λ (b : Bool). cond b (put_names u first (front_of ts)) u) (sym (sym tested ∙ e)))
 
 -- ---- `bind_types`: the types before line `at` have their binders
 pub record Binding (ls : List Triple) (d u : List ℕ) (at : ℕ) : Type 0 where
@@ -109,11 +79,8 @@ lines-few ls d f = go (length ls) refl
         omega arith
 
 module _ {ls : List Triple} {d u : List ℕ} {at : ℕ} (B : Binding ls d u at) where
-  pub binding-here : {t : Triple} → t ≡ get_or (rows d) at no_triple → t ≡ get_or ls at no_triple
-  binding-here e = e ∙ ap (λ (ts : List Triple). get_or ts at no_triple) B.same
-
   -- no entry is left
-  binding-done : from ls at ≡ [] → (d ≡ bind_all ls d (from ls at)) × (u ≡ mark_all ls u (from ls at))
+  pub binding-done : from ls at ≡ [] → (d ≡ bind_all ls d (from ls at)) × (u ≡ mark_all ls u (from ls at))
   unfolding bind_all mark_all
   binding-done e = (rw e, rw e)
 
@@ -130,8 +97,8 @@ module _ {ls : List Triple} {d u : List ℕ} {at : ℕ} (B : Binding ls d u at) 
     inside : (at + 1 + n ≡ end) × (end ≤ length ls)
     inside = let l = line-from ls (at + 1) 1 in let k = line-inside ls (at + 1) 1 (omega arith) in (omega arith, omega arith)
 
-    pub binding-asks : TypeAsk d u (at + 1) end
-    binding-asks =
+    asks : TypeAsk d u (at + 1) end
+    asks =
         let l = inside in
         let few = lines-few ls d B.ends in
         let m = ap length B.same in
@@ -155,10 +122,10 @@ module _ {ls : List Triple} {d u : List ℕ} {at : ℕ} (B : Binding ls d u at) 
             (length-names front u (at + 1) ∙ B.table, front-upto u (at + 1) front B.table (λ x. (let o = B.older x in omega arith)) end (omega arith))
         go false = (B.table, λ x. (let o = B.older x in let l = inside in omega arith))
 
-    pub binding-next : {t : Triple} → t ≡ get_or ls at no_triple → {d' u' : List ℕ} → d' ≡ bind_type (rows d) d t (at + 1) n → u' ≡ mark_type (rows d) u t (at + 1) n
+    next : {t : Triple} → t ≡ get_or ls at no_triple → {d' u' : List ℕ} → d' ≡ bind_type (rows d) d t (at + 1) n → u' ≡ mark_type (rows d) u t (at + 1) n
         → Binding ls d' u' end × (at < end) × (bind_all ls d' (from ls end) ≡ bind_all ls d (from ls at)) × (mark_all ls u' (from ls end) ≡ mark_all ls u (from ls at))
     unfolding bind_all mark_all
-    binding-next {t} e {d'} {u'} f g =
+    next {t} e {d'} {u'} f g =
         let l = inside in
         let c = length-rows d in
         let m = ap length B.same in
@@ -178,11 +145,19 @@ module _ {ls : List Triple} {d u : List ℕ} {at : ℕ} (B : Binding ls d u at) 
         rw (e, ends) (sym (ap (mark_all ls u) (from_one ls at h entry))) in
         (subst⁻¹ (λ (x : List ℕ). Binding ls x u' end) p (subst⁻¹ (λ (y : List ℕ). Binding ls (bind_type ls d t (at + 1) n) y end) q N), omega arith, ap (λ (x : List ℕ). bind_all ls x (from ls end)) p ∙ whole, ap (λ (y : List ℕ). mark_all ls y (from ls end)) q ∙ marks)
 
-  pub binding-none : at < length ls → is_entry (get_or ls at no_triple) ≡ false → (d ≡ bind_all ls d (from ls at)) × (u ≡ mark_all ls u (from ls at))
-  binding-none h e = binding-done (from-none ls at h e)
+  -- what the code has of the next one
+  module _ {e : Entry} (E : EntryAt ls at e) where
+    abbrev TypeDone : Entry → List ℕ → List ℕ → Type 0
+    TypeDone x d' u' = (d' ≡ bind_type (rows d) d x.head x.line (x.end - x.line)) × (u' ≡ mark_type (rows d) u x.head x.line (x.end - x.line))
 
-  pub binding-past : length ls ≤ at → (d ≡ bind_all ls d (from ls at)) × (u ≡ mark_all ls u (from ls at))
-  binding-past h = binding-done (from_past ls at h)
+    abbrev Next : Entry → List ℕ → List ℕ → Type 0
+    Next x d' u' = Binding ls d' u' x.end × (at < x.end) × (bind_all ls d' (from ls x.end) ≡ bind_all ls d (from ls at)) × (mark_all ls u' (from ls x.end) ≡ mark_all ls u (from ls at))
+
+    pub binding-asks : TypeAsk d u e.line e.end
+    binding-asks = subst⁻¹ (λ (x : Entry). TypeAsk d u x.line x.end) E.same (asks E.within E.entry refl)
+
+    pub binding-next : {d' u' : List ℕ} → TypeDone e d' u' → Next e d' u'
+    binding-next {d'} {u'} = subst⁻¹ (λ (x : Entry). TypeDone x d' u' → Next x d' u') E.same (λ p. next E.within E.entry refl refl p.0 p.1)
 
 -- ---- `bind_entries`
 pub bind_done : (d : List ℕ) → Bindable d → {e : List ℕ} → e ≡ bind_all (rows d) d (declarations (rows d) 0 0) → (rows e ≡ rows d) × Ended e × (e ≡ bind_all (rows d) d (declarations (rows d) 0 0))
@@ -253,7 +228,7 @@ fronts-fit ls [] h = tt
 fronts-fit ls (e ∷ es) h = let ts = take e.count (drop e.line ls) in (front_fits ts (part-in-range a_type ts h.0), fronts-fit ls es h.1)
 
 -- the lines of a plan read, and then every entry linked
-module _ (s : List ℕ) (plan : check s ≡ Plan) {d d' : List ℕ} (words : d ≡ unlinked_words (triples s)) (lines : rows d ≡ triples s) (same : rows d' ≡ rows d) (links : d' ≡ link_all d (declarations (rows d) 0 0)) where
+module _ (s : List ℕ) (plan : check s ≡ Ok tt) {d d' : List ℕ} (words : d ≡ unlinked_words (triples s)) (lines : rows d ≡ triples s) (same : rows d' ≡ rows d) (links : d' ≡ link_all d (declarations (rows d) 0 0)) where
   pub plan-bindable : Linked d' → Bindable d'
   plan-bindable l =
       let n = length-rows d in

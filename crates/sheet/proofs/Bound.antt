@@ -1,17 +1,9 @@
 -- Laws of the words with binders: what writing them leaves, and that every constructor's type has its own. Assumes nothing.
-use mathlib.Core.Path.{◌≡◌, refl, sym, ap, ap₂, ◌∙◌, subst⁻¹}
-use mathlib.Core.Bool.{Bool, true, false, cond}
-use mathlib.Core.List.{List, [], ◌∷◌}
-use Prim.Native.Nat.{ℕ, zero, suc, ◌+◌, ◌*◌, ◌-◌, ◌/◌, ◌%◌, ◌≤◌, ◌<◌}
-use native.Mathlib.Nat.{add-zero}
-use native.Mathlib.Numerals.{add-one}
-use native.Mathlib.Omega.{arith}
-use lib.ListN.{length, get_or, take, drop, length-set, length-take, length-drop}
-use lib.Dec.{eqb, ltb}
-use lib.Seq.{get_or-set_same, get_or-set_other, get_or-take, get_or-drop, drop-cons, ext_get_or}
-use borrow.Author.Tests.{eqb-true, eqb-false, eq-eqb, ltb-true, ltb-false}
+use Rattle.sheet.specs.declared.Extent.{Extent}
+use Rattle.std.proofs.Common.{Some, ◌≡◌, refl, sym, ap, ap₂, ◌∙◌, Bool, true, false, cond, List, [], ◌∷◌, ℕ, zero, suc, ◌+◌, ◌*◌, ◌-◌, ◌/◌, ◌%◌, ◌≤◌, ◌<◌, add-zero, add-one, arith, length, get_or, take, drop, length-set, length-take, length-drop, eqb, ltb, get_or-set_same, get_or-set_other, get_or-take, get_or-drop, drop-cons, ext_get_or, eqb-true, eq-eqb, ltb-true, ltb-false}
+use mathlib.Core.Path.{subst⁻¹}
+use borrow.Author.Tests.{eqb-false}
 use Rattle.spelling.specs.declared.Triple.{Triple}
-use Rattle.sheet.specs.declared.Found.TheVariants.{At}
 use Rattle.sheet.specs.Plan.{no_triple, part_line, is_entry, named, Declaration, declarations, find_in, find_entry}
 use Rattle.sheet.specs.Rows.{rows, row_triple, line_count, end_at, EndsFrom, first_at, next_at, linked_from, linked, front_of, place_from, binder_of, binder_at, Bound, Linked, Ended, set_binder, put_binders, quantified, bind_type, bind_all}
 use Rattle.sheet.specs.Binders.{binder_by, TellsPlaces}
@@ -257,7 +249,7 @@ module _ (ls : List Triple) (d : List ℕ) (t : Triple) (i n : ℕ) (within : i 
 pub record Bounds (ls : List Triple) (d : List ℕ) (at : ℕ) (es : List Declaration) (e : List ℕ) : Type 0 where
   pub raised : Raised d e
   pub before : (j : ℕ) → j < 2 * at → get_or e j 0 ≡ get_or d j 0
-  pub bound : ((i : ℕ) → at ≤ i → i < length ls → binder_at d i ≡ 0) → (x line n : ℕ) → find_in 1 x es ≡ At line n → Bound ls e line n
+  pub bound : ((i : ℕ) → at ≤ i → i < length ls → binder_at d i ≡ 0) → (x line n : ℕ) → find_in 1 x es ≡ Some (record { line = line; count = n }) → Bound ls e line n
 
 module _ (ls : List Triple) where
   abbrev All : ℕ → List Declaration → Type 0
@@ -291,10 +283,11 @@ module _ (ls : List Triple) where
       bound = λ f x line m q. go f x line m (named 1 x t) refl q;
     }
       where
-        go : ((i : ℕ) → at ≤ i → i < length ls → binder_at d i ≡ 0) → (x line m : ℕ) (b : Bool) → named 1 x t ≡ b → cond b (At (at + 1) n) (find_in 1 x es) ≡ At line m → Bound ls e line m
+        go : ((i : ℕ) → at ≤ i → i < length ls → binder_at d i ≡ 0) → (x line m : ℕ) (b : Bool) → named 1 x t ≡ b → cond b (Some (record { line = at + 1; count = n })) (find_in 1 x es) ≡ Some (record { line = line; count = m }) → Bound ls e line m
         go f x line m true p q =
-            let a : at + 1 ≡ line = cc in
-            let b : n ≡ m = cc in
+            let same : ◌≡◌ {A = Extent} (record { line = at + 1; count = n }) (record { line = line; count = m }) = cc in
+            let a : at + 1 ≡ line = ap (λ (z : Extent). z.line) same in
+            let b : n ≡ m = ap (λ (z : Extent). z.count) same in
             let w = fits in
             let v = inner in
             let I = T.inside (named-is 1 x t p).0 (λ k l. f (at + 1 + k) (omega arith) (omega arith)) in
@@ -330,5 +323,5 @@ module _ (d : List ℕ) (links : Linked d) (free : (i : ℕ) → i < line_count 
       record {
         ends = subst⁻¹ (λ (ts : List Triple). EndsFrom ts out 0) same_rows (λ i l h. raised-end B.raised i (omega arith) ∙ links.ends i l h);
         found = λ k x. rw (same_rows, raised-linked B.raised k x) (links.found k x);
-        bound = subst⁻¹ (λ (ts : List Triple). (x line n : ℕ) → find_entry 1 x ts ≡ At line n → Bound ts out line n) same_rows (B.bound (λ i l h. free i (omega arith)));
+        bound = subst⁻¹ (λ (ts : List Triple). (x line n : ℕ) → find_entry 1 x ts ≡ Some (record { line = line; count = n }) → Bound ts out line n) same_rows (B.bound (λ i l h. free i (omega arith)));
       }

@@ -1,15 +1,9 @@
 -- One line of a type that is copied, and the rest. Assumes nothing.
-use mathlib.Core.Path.{◌≡◌, sym, ap, ap₂, ◌∙◌, subst}
-use mathlib.Core.List.{List, ◌∷◌}
-use Prim.Native.Nat.{ℕ, suc, ◌+◌, ◌-◌, ◌<◌}
-use native.Mathlib.Numerals.{add-one, add-two}
-use native.Mathlib.Omega.{arith}
-use lib.ListN.{length, get_or, set, take, drop}
-use lib.Seq.{sets, drop-cons}
+use Rattle.std.proofs.Common.{◌≡◌, sym, ap, ap₂, ◌∙◌, subst, List, ◌∷◌, ℕ, suc, ◌+◌, ◌*◌, ◌-◌, ◌≤◌, ◌<◌, add-one, arith, length, get_or, set, take, drop, drop-cons, eqb}
+use lib.Seq.{sets}
 use Rattle.nodes.specs.Nodes.{number, words}
 use Rattle.nodes.specs.Lists.{All}
 use Rattle.nodes.proofs.ListLaws.{cond_ind}
-use lib.Dec.{eqb}
 use Rattle.spelling.specs.declared.Triple.{Triple}
 use Rattle.sheet.specs.Plan.{no_triple, nodes_of, line_node, Narrow}
 
@@ -22,19 +16,36 @@ module _ (ls : List Triple) (line left : ℕ) (h : line < length ls) (k : 0 < le
   pub copy-narrow : All Narrow (take left (drop line ls)) → Narrow (get_or ls line no_triple) × All Narrow (take (left - 1) (drop (line + 1) ls))
   copy-narrow a = subst (All Narrow) lines_cons a
 
-  pub copy-turn : (d : List ℕ) (p : ℕ)
-      → sets d p (words (nodes_of (take left (drop line ls))))
-      ≡ sets (set (set d p (get_or ls line no_triple).kind) (p + 1) (number (line_node (get_or ls line no_triple)))) (p + 2) (words (nodes_of (take (left - 1) (drop (line + 1) ls))))
-  unfolding words
-  copy-turn d p =
-      let r = words (nodes_of (take (left - 1) (drop (line + 1) ls))) in
-      let t = get_or ls line no_triple in
-      ap (λ (ts : List Triple). sets d p (words (nodes_of ts))) lines_cons
-      ∙ ap₂ (λ (y z : ℕ). sets (set (set d p t.kind) y (number (line_node t))) z r) (sym (add-one p)) (sym (add-two p))
+-- line i of n
+module _ (ls : List Triple) (first n i : ℕ) (h : first + n ≤ length ls) where
+  abbrev rest : ℕ → List Triple
+  rest j = take (n - j) (drop (first + j) ls)
 
-pub copy-end : (ls : List Triple) (line left : ℕ) (d : List ℕ) (p : ℕ) → left ≡ 0 → sets d p (words (nodes_of (take left (drop line ls)))) ≡ d
-unfolding words
-copy-end ls line left d p e = rw e
+  abbrev here : Triple
+  here = get_or ls (first + i) no_triple
+
+  rest_cons : i < n → rest i ≡ here ∷ rest (i + 1)
+  rest_cons k =
+      let e : n - i - 1 ≡ n - (i + 1) = omega arith in
+      let f : first + i + 1 ≡ first + (i + 1) = omega arith in
+      lines_cons ls (first + i) (n - i) (omega arith) (omega arith) ∙ ap₂ (λ (m j : ℕ). here ∷ take m (drop j ls)) e f
+
+  pub rest-narrow : i < n → All Narrow (rest i) → Narrow here × All Narrow (rest (i + 1))
+  rest-narrow k a = subst (All Narrow) (rest_cons k) a
+
+  pub copy-turn : i < n → (d : List ℕ) (at : ℕ)
+      → sets d (at + 2 * i) (words (nodes_of (rest i)))
+      ≡ sets (set (set d (at + 2 * i) here.kind) (at + 2 * i + 1) (number (line_node here))) (at + 2 * (i + 1)) (words (nodes_of (rest (i + 1))))
+  unfolding words
+  copy-turn k d at =
+      let e : suc (at + 2 * i) ≡ at + 2 * i + 1 = omega arith in
+      let f : suc (suc (at + 2 * i)) ≡ at + 2 * (i + 1) = omega arith in
+      ap (λ (ts : List Triple). sets d (at + 2 * i) (words (nodes_of ts))) (rest_cons k)
+      ∙ ap₂ (λ (y z : ℕ). sets (set (set d (at + 2 * i) here.kind) y (number (line_node here))) z (words (nodes_of (rest (i + 1))))) e f
+
+  pub copy-end : n ≤ i → (d : List ℕ) (p : ℕ) → sets d p (words (nodes_of (rest i))) ≡ d
+  unfolding words
+  copy-end k d p = let e : n - i ≡ 0 = omega arith in rw e
 
 -- a node's number is a word
 pub number_small : (t : Triple) → t.count < 131072 → Narrow t → number (line_node t) < 4294967296

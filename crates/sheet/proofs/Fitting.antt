@@ -1,40 +1,30 @@
 -- A sheet is a plan exactly if each of its lines fits in front of those after it, and the plan's own lines come in their order. Assumes nothing.
-use mathlib.Core.Path.{◌≡◌, refl, sym, ap, ◌∙◌, subst}
-use mathlib.Core.Logic.{◌≢◌, inl}
-use mathlib.Core.Bool.{Bool, true, false, not, ◌&&◌, ◌||◌, and-eq-true_iff, false≢true}
-use mathlib.Core.List.{List, [], ◌∷◌, ◌++◌, map, append_assoc, append-nil}
-use Prim.Native.Nat.{ℕ, zero, suc, ◌+◌, ◌/◌, ◌≤◌, ◌<◌}
-use native.Mathlib.Nat.{add-zero, zero-add, sub-zero}
-use native.Mathlib.Omega.{arith}
-use lib.ListN.{length, get_or, drop, length-append, drop_of_length-le}
-use lib.Dec.{eqb, ltb}
-use borrow.Author.Tests.{eqb-true, eq-eqb, ne_eqb, ltb-true, ltb-false}
+use Rattle.grammar.specs.declared.SheetError.{SheetError}
+use Rattle.std.proofs.Common.{Result, Ok, Err, Option, Some, None, is_some, ◌≡◌, refl, sym, ap, ◌∙◌, subst, ◌≢◌, inl, Bool, true, false, not, ◌&&◌, ◌||◌, List, [], ◌∷◌, ◌++◌, map, append_assoc, append-nil, ℕ, zero, suc, ◌+◌, ◌/◌, ◌≤◌, ◌<◌, add-zero, zero-add, arith, length, get_or, drop, length-append, drop_of_length-le, eqb, ltb, eqb-true, eq-eqb, ne_eqb, ltb-true, ltb-false}
+use mathlib.Core.Bool.{and-eq-true_iff, and_comm, false≢true}
+use native.Mathlib.Nat.{sub-zero}
 use Rattle.sizes.specs.Sizes.{line_length}
 use Rattle.nodes.specs.Parts.{drop_parts}
 use Rattle.nodes.specs.Lists.{All}
 use Rattle.nodes.proofs.ListLaws.{all_append}
 use Rattle.nodes.proofs.PartLaws.{drop-none, drop-drop}
 use Rattle.spelling.specs.declared.Triple.{Triple}
-use Rattle.spelling.specs.declared.Line.{Line}
-use Rattle.spelling.specs.declared.Line.TheVariants.{Spelt, Misspelt}
 use Rattle.spelling.specs.Spelling.{lines_from, lines_of}
 use Rattle.spelling.proofs.Laws.{length-lines}
 use Rattle.kinds.specs.declared.Row.{Row}
 use Rattle.kinds.proofs.Rows.{expected-kind}
 use Rattle.kinds.specs.Kinds.{an_entry, an_expected, a_goal, table, find, row_of, fields_ok, begins, head_of, parts_of}
 use Rattle.grammar.specs.declared.Declared.{Declared}
-use Rattle.grammar.specs.declared.Declared.TheVariants.{Named, Expected, Not}
-use Rattle.grammar.specs.declared.Got.TheVariants.{Next}
-use Rattle.grammar.specs.declared.Check.{Check}
-use Rattle.grammar.specs.declared.Check.TheVariants.{Plan, Length, Unfit}
-use Rattle.grammar.specs.Grammar.{Item, part, entries, in_order, declared_by, ok, due, parts_due, stands, entry_due, read, read_at}
+use Rattle.grammar.specs.declared.Declared.TheVariants.{Named, Expected}
+use Rattle.grammar.specs.Grammar.{Item, part, entries, in_order, declared_by, ok, due, parts_due, entry_due, read, read_at}
 use Rattle.grammar.specs.Check.{length_ok, end_of, read_sheet, fitting, check}
 use Rattle.grammar.proofs.Lines.{plan-first}
+use Rattle.sheet.specs.declared.Entry.{Entry}
 use Rattle.sheet.specs.Plan.{no_triple, triple_of, triples, part_line, is_entry}
 use Rattle.sheet.specs.Form.{Forms}
 use Rattle.sheet.specs.Fit.{is_plan, forms, first_sort, meets, parts_after, line_fits, all_fit}
 use Rattle.sheet.proofs.Lines.{line-inside, drop-line}
-use Rattle.sheet.proofs.Declarations.{here}
+use Rattle.sheet.proofs.Declarations.{from, here, type-end, EntryAt, no-entry-at}
 use Rattle.sheet.proofs.Forming.{AllParts, parts-following, few-each, length-following, due-following, split}
 use Rattle.sheet.proofs.TypeLines.{sort-is, value-ok, count-ok, begun-row}
 use Rattle.sheet.proofs.Formed.{Says, an-entry, expects, neither, says, sheet-forms}
@@ -46,14 +36,14 @@ unfolding forms
 forms-true [] [] e = tt
 forms-true [] (x ∷ a) e = absurd (false≢true e)
 forms-true (t ∷ ts) [] e = absurd (false≢true e)
-forms-true (t ∷ ts) (x ∷ a) e = let b = (and-eq-true_iff (ok x (Spelt t)) _).0 e in (b.0, forms-true ts (due x (Spelt t) ++ a) b.1)
+forms-true (t ∷ ts) (x ∷ a) e = let b = (and-eq-true_iff (ok x (Some t)) _).0 e in (b.0, forms-true ts (due x (Some t) ++ a) b.1)
 
 pub true-forms : (ts : List Triple) (a : List Item) → Forms ts a → forms ts a ≡ true
 unfolding forms
 true-forms [] [] f = refl
 true-forms [] (x ∷ a) f = absurd f
 true-forms (t ∷ ts) [] f = absurd f
-true-forms (t ∷ ts) (x ∷ a) f = (and-eq-true_iff (ok x (Spelt t)) _).1 (f.0, true-forms ts (due x (Spelt t) ++ a) f.1)
+true-forms (t ∷ ts) (x ∷ a) f = (and-eq-true_iff (ok x (Some t)) _).1 (f.0, true-forms ts (due x (Some t) ++ a) f.1)
 
 -- ---- a part that is due by its sort
 -- the goal's line has kind 4
@@ -75,11 +65,11 @@ head-due : (x : ℕ) (t : Triple) → begins x t ≡ true → parts_due (head_of
 unfolding head_of
 head-due x t b = rw b
 
-part-ok : (x : ℕ) (t : Triple) → begins x t ≡ true → ok (part x) (Spelt t) ≡ true
+part-ok : (x : ℕ) (t : Triple) → begins x t ≡ true → ok (part x) (Some t) ≡ true
 unfolding head_of
 part-ok x t b = rw b
 
-part-not : (x : ℕ) (t : Triple) → begins x t ≡ false → ok (part x) (Spelt t) ≡ false
+part-not : (x : ℕ) (t : Triple) → begins x t ≡ false → ok (part x) (Some t) ≡ false
 unfolding head_of
 part-not x t b = rw b
 
@@ -162,12 +152,12 @@ record Follows (t : Triple) (a : List Item) : Type 0 where
   rest : List Item
   first : a ≡ parts_after (row_of t.kind) t.count ++ rest
 
-entry_follows : (t : Triple) {d : Declared} → Says t d → stands d ≡ true → Follows t (entry_due d (Spelt t))
+entry_follows : (t : Triple) {d : Option Declared} → Says t d → is_some d ≡ true → Follows t (entry_due d (Some t))
 entry_follows t (an-entry k n b e kd) o = record { fields = begun-fields an_entry t b; rest = entries k n ∷ []; first = rw (head-due an_entry t b) }
 entry_follows t (expects b e) o = record { fields = begun-fields an_expected t b; rest = part a_goal ∷ []; first = rw (head-due an_expected t b) }
 entry_follows t neither o = absurd (false≢true o)
 
-line-follows : (x : Item) (t : Triple) → Sorted x → ok x (Spelt t) ≡ true → Follows t (due x (Spelt t))
+line-follows : (x : Item) (t : Triple) → Sorted x → ok x (Some t) ≡ true → Follows t (due x (Some t))
 line-follows (part x) t s o =
     let d = due-following x t o in
     record { fields = begun-fields x t d.0; rest = []; first = d.1 ∙ sym (append-nil _) }
@@ -184,61 +174,63 @@ forms-fit (t ∷ ts) (x ∷ a) s f =
     let m = forms-meet (parts_after r t.count) (w.rest ++ a) ts (parts-following r.types r.terms r.each t.count) g in
     (and-eq-true_iff (line_fits t ts) (all_fit ts)).1 (
       (and-eq-true_iff (fields_ok r t) _).1 (w.fields, m),
-      forms-fit ts (due x (Spelt t) ++ a) (all_append Sorted (due x (Spelt t)) a (sorted-due x t s.0) s.1) f.1,
+      forms-fit ts (due x (Some t) ++ a) (all_append Sorted (due x (Some t)) a (sorted-due x t s.0) s.1) f.1,
     )
 
 -- ---- a sheet
 -- a line that says nothing may stand nowhere
-nowhere : (x : Item) → Sorted x → ok x (Spelt no_triple) ≡ true → ⊥
+nowhere : (x : Item) → Sorted x → ok x (Some no_triple) ≡ true → ⊥
 unfolding row_of find table
 nowhere (part x) s o = s (sym (sort-is x no_triple (due-following x no_triple o).0))
 nowhere (entries k n) s o = none (says k n no_triple s) o
   where
-    none : {d : Declared} → Says no_triple d → stands d ≡ true → ⊥
+    none : {d : Option Declared} → Says no_triple d → is_some d ≡ true → ⊥
     none (an-entry j m b e kd) o = false≢true e
     none (expects b e) o = omega arith
     none neither o = false≢true o
 
-read-on : (l : Line) (ls : List Line) (x : Item) (a : List Item) (at : ℕ) → ok x l ≡ true → read (l ∷ ls) (x ∷ a) at ≡ read ls (due x l ++ a) (at + 1)
+read-on : (l : Option Triple) (ls : List (Option Triple)) (x : Item) (a : List Item) (at : ℕ) → ok x l ≡ true → read (l ∷ ls) (x ∷ a) at ≡ read ls (due x l ++ a) (at + 1)
 unfolding read
 read-on l ls x a at o = rw o
 
-read_none : (at : ℕ) → read [] [] at ≡ Next at
+read_none : (at : ℕ) → read [] [] at ≡ Ok at
 unfolding read
 read_none at = refl
 
-forms-read : (ls : List Line) (a : List Item) (at : ℕ) → All Sorted a → Forms (map triple_of ls) a → read ls a at ≡ Next (at + length ls)
-forms-read [] [] at s f = read_none at ∙ ap Next (sym (add-zero at))
+forms-read : (ls : List (Option Triple)) (a : List Item) (at : ℕ) → All Sorted a → Forms (map triple_of ls) a → read ls a at ≡ Ok (at + length ls)
+forms-read [] [] at s f = read_none at ∙ ap Ok (sym (add-zero at))
 forms-read [] (x ∷ a) at s f = absurd f
 forms-read (l ∷ ls) [] at s f = absurd f
-forms-read (Spelt t ∷ ls) (x ∷ a) at s f =
+forms-read (Some t ∷ ls) (x ∷ a) at s f =
     let k : at + 1 + length ls ≡ at + suc (length ls) = omega arith in
-    read-on (Spelt t) ls x a at f.0 ∙ forms-read ls (due x (Spelt t) ++ a) (at + 1) (all_append Sorted (due x (Spelt t)) a (sorted-due x t s.0) s.1) f.1 ∙ ap Next k
-forms-read (Misspelt ∷ ls) (x ∷ a) at s f = absurd (nowhere x s.0 f.0)
+    read-on (Some t) ls x a at f.0 ∙ forms-read ls (due x (Some t) ++ a) (at + 1) (all_append Sorted (due x (Some t)) a (sorted-due x t s.0) s.1) f.1 ∙ ap Ok k
+forms-read (None ∷ ls) (x ∷ a) at s f = absurd (nowhere x s.0 f.0)
 
 module _ (s : List ℕ) (h : length_ok (length s) ≡ true) where
   abbrev n : ℕ
   n = length s / line_length
 
-  forms-plan : Forms (triples s) (entries 1 0 ∷ []) → check s ≡ Plan
+  forms-plan : Forms (triples s) (entries 1 0 ∷ []) → check s ≡ Ok tt
   unfolding check read_sheet read_at triples lines_of
   forms-plan f =
       let k : 0 + length (lines_from s 0 n) ≡ n = zero-add (length (lines_from s 0 n)) ∙ length-lines s 0 n in
-      let r : read (lines_from s 0 n) (entries 1 0 ∷ []) 0 ≡ Next n = forms-read (lines_from s 0 n) (entries 1 0 ∷ []) 0 (inl refl, tt) f ∙ ap Next k in
-      let q : read_at s (entries 1 0 ∷ []) 0 ≡ Next n = rw (sub-zero n) r in
-      let w : read_sheet s ≡ Next n = ap (end_of n) q ∙ rw (eq-eqb n n refl) in
+      let r : read (lines_from s 0 n) (entries 1 0 ∷ []) 0 ≡ Ok n = forms-read (lines_from s 0 n) (entries 1 0 ∷ []) 0 (inl refl, tt) f ∙ ap Ok k in
+      let q : read_at s (entries 1 0 ∷ []) 0 ≡ Ok n = rw (sub-zero n) r in
+      let w : read_sheet s ≡ Ok n = ap (end_of n) q ∙ rw (eq-eqb n n refl) in
       rw h (plan-first s n w (fitting (read_sheet s)) ∙ ap fitting w)
 
   -- whether it is a plan is whether its lines are what is due
-  pub plan-forms : is_plan (check s) ≡ forms (triples s) (entries 1 0 ∷ [])
+  plan-forms : is_plan (check s) ≡ forms (triples s) (entries 1 0 ∷ [])
   plan-forms = go (forms (triples s) (entries 1 0 ∷ [])) refl (check s) refl
     where
-      go : (b : Bool) → forms (triples s) (entries 1 0 ∷ []) ≡ b → (c : Check) → check s ≡ c → is_plan c ≡ b
+      go : (b : Bool) → forms (triples s) (entries 1 0 ∷ []) ≡ b → (c : (Result Unit SheetError)) → check s ≡ c → is_plan c ≡ b
       go true e c q = ap is_plan (sym q ∙ forms-plan (forms-true (triples s) (entries 1 0 ∷ []) e))
-      go false e Plan q = absurd (false≢true (sym e ∙ true-forms (triples s) (entries 1 0 ∷ []) (sheet-forms s q)))
-      go false e Length q = refl
-      go false e (Rattle.grammar.specs.declared.Check.TheVariants.Misspelt l) q = refl
-      go false e (Unfit l) q = refl
+      go false e (Ok _) q = absurd (false≢true (sym e ∙ true-forms (triples s) (entries 1 0 ∷ []) (sheet-forms s q)))
+      go false e (Err x) q = refl
+
+  -- the lines as they are held
+  pub top-plan : {ms : List Triple} → ms ≡ triples s → {r : Bool} → r ≡ forms ms (entries 1 0 ∷ []) → r ≡ is_plan (check s)
+  top-plan e q = q ∙ ap (λ (ls : List Triple). forms ls (entries 1 0 ∷ [])) e ∙ sym plan-forms
 
   -- a line that does not fit
   pub unfit : all_fit (triples s) ≡ false → is_plan (check s) ≡ false
@@ -248,11 +240,9 @@ module _ (s : List ℕ) (h : length_ok (length s) ≡ true) where
       go true q = absurd (false≢true (sym e ∙ forms-fit (triples s) (entries 1 0 ∷ []) (inl refl, tt) (forms-true (triples s) (entries 1 0 ∷ []) q)))
       go false q = q
 
-pub is-plan : (v : Check) → is_plan v ≡ true → v ≡ Plan
-is-plan Plan e = refl
-is-plan Length e = absurd (false≢true e)
-is-plan (Rattle.grammar.specs.declared.Check.TheVariants.Misspelt l) e = absurd (false≢true e)
-is-plan (Unfit l) e = absurd (false≢true e)
+pub is-plan : (v : Result Unit SheetError) → is_plan v ≡ true → v ≡ Ok tt
+is-plan (Ok _) e = refl
+is-plan (Err x) e = absurd (false≢true e)
 
 -- ---- the plan's own lines, where all fit
 all_drop : (at : ℕ) (ts : List Triple) → all_fit ts ≡ true → all_fit (drop at ts) ≡ true
@@ -316,19 +306,19 @@ module _ (t : Triple) where
   goal-begins f k = begins-by a_goal t (rw k) f
 
   module _ (k last : ℕ) where
-    named : begins an_entry t ≡ true → in_order k last t ≡ true → declared_by k last t ≡ Named t.kind t.value
+    named : begins an_entry t ≡ true → in_order k last t ≡ true → declared_by k last t ≡ Some (Named t.kind t.value)
     unfolding declared_by
     named b o = rw (b, o)
 
-    unordered : begins an_entry t ≡ true → in_order k last t ≡ false → declared_by k last t ≡ Not
+    unordered : begins an_entry t ≡ true → in_order k last t ≡ false → declared_by k last t ≡ None
     unfolding declared_by
     unordered b o = rw (b, o)
 
-    expected : begins an_entry t ≡ false → begins an_expected t ≡ true → declared_by k last t ≡ Expected
+    expected : begins an_entry t ≡ false → begins an_expected t ≡ true → declared_by k last t ≡ Some Expected
     unfolding declared_by
     expected b e = rw (b, e)
 
-    neither-of : begins an_entry t ≡ false → begins an_expected t ≡ false → declared_by k last t ≡ Not
+    neither-of : begins an_entry t ≡ false → begins an_expected t ≡ false → declared_by k last t ≡ None
     unfolding declared_by
     neither-of b e = rw (b, e)
 
@@ -344,15 +334,15 @@ module _ (ls : List Triple) (f : all_fit ls ≡ true) (at : ℕ) (h : at < lengt
   fields-here = ((and-eq-true_iff (fields_ok (row_of t.kind) t) _).0 ((and-eq-true_iff (line_fits t (drop (at + 1) ls)) _).0 fit-from).0).0
 
   -- a line that may stand, its parts, and then y
-  step : (x : Item) (y : List Item) → ok x (Spelt t) ≡ true → due x (Spelt t) ≡ parts_after (row_of t.kind) t.count ++ y → forms (drop at ls) (x ∷ []) ≡ forms (drop (part_line ls at 1) ls) y
+  step : (x : Item) (y : List Item) → ok x (Some t) ≡ true → due x (Some t) ≡ parts_after (row_of t.kind) t.count ++ y → forms (drop at ls) (x ∷ []) ≡ forms (drop (part_line ls at 1) ls) y
   unfolding forms
   step x y o d =
       let w : List Item = parts_after (row_of t.kind) t.count in
-      let e : forms (drop (at + 1) ls) (due x (Spelt t) ++ []) ≡ forms (drop (at + 1) ls) (w ++ y) = ap (forms (drop (at + 1) ls)) (append-nil (due x (Spelt t)) ∙ d) in
+      let e : forms (drop (at + 1) ls) (due x (Some t) ++ []) ≡ forms (drop (at + 1) ls) (w ++ y) = ap (forms (drop (at + 1) ls)) (append-nil (due x (Some t)) ∙ d) in
       let g : forms (drop_parts parts_of (t ∷ drop (at + 1) ls) 1) y ≡ forms (drop (part_line ls at 1) ls) y = ap (λ (ts : List Triple). forms ts y) (sym (drop-line ls at 1 ∙ ap (λ (ts : List Triple). drop_parts parts_of ts 1) (here ls at h))) in
       ap (λ (ts : List Triple). forms ts (x ∷ [])) (here ls at h) ∙ rw o (e ∙ line-over t (drop (at + 1) ls) y fit-from ∙ g)
 
-  no_step : (x : Item) → ok x (Spelt t) ≡ false → forms (drop at ls) (x ∷ []) ≡ false
+  no_step : (x : Item) → ok x (Some t) ≡ false → forms (drop at ls) (x ∷ []) ≡ false
   unfolding forms
   no_step x o = ap (λ (ts : List Triple). forms ts (x ∷ [])) (here ls at h) ∙ rw o
 
@@ -360,27 +350,55 @@ module _ (ls : List Triple) (f : all_fit ls ≡ true) (at : ℕ) (h : at < lengt
   entry_next k last e o =
       let b = entry-begins t fields-here e in
       let d = named t k last b o in
-      step (entries k last) (entries t.kind t.value ∷ []) (ap stands d) (ap (λ (x : Declared). entry_due x (Spelt t)) d ∙ ap (λ (a : List Item). a ++ (entries t.kind t.value ∷ [])) (head-due an_entry t b))
+      step (entries k last) (entries t.kind t.value ∷ []) (ap is_some d) (ap (λ (x : Option Declared). entry_due x (Some t)) d ∙ ap (λ (a : List Item). a ++ (entries t.kind t.value ∷ [])) (head-due an_entry t b))
 
   pub expected-next : (k last : ℕ) → is_entry t ≡ false → t.kind ≡ 3 → forms (drop at ls) (entries k last ∷ []) ≡ forms (drop (part_line ls at 1) ls) (part a_goal ∷ [])
   expected-next k last e q =
       let b = expected-begins t fields-here q in
       let d = expected t k last (no-entry t e) b in
-      step (entries k last) (part a_goal ∷ []) (ap stands d) (ap (λ (x : Declared). entry_due x (Spelt t)) d ∙ ap (λ (a : List Item). a ++ (part a_goal ∷ [])) (head-due an_expected t b))
+      step (entries k last) (part a_goal ∷ []) (ap is_some d) (ap (λ (x : Option Declared). entry_due x (Some t)) d ∙ ap (λ (a : List Item). a ++ (part a_goal ∷ [])) (head-due an_expected t b))
 
   pub entry-low : (k last : ℕ) → is_entry t ≡ true → in_order k last t ≡ false → forms (drop at ls) (entries k last ∷ []) ≡ false
-  entry-low k last e o = no_step (entries k last) (ap stands (unordered t k last (entry-begins t fields-here e) o))
+  entry-low k last e o = no_step (entries k last) (ap is_some (unordered t k last (entry-begins t fields-here e) o))
 
   pub entry_other : (k last : ℕ) → is_entry t ≡ false → (t.kind ≡ 3 → ⊥) → forms (drop at ls) (entries k last ∷ []) ≡ false
-  entry_other k last e q = no_step (entries k last) (ap stands (neither-of t k last (no-entry t e) (not-begun t an_expected (λ b. q (expected-kind t.kind (sort-is an_expected t b))))))
+  entry_other k last e q = no_step (entries k last) (ap is_some (neither-of t k last (no-entry t e) (not-begun t an_expected (λ b. q (expected-kind t.kind (sort-is an_expected t b))))))
 
-  pub goal-whole : t.kind ≡ 4 → forms (drop at ls) (part a_goal ∷ []) ≡ eqb (part_line ls at 1) (length ls)
-  goal-whole q =
+  -- what the code has of an entry
+  pub entry-on : {e : Entry} → EntryAt ls at e → (k last : ℕ) → {r : Bool} → r ≡ in_order k last e.head → r ≡ true → forms (drop e.end ls) (entries e.head.kind e.head.value ∷ []) ≡ forms (drop at ls) (entries k last ∷ [])
+  entry-on {e} E k last q p =
+      let o : in_order k last t ≡ true = ap (λ (x : Entry). in_order k last x.head) (sym E.same) ∙ sym q ∙ p in
+      rw E.same (ap (λ (n : ℕ). forms (drop n ls) (entries t.kind t.value ∷ [])) (type-end ls at h E.entry) ∙ sym (entry_next k last E.entry o))
+
+  pub entry-off : {e : Entry} → EntryAt ls at e → (k last : ℕ) → {r : Bool} → r ≡ in_order k last e.head → r ≡ false → false ≡ forms (drop at ls) (entries k last ∷ [])
+  entry-off {e} E k last q p = sym (entry-low k last E.entry (ap (λ (x : Entry). in_order k last x.head) (sym E.same) ∙ sym q ∙ p))
+
+  pub goal-on : t.kind ≡ 4 → eqb (part_line ls at 1) (length ls) ≡ forms (drop at ls) (part a_goal ∷ [])
+  goal-on q =
       let b = goal-begins t fields-here q in
-      step (part a_goal) [] (part-ok a_goal t b) (head-due a_goal t b ∙ sym (append-nil _)) ∙ forms-nil ls (part_line ls at 1) (line-inside ls at 1 (omega arith))
+      sym (step (part a_goal) [] (part-ok a_goal t b) (head-due a_goal t b ∙ sym (append-nil _)) ∙ forms-nil ls (part_line ls at 1) (line-inside ls at 1 (omega arith)))
 
-  pub goal-none : (t.kind ≡ 4 → ⊥) → forms (drop at ls) (part a_goal ∷ []) ≡ false
+  goal-none : (t.kind ≡ 4 → ⊥) → forms (drop at ls) (part a_goal ∷ []) ≡ false
   goal-none q = no_step (part a_goal) (part-not a_goal t (not-begun t a_goal (λ b. q (goal-four t b))))
+
+pub goal-off : (ls : List Triple) → all_fit ls ≡ true → (at : ℕ) → ((get_or ls at no_triple).kind ≡ 4 → ⊥) → false ≡ forms (drop at ls) (part a_goal ∷ [])
+goal-off ls f at n = go (ltb at (length ls)) refl
+  where
+    go : (b : Bool) → ltb at (length ls) ≡ b → false ≡ forms (drop at ls) (part a_goal ∷ [])
+    go true p = sym (goal-none ls f at (ltb-true at (length ls) p) n)
+    go false p = sym (lacking ls at (part a_goal) [] (ltb-false at (length ls) p))
+
+-- ---- after the entries
+module _ (ls : List Triple) (f : all_fit ls ≡ true) (at : ℕ) (done : from ls at ≡ []) (k last : ℕ) where
+  pub expected-on : at < length ls → (get_or ls at no_triple).kind ≡ 3 → forms (drop (part_line ls at 1) ls) (part a_goal ∷ []) ≡ forms (drop at ls) (entries k last ∷ [])
+  expected-on h q = sym (expected-next ls f at h k last (no-entry-at ls at done) q)
+
+  pub expected-off : ((get_or ls at no_triple).kind ≡ 3 → ⊥) → false ≡ forms (drop at ls) (entries k last ∷ [])
+  expected-off n = go (ltb at (length ls)) refl
+    where
+      go : (b : Bool) → ltb at (length ls) ≡ b → false ≡ forms (drop at ls) (entries k last ∷ [])
+      go true p = sym (entry_other ls f at (ltb-true at (length ls) p) k last (no-entry-at ls at done) n)
+      go false p = sym (lacking ls at (entries k last) [] (ltb-false at (length ls) p))
 
 -- ---- from the last line up
 module _ (ls : List Triple) (i : ℕ) where
@@ -388,6 +406,6 @@ module _ (ls : List Triple) (i : ℕ) where
   unfolding all_fit
   fit_none h = rw (drop_of_length-le ls h)
 
-  pub fit-turn : i < length ls → {here rest all : Bool} → here ≡ line_fits (get_or ls i no_triple) (drop (i + 1) ls) → rest ≡ all_fit (drop (i + 1) ls) → all ≡ (here && rest) → all ≡ all_fit (drop i ls)
+  pub fit-turn : i < length ls → {at rest : Bool} → at ≡ line_fits (get_or ls i no_triple) (drop (i + 1) ls) → rest ≡ all_fit (drop (i + 1) ls) → (rest && at) ≡ all_fit (drop i ls)
   unfolding all_fit
-  fit-turn h e f g = g ∙ rw (here ls i h, e, f)
+  fit-turn h {at} {rest} e f = and_comm rest at ∙ rw (here ls i h, e, f)

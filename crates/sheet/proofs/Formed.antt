@@ -1,30 +1,19 @@
 -- The lines of a sheet that is taken: entries with their types, the expected type, the term. Assumes nothing.
-use mathlib.Core.Path.{◌≡◌, refl, sym, ap, ◌∙◌}
-use mathlib.Core.Logic.{◌⊎◌, inl, inr}
-use mathlib.Core.Bool.{Bool, true, false, cond}
-use mathlib.Core.List.{List, [], ◌∷◌, ◌++◌}
-use Prim.Native.Nat.{ℕ, zero, suc, ◌+◌, ◌-◌, ◌/◌, ◌≤◌, ◌<◌}
-use native.Mathlib.Nat.{zero-add, sub-zero}
-use native.Mathlib.Omega.{arith}
-use lib.ListN.{length, get_or, drop, drop_of_length-le}
-use lib.Dec.{eqb, ltb}
-use borrow.Author.Tests.{eqb-true, ltb-true, ltb-false}
+use Rattle.grammar.specs.declared.SheetError.TheVariants.{Length, Misspelt, Unfit}
+use Rattle.grammar.specs.declared.SheetError.{SheetError}
+use Rattle.std.proofs.Common.{Result, Ok, Err, Some, Option, None, is_some, ◌≡◌, refl, sym, ap, ◌∙◌, ◌⊎◌, inl, inr, Bool, true, false, cond, List, [], ◌∷◌, ◌++◌, ℕ, zero, suc, ◌+◌, ◌-◌, ◌/◌, ◌≤◌, ◌<◌, zero-add, arith, length, get_or, drop, drop_of_length-le, eqb, ltb, eqb-true, ltb-true, ltb-false}
+use native.Mathlib.Nat.{sub-zero}
 use Rattle.sizes.specs.Sizes.{line_length}
 use Rattle.nodes.specs.Parts.{take_parts}
 use Rattle.nodes.proofs.PartLaws.{is-take}
 use Rattle.spelling.specs.declared.Triple.{Triple}
-use Rattle.spelling.specs.declared.Line.TheVariants.{Spelt}
 use Rattle.spelling.specs.Spelling.{lines_from, lines_of, first_misspelt}
 use Rattle.spelling.proofs.Laws.{length-lines}
 use Rattle.kinds.specs.Kinds.{a_type, a_term, nothing, an_entry, an_expected, a_goal, row_of, begins, head_of, parts_of}
 use Rattle.kinds.proofs.Rows.{Follow, entry_row, expected-row, goal-row, expected-kind}
 use Rattle.grammar.specs.declared.Declared.{Declared}
-use Rattle.grammar.specs.declared.Declared.TheVariants.{Named, Expected, Not}
-use Rattle.grammar.specs.declared.Got.{Got}
-use Rattle.grammar.specs.declared.Got.TheVariants.{Next, Refused}
-use Rattle.grammar.specs.declared.Check.{Check}
-use Rattle.grammar.specs.declared.Check.TheVariants.{Plan, Length, Misspelt}
-use Rattle.grammar.specs.Grammar.{Item, part, entries, in_order, declared_by, following, parts_due, stands, entry_due, read, read_at}
+use Rattle.grammar.specs.declared.Declared.TheVariants.{Named, Expected}
+use Rattle.grammar.specs.Grammar.{Item, part, entries, in_order, declared_by, following, parts_due, entry_due, read, read_at}
 use Rattle.grammar.specs.Check.{length_ok, end_of, read_sheet, fitting, check}
 use Rattle.sheet.specs.Plan.{no_triple, triples, part_line, is_entry, end_from, entries_end, places_of}
 use Rattle.sheet.specs.Form.{Forms, IsPart, Typed, Formed}
@@ -37,16 +26,16 @@ use Rattle.sheet.proofs.TypeLines.{sort-is}
 abbrev pub Kinded : ℕ → Type 0
 Kinded k = (k ≡ 1) ⊎ (k ≡ 2)
 
-pub data Says (t : Triple) : Declared → Type 0 where
-  an-entry : (k n : ℕ) → begins an_entry t ≡ true → is_entry t ≡ true → Kinded k → Says t (Named k n)
-  expects : begins an_expected t ≡ true → t.kind ≡ 3 → Says t Expected
-  neither : Says t Not
+pub data Says (t : Triple) : Option Declared → Type 0 where
+  an-entry : (k n : ℕ) → begins an_entry t ≡ true → is_entry t ≡ true → Kinded k → Says t (Some (Named k n))
+  expects : begins an_expected t ≡ true → t.kind ≡ 3 → Says t (Some Expected)
+  neither : Says t None
 
 kinded-entry : (t : Triple) → Kinded t.kind → is_entry t ≡ true
 kinded-entry t (inl e) = rw e
 kinded-entry t (inr e) = rw e
 
-says-cond : (t : Triple) (b : Bool) {x y : Declared} → (b ≡ true → Says t x) → (b ≡ false → Says t y) → Says t (cond b x y)
+says-cond : (t : Triple) (b : Bool) {x y : Option Declared} → (b ≡ true → Says t x) → (b ≡ false → Says t y) → Says t (cond b x y)
 says-cond t true f g = f refl
 says-cond t false f g = g refl
 
@@ -133,7 +122,7 @@ module _ (ls : List Triple) where
         let g : Forms (get_or ls at no_triple ∷ drop (at + 1) ls) (entries k last ∷ []) = rw (here ls at h) at f in
         go (says k last (get_or ls at no_triple) kd) g.0 g.1
       where
-        go : {d : Declared} → Says (get_or ls at no_triple) d → stands d ≡ true → Forms (drop (at + 1) ls) (entry_due d (Spelt (get_or ls at no_triple)) ++ []) → Rest at
+        go : {d : Option Declared} → Says (get_or ls at no_triple) d → is_some d ≡ true → Forms (drop (at + 1) ls) (entry_due d (Some (get_or ls at no_triple)) ++ []) → Rest at
         go (an-entry k n b e kd) o f =
             let d = one_type an_entry (get_or ls at no_triple) b (entry_row _ (sort-is an_entry (get_or ls at no_triple) b)) in
             let s = split (drop (at + 1) ls) (part a_type ∷ []) (entries k n ∷ []) tt (rw d at f) in
@@ -158,37 +147,37 @@ module _ (ls : List Triple) where
       record { entries = r.typed; expected = r.expected; term = r.term }
 
 -- ---- a sheet that is taken
-pub cond-plan : (b : Bool) (x y : Check) → cond b x y ≡ Plan → (y ≡ Plan → ⊥) → (b ≡ true) × (x ≡ Plan)
+pub cond-plan : (b : Bool) (x y : Result Unit SheetError) → cond b x y ≡ Ok tt → (y ≡ Ok tt → ⊥) → (b ≡ true) × (x ≡ Ok tt)
 cond-plan true x y e n = (refl, e)
 cond-plan false x y e n = absurd (n e)
 
-end-next : (n : ℕ) (r : Got) → fitting (end_of n r) ≡ Plan → r ≡ Next n
-end-next n (Next k) = go (eqb k n) refl
+end-next : (n : ℕ) (r : Result ℕ SheetError) → fitting (end_of n r) ≡ Ok tt → r ≡ Ok n
+end-next n (Ok k) = go (eqb k n) refl
   where
-    go : (b : Bool) → eqb k n ≡ b → fitting (cond b (Next k) (Refused (k + 1))) ≡ Plan → Next k ≡ Next n
-    go true e f = ap Next (eqb-true k n e)
+    go : (b : Bool) → eqb k n ≡ b → fitting (cond b (Ok k) (Err (Unfit (k + 1)))) ≡ Ok tt → ◌≡◌ {A = Result ℕ SheetError} (Ok k) (Ok n)
+    go true e f = ap Ok (eqb-true k n e)
     go false e f = absurd (let z : ◌≡◌ {A = ℕ} 0 1 = cc in omega arith)
-end-next n (Refused l) = λ f. absurd (let z : ◌≡◌ {A = ℕ} 0 1 = cc in omega arith)
+end-next n (Err l) = λ f. absurd (let z : ◌≡◌ {A = ℕ} 0 1 = cc in omega arith)
 
-pub whole-read : (s : List ℕ) → check s ≡ Plan → read_at s (entries 1 0 ∷ []) 0 ≡ Next (length s / line_length)
+pub whole-read : (s : List ℕ) → check s ≡ Ok tt → read_at s (entries 1 0 ∷ []) 0 ≡ Ok (length s / line_length)
 unfolding check read_sheet
 whole-read s e =
     let m = first_misspelt (lines_of s) in
-    let a = cond-plan (length_ok (length s)) _ Length e (λ z. (let y : ◌≡◌ {A = ℕ} 0 1 = cc in omega arith)) in
+    let a = cond-plan (length_ok (length s)) _ (Err Length) e (λ z. (let y : ◌≡◌ {A = ℕ} 0 1 = cc in omega arith)) in
     end-next (length s / line_length) (read_at s (entries 1 0 ∷ []) 0) (fits (ltb m (length s / line_length)) (m + 1) a.1)
   where
-    fits : (b : Bool) (l : ℕ) → cond b (Misspelt l) (fitting (end_of (length s / line_length) (read_at s (entries 1 0 ∷ []) 0))) ≡ Plan
-        → fitting (end_of (length s / line_length) (read_at s (entries 1 0 ∷ []) 0)) ≡ Plan
+    fits : (b : Bool) (l : ℕ) → cond b (Err (Misspelt l)) (fitting (end_of (length s / line_length) (read_at s (entries 1 0 ∷ []) 0))) ≡ Ok tt
+        → fitting (end_of (length s / line_length) (read_at s (entries 1 0 ∷ []) 0)) ≡ Ok tt
     fits true l e = absurd (let z : ◌≡◌ {A = ℕ} 0 1 = cc in omega arith)
     fits false l e = e
 
-pub sheet-forms : (s : List ℕ) → check s ≡ Plan → Forms (triples s) (entries 1 0 ∷ [])
+pub sheet-forms : (s : List ℕ) → check s ≡ Ok tt → Forms (triples s) (entries 1 0 ∷ [])
 unfolding read_at triples lines_of
 sheet-forms s e =
     let n = length s / line_length in
     let k : 0 + length (lines_from s 0 n) ≡ n = zero-add (length (lines_from s 0 n)) ∙ length-lines s 0 n in
-    let r : read (lines_from s 0 n) (entries 1 0 ∷ []) 0 ≡ Next (0 + length (lines_from s 0 n)) = rw (sub-zero n) at (whole-read s e) ∙ ap Next (sym k) in
+    let r : read (lines_from s 0 n) (entries 1 0 ∷ []) 0 ≡ Ok (0 + length (lines_from s 0 n)) = rw (sub-zero n) at (whole-read s e) ∙ ap Ok (sym k) in
     read-forms (lines_from s 0 n) (entries 1 0 ∷ []) 0 r
 
-pub formed : (s : List ℕ) → check s ≡ Plan → Formed (triples s)
+pub formed : (s : List ℕ) → check s ≡ Ok tt → Formed (triples s)
 formed s e = lines-formed (triples s) (sheet-forms s e)

@@ -1,21 +1,12 @@
 -- A sheet that is taken is formed: `formed`. A whole part splits into its parts: `split`. Assumes nothing.
-use mathlib.Core.Path.{◌≡◌, refl, sym, ap, ◌∙◌, subst⁻¹}
-use mathlib.Core.Bool.{Bool, true, false, cond}
-use mathlib.Core.List.{List, [], ◌∷◌, ◌++◌, append_assoc, map}
-use Prim.Native.Nat.{ℕ, zero, suc, ◌+◌, ◌*◌, ◌≤◌}
-use native.Mathlib.Omega.{arith}
-use lib.ListN.{length, replicate, length-append, length-replicate}
-use lib.Dec.{eqb, leb}
-use borrow.Author.Tests.{leb-true}
+use Rattle.std.proofs.Common.{Option, Some, None, Ok, is_some, ◌≡◌, refl, sym, ap, ◌∙◌, Bool, true, false, cond, List, [], ◌∷◌, ◌++◌, append_assoc, map, ℕ, zero, suc, ◌+◌, ◌*◌, ◌≤◌, arith, length, replicate, length-append, eqb, leb, leb-true}
+use mathlib.Core.Path.{subst⁻¹}
+use lib.ListN.{length-replicate}
 use Rattle.nodes.specs.Parts.{take_parts, drop_parts}
 use Rattle.spelling.specs.declared.Triple.{Triple}
-use Rattle.spelling.specs.declared.Line.{Line}
-use Rattle.spelling.specs.declared.Line.TheVariants.{Spelt, Misspelt}
-use Rattle.kinds.specs.declared.Head.TheVariants.{Parts, No}
-use Rattle.kinds.specs.Kinds.{a_type, a_term, a_pattern, an_arm, row_of, begins, head_of, each_parts, parts_of, table}
+use Rattle.kinds.specs.Kinds.{a_type, a_term, a_pattern, an_arm, row_of, begins, head_of, each_parts, parts_of, table, parts_by}
 use Rattle.kinds.proofs.Rows.{row-passes}
-use Rattle.grammar.specs.Grammar.{Item, part, entries, ok, due, arms, repeated, following, fits, parts_due, read}
-use Rattle.grammar.specs.declared.Got.TheVariants.{Next}
+use Rattle.grammar.specs.Grammar.{Item, part, entries, ok, due, arms, repeated, following, parts_due, read}
 use Rattle.grammar.proofs.Laws.{one, no_line, bounds}
 use Rattle.sheet.specs.Plan.{triple_of}
 use Rattle.sheet.specs.Form.{Forms}
@@ -79,19 +70,19 @@ parts-following ty te e n =
     (parts-append (replicate te (part a_term)) (repeated e n) (parts-replicate te a_term) (parts-repeated e n))
 
 -- what follows a line that begins a part
-pub due-following : (x : ℕ) (t : Triple) → ok (part x) (Spelt t) ≡ true
-    → (begins x t ≡ true) × (due (part x) (Spelt t) ≡ following (row_of t.kind).types (row_of t.kind).terms (row_of t.kind).each t.count)
+pub due-following : (x : ℕ) (t : Triple) → ok (part x) (Some t) ≡ true
+    → (begins x t ≡ true) × (due (part x) (Some t) ≡ following (row_of t.kind).types (row_of t.kind).terms (row_of t.kind).each t.count)
 unfolding head_of
 due-following x t = go (begins x t) refl
   where
-    go : (b : Bool) → begins x t ≡ b → fits (cond b (Parts (row_of t.kind).types (row_of t.kind).terms (row_of t.kind).each t.count) No) ≡ true
+    go : (b : Bool) → begins x t ≡ b → is_some (cond b (Some (parts_by (row_of t.kind) t.count)) None) ≡ true
         → (begins x t ≡ true)
-        × (parts_due (cond b (Parts (row_of t.kind).types (row_of t.kind).terms (row_of t.kind).each t.count) No)
+        × (parts_due (cond b (Some (parts_by (row_of t.kind) t.count)) None)
         ≡ following (row_of t.kind).types (row_of t.kind).terms (row_of t.kind).each t.count)
     go true q e = (q, refl)
     go false q e = absurd (let z : ◌≡◌ {A = ℕ} 0 1 = cc in omega arith)
 
-pub due-parts : (x : ℕ) (t : Triple) → ok (part x) (Spelt t) ≡ true → (length (due (part x) (Spelt t)) ≡ parts_of t) × AllParts (due (part x) (Spelt t))
+pub due-parts : (x : ℕ) (t : Triple) → ok (part x) (Some t) ≡ true → (length (due (part x) (Some t)) ≡ parts_of t) × AllParts (due (part x) (Some t))
 unfolding parts_of
 due-parts x t e =
     let d = (due-following x t e).1 in
@@ -107,7 +98,7 @@ split [] [] b p f = (tt, f)
 split [] (x ∷ a) b p f = absurd f
 split (t ∷ ts) [] b p f = (tt, f)
 split (t ∷ ts) (part x ∷ a) b p f =
-    let d : List Item = due (part x) (Spelt t) in
+    let d : List Item = due (part x) (Some t) in
     let n = due-parts x t f.0 in
     let l : length (d ++ a) ≡ parts_of t + length a = length-append d a ∙ ap (λ (k : ℕ). k + length a) n.0 in
     let r = split ts (d ++ a) b (parts-append d a n.1 p) (forms-move ts (sym (append_assoc d a b)) f.1) in
@@ -115,19 +106,19 @@ split (t ∷ ts) (part x ∷ a) b p f =
 split (t ∷ ts) (entries k n ∷ a) b p f = absurd p
 
 -- ---- lines that were read to their end
-pub misspelt-none : (x : Item) → ok x Misspelt ≡ true → ⊥
+pub misspelt-none : (x : Item) → ok x None ≡ true → ⊥
 misspelt-none (part k) e = let z : ◌≡◌ {A = ℕ} 0 1 = cc in omega arith
 misspelt-none (entries k n) e = let z : ◌≡◌ {A = ℕ} 0 1 = cc in omega arith
 
-pub read-forms : (ls : List Line) (ahead : List Item) (at : ℕ) → read ls ahead at ≡ Next (at + length ls) → Forms (map triple_of ls) ahead
+pub read-forms : (ls : List (Option Triple)) (ahead : List Item) (at : ℕ) → read ls ahead at ≡ Ok (at + length ls) → Forms (map triple_of ls) ahead
 read-forms [] [] at e = tt
 read-forms [] (x ∷ ahead) at e = absurd (no_line x ahead at _ e)
 read-forms (l ∷ ls) [] at e = let h = bounds-nil in absurd h
   where
     bounds-nil : ⊥
     bounds-nil = let z : at ≡ at + suc (length ls) = cc (Rattle.grammar.proofs.Laws.nothing (l ∷ ls) at) in omega arith
-read-forms (Spelt t ∷ ls) (x ∷ ahead) at e =
-    let o = one (Spelt t) ls x ahead at (at + suc (length ls)) e in
+read-forms (Some t ∷ ls) (x ∷ ahead) at e =
+    let o = one (Some t) ls x ahead at (at + suc (length ls)) e in
     let k : at + suc (length ls) ≡ at + 1 + length ls = omega arith in
-    (o.0, read-forms ls (due x (Spelt t) ++ ahead) (at + 1) (o.1 ∙ ap Next k))
-read-forms (Misspelt ∷ ls) (x ∷ ahead) at e = absurd (misspelt-none x (one Misspelt ls x ahead at (at + suc (length ls)) e).0)
+    (o.0, read-forms ls (due x (Some t) ++ ahead) (at + 1) (o.1 ∙ ap Ok k))
+read-forms (None ∷ ls) (x ∷ ahead) at e = absurd (misspelt-none x (one None ls x ahead at (at + suc (length ls)) e).0)

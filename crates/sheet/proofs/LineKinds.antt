@@ -1,23 +1,14 @@
 -- Which kinds the lines of a sheet that is taken have: never that of an output. Assumes nothing.
-use mathlib.Core.Path.{◌≡◌, refl, sym}
-use mathlib.Core.Logic.{◌≢◌, inl}
-use mathlib.Core.Bool.{Bool, true, false, not, cond, ◌||◌, and-eq-true_iff}
-use mathlib.Core.List.{List, [], ◌∷◌, ◌++◌}
-use Prim.Native.Nat.{ℕ, zero, suc}
-use native.Mathlib.Omega.{arith}
-use lib.ListN.{replicate}
-use lib.Dec.{eqb}
-use borrow.Author.Tests.{eqb-true, eqb-false, ne_eqb}
+use Rattle.kinds.specs.declared.Parts.{Parts}
+use Rattle.std.proofs.Common.{Ok, Some, Option, None, is_some, ◌≡◌, refl, sym, ◌≢◌, inl, Bool, true, false, not, cond, ◌||◌, List, [], ◌∷◌, ◌++◌, ℕ, zero, suc, arith, replicate, eqb, eqb-true, ne_eqb}
+use mathlib.Core.Bool.{and-eq-true_iff}
+use borrow.Author.Tests.{eqb-false}
 use Rattle.nodes.specs.Lists.{All}
 use Rattle.nodes.proofs.ListLaws.{cond_ind, all_append}
 use Rattle.spelling.specs.declared.Triple.{Triple}
-use Rattle.spelling.specs.declared.Line.TheVariants.{Spelt}
-use Rattle.kinds.specs.declared.Head.{Head}
-use Rattle.kinds.specs.declared.Head.TheVariants.{Parts, No}
-use Rattle.kinds.specs.Kinds.{a_type, a_term, a_pattern, an_arm, an_entry, an_expected, table, find, row_of, begins, head_of}
+use Rattle.kinds.specs.Kinds.{a_type, a_term, a_pattern, an_arm, an_entry, an_expected, table, find, row_of, begins, head_of, parts_by}
 use Rattle.grammar.specs.declared.Declared.{Declared}
-use Rattle.grammar.specs.declared.Check.TheVariants.{Plan}
-use Rattle.grammar.specs.Grammar.{Item, part, entries, ok, due, arms, repeated, following, fits, parts_due, stands, entry_due}
+use Rattle.grammar.specs.Grammar.{Item, part, entries, ok, due, arms, repeated, following, parts_due, entry_due}
 use Rattle.grammar.specs.Check.{check}
 use Rattle.sheet.specs.Plan.{triples, is_entry, is_plain}
 use Rattle.sheet.specs.Form.{Forms}
@@ -47,16 +38,16 @@ sorted-following ty te e n =
     (λ _. cond_ind (All Sorted) (eqb e a_pattern) (λ _. sorted-replicate n a_pattern (omega arith))
     (λ _. cond_ind (All Sorted) (eqb e an_arm) (λ _. sorted-arms n) (λ _. tt))))))
 
-sorted_head : (h : Head) → All Sorted (parts_due h)
-sorted_head (Parts ty te e n) = sorted-following ty te e n
-sorted_head No = tt
+sorted_head : (h : Option Parts) → All Sorted (parts_due h)
+sorted_head (Some p) = sorted-following p.types p.terms p.each p.count
+sorted_head None = tt
 
-sorted-entry : (t : Triple) {d : Declared} → Says t d → All Sorted (entry_due d (Spelt t))
+sorted-entry : (t : Triple) {d : Option Declared} → Says t d → All Sorted (entry_due d (Some t))
 sorted-entry t (an-entry k n b e kd) = all_append Sorted (parts_due (head_of an_entry t)) _ (sorted_head (head_of an_entry t)) (kd, tt)
 sorted-entry t (expects b e) = all_append Sorted (parts_due (head_of an_expected t)) _ (sorted_head (head_of an_expected t)) (omega arith, tt)
 sorted-entry t neither = tt
 
-pub sorted-due : (x : Item) (t : Triple) → Sorted x → All Sorted (due x (Spelt t))
+pub sorted-due : (x : Item) (t : Triple) → Sorted x → All Sorted (due x (Some t))
 sorted-due (part x) t h = sorted_head (head_of x t)
 sorted-due (entries k n) t h = sorted-entry t (says k n t h)
 
@@ -67,23 +58,23 @@ begins-kind x t h e k =
     let s : (row_of 17).sort ≡ x = rw k at (eqb-true (row_of t.kind).sort x ((and-eq-true_iff (eqb (row_of t.kind).sort x) _).0 e).0) in
     h (sym s)
 
-head-kind : (x : ℕ) (t : Triple) → x ≢ 0 → fits (head_of x t) ≡ true → t.kind ≢ 17
+head-kind : (x : ℕ) (t : Triple) → x ≢ 0 → is_some (head_of x t) ≡ true → t.kind ≢ 17
 unfolding head_of
 head-kind x t h = go (begins x t) refl
   where
     go : (b : Bool) → begins x t ≡ b
-        → fits (cond b (Parts (row_of t.kind).types (row_of t.kind).terms (row_of t.kind).each t.count) No) ≡ true → t.kind ≢ 17
+        → is_some (cond b (Some (parts_by (row_of t.kind) t.count)) None) ≡ true → t.kind ≢ 17
     go true e f = begins-kind x t h e
     go false e f = absurd (let z : ◌≡◌ {A = ℕ} 0 1 = cc in omega arith)
 
-entry-kind : {t : Triple} {d : Declared} → Says t d → stands d ≡ true → t.kind ≢ 17
+entry-kind : {t : Triple} {d : Option Declared} → Says t d → is_some d ≡ true → t.kind ≢ 17
 entry-kind {t} (an-entry k n b e kd) o q =
     let z : is_entry t ≡ false = rw q in
     let y : ◌≡◌ {A = ℕ} 0 1 = cc in omega arith
 entry-kind (expects b e) o q = omega arith
 entry-kind neither o q = let z : ◌≡◌ {A = ℕ} 0 1 = cc in omega arith
 
-ok-kind : (x : Item) (t : Triple) → Sorted x → ok x (Spelt t) ≡ true → t.kind ≢ 17
+ok-kind : (x : Item) (t : Triple) → Sorted x → ok x (Some t) ≡ true → t.kind ≢ 17
 ok-kind (part x) t h e = head-kind x t h e
 ok-kind (entries k n) t h e = entry-kind (says k n t h) e
 
@@ -91,10 +82,10 @@ forms-kinds : (ts : List Triple) (ahead : List Item) → All Sorted ahead → Fo
 forms-kinds [] ahead s f = tt
 forms-kinds (t ∷ ts) [] s f = absurd f
 forms-kinds (t ∷ ts) (x ∷ ahead) s f =
-    (ok-kind x t s.0 f.0, forms-kinds ts (due x (Spelt t) ++ ahead) (all_append Sorted (due x (Spelt t)) ahead (sorted-due x t s.0) s.1) f.1)
+    (ok-kind x t s.0 f.0, forms-kinds ts (due x (Some t) ++ ahead) (all_append Sorted (due x (Some t)) ahead (sorted-due x t s.0) s.1) f.1)
 
 -- no line of a sheet that is taken has the kind of an unknown
-pub no-unknown : (s : List ℕ) → check s ≡ Plan → All (λ t. t.kind ≢ 17) (triples s)
+pub no-unknown : (s : List ℕ) → check s ≡ Ok tt → All (λ t. t.kind ≢ 17) (triples s)
 no-unknown s e = forms-kinds (triples s) (entries 1 0 ∷ []) (inl refl, tt) (sheet-forms s e)
 
 -- plain lines: none of kind 14 or 25

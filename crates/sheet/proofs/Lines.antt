@@ -1,24 +1,19 @@
 -- Laws of `triples` and `part_line`. Assumes nothing.
-use mathlib.Core.Path.{◌≡◌, refl, sym, ap, ap₂, ◌∙◌}
-use mathlib.Core.List.{List, ◌∷◌, ◌++◌}
-use Prim.Native.Nat.{ℕ, suc, ◌+◌, ◌-◌, ◌/◌, ◌≤◌, ◌<◌}
-use native.Mathlib.Nat.{add-zero}
-use native.Mathlib.Numerals.{add-one}
-use native.Mathlib.Omega.{arith}
-use lib.ListN.{length, get_or, drop, length-map, length-append, length-drop, get_or-map, drop_of_length-le}
-use lib.Seq.{drop-cons, drop-drop}
+use Rattle.std.proofs.Common.{Option, Some, None, unwrap_or, ◌≡◌, refl, sym, ap, ap₂, ◌∙◌, List, ◌∷◌, ◌++◌, ℕ, suc, ◌+◌, ◌-◌, ◌/◌, ◌≤◌, ◌<◌, add-zero, add-one, arith, length, get_or, drop, length-append, length-drop, drop_of_length-le, drop-cons, drop-drop}
+use lib.ListN.{length-map, get_or-map}
 use Rattle.sizes.specs.Sizes.{line_length}
 use Rattle.nodes.specs.Parts.{take_parts, drop_parts}
-use Rattle.nodes.proofs.PartLaws.{take_none, take-turn, take_all, take-take, drop-take, take-drop, length-take, is-drop}
+use Rattle.nodes.proofs.PartLaws.{take_none, take-turn, take-take, drop-take, take-drop, length-take, is-drop}
 use Rattle.spelling.specs.declared.Triple.{Triple}
-use Rattle.spelling.specs.declared.Line.{Line}
-use Rattle.spelling.specs.declared.Line.TheVariants.{Spelt, Misspelt}
 use Rattle.spelling.specs.Spelling.{line_at, lines_of}
 use Rattle.spelling.proofs.Laws.{length-lines, line-of-sheet}
 use Rattle.spelling.proofs.Texts.{fair}
 use Rattle.kinds.specs.Kinds.{parts_of}
-use Rattle.kinds.proofs.Rows.{few-parts}
 use Rattle.sheet.specs.Plan.{no_triple, triple_of, triples, part_line}
+
+or-none : (l : Option Triple) → unwrap_or l no_triple ≡ triple_of l
+or-none (Some t) = refl
+or-none None = refl
 
 module _ (s : List ℕ) where
   pub length-triples : length (triples s) ≡ length s / line_length
@@ -27,11 +22,14 @@ module _ (s : List ℕ) where
 
   pub triple-is : (i : ℕ) → get_or (triples s) i no_triple ≡ triple_of (line_at s i)
   unfolding triples
-  triple-is i = get_or-map triple_of (lines_of s) i Misspelt ∙ ap triple_of (line-of-sheet s i)
+  triple-is i = get_or-map triple_of (lines_of s) i None ∙ ap triple_of (line-of-sheet s i)
 
-  digits_of : (i : ℕ) (l : Line) → line_at s i ≡ l → ((triple_of l).kind < 1000) × ((triple_of l).count < 100000)
-  digits_of i (Spelt t) e = ((fair s i t e).kind, (fair s i t e).count)
-  digits_of i Misspelt e = (omega arith, omega arith)
+  pub line-said : (i : ℕ) → unwrap_or (line_at s i) no_triple ≡ get_or (triples s) i no_triple
+  line-said i = or-none (line_at s i) ∙ sym (triple-is i)
+
+  digits_of : (i : ℕ) (l : Option Triple) → line_at s i ≡ l → ((triple_of l).kind < 1000) × ((triple_of l).count < 100000)
+  digits_of i (Some t) e = ((fair s i t e).kind, (fair s i t e).count)
+  digits_of i None e = (omega arith, omega arith)
 
   -- a kind has three digits at most, a count five
   pub kind-small : (i : ℕ) → (get_or (triples s) i no_triple).kind < 1000
@@ -39,9 +37,6 @@ module _ (s : List ℕ) where
 
   pub count_small : (i : ℕ) → (get_or (triples s) i no_triple).count < 100000
   count_small i = rw (triple-is i) (digits_of i (line_at s i) refl).1
-
-  pub parts-small : (i : ℕ) → parts_of (get_or (triples s) i no_triple) ≤ 200003
-  parts-small i = few-parts (get_or (triples s) i no_triple) (count_small i)
 
 module _ (ls : List Triple) (at n : ℕ) where
   pub line-none : n ≡ 0 → at ≡ part_line ls at n
@@ -51,12 +46,6 @@ module _ (ls : List Triple) (at n : ℕ) where
   pub line-past : length ls ≤ at → at ≡ part_line ls at n
   unfolding part_line
   line-past h = rw (drop_of_length-le ls h, add-zero)
-
-  pub line-all : at ≤ length ls → length ls - at ≤ n → length ls ≡ part_line ls at n
-  unfolding part_line
-  line-all h k =
-      let e : length (drop at ls) ≡ length ls - at = length-drop at ls in
-      rw (take_all parts_of (drop at ls) n (omega arith), e) (omega arith)
 
   pub line-turn : at < length ls → (n ≡ 0 → ⊥) → part_line ls (at + 1) (n - 1 + parts_of (get_or ls at no_triple)) ≡ part_line ls at n
   unfolding part_line
@@ -83,12 +72,6 @@ module _ (ls : List Triple) (at n : ℕ) where
   unfolding part_line
   line-from = omega arith
 
-  pub line-beyond : at < length ls → (n ≡ 0 → ⊥) → at < part_line ls at n
-  unfolding part_line
-  line-beyond h k =
-      let e : take_parts parts_of (drop at ls) n ≡ get_or ls at no_triple ∷ take_parts parts_of (drop (suc at) ls) (n - 1 + parts_of (get_or ls at no_triple)) = rw (drop-cons ls at no_triple h) (take-turn parts_of (get_or ls at no_triple) (drop (suc at) ls) n k) in
-      rw e (omega arith)
-
   pub line-within : at ≤ length ls + 1 → part_line ls at n ≤ length ls + 1
   unfolding part_line
   line-within h =
@@ -111,3 +94,9 @@ module _ (ls : List Triple) (at n : ℕ) where
   pub drop-line : drop (part_line ls at n) ls ≡ drop_parts parts_of (drop at ls) n
   unfolding part_line
   drop-line = sym (is-drop parts_of (drop at ls) n ∙ drop-drop (length (take_parts parts_of (drop at ls) n)) at ls)
+
+-- part i of n: it ends at line `end`
+pub line_next : (ls : List Triple) (at n i : ℕ) {end : ℕ} → i < n → end ≡ part_line ls at 1 → part_line ls end (n - (i + 1)) ≡ part_line ls at (n - i)
+line_next ls at n i h e =
+    let k : n - (i + 1) ≡ n - i - 1 = omega arith in
+    rw (e, k) (line-hop ls at (n - i) (omega arith))

@@ -1,22 +1,16 @@
 -- Laws of links: those that `link_entries` makes lead to every entry. Assumes nothing.
-use mathlib.Core.Path.{◌≡◌, refl, sym, ap, ap₂, ◌∙◌, subst⁻¹}
-use mathlib.Core.Bool.{Bool, true, false, cond, ◌&&◌, false≢true}
-use mathlib.Core.List.{List, []}
-use Prim.Native.Nat.{ℕ, zero, suc, ◌+◌, ◌*◌, ◌-◌, ◌/◌, ◌%◌, ◌≤◌, ◌<◌}
-use native.Mathlib.Nat.{mod-lt}
-use native.Mathlib.Omega.{arith}
-use lib.Dec.{ltb, eqb}
-use borrow.Author.Tests.{eqb-true, eqb-false, lt-ltb, le-ltb, eq-eqb, ne_eqb}
-use lib.ListN.{length, get_or, set, length-set}
-use lib.Seq.{get_or-set_same, get_or-set_other, ext_get_or}
+use Rattle.sheet.specs.declared.Entry.{Entry}
+use Rattle.sheet.specs.declared.Extent.{Extent}
+use Rattle.std.proofs.Common.{Option, Some, None, is_some, ◌≡◌, refl, sym, ap, ap₂, ◌∙◌, Bool, true, false, not, cond, ◌&&◌, List, [], ℕ, zero, suc, ◌+◌, ◌*◌, ◌-◌, ◌/◌, ◌%◌, ◌≤◌, ◌<◌, mod-lt, arith, ltb, eqb, eqb-true, lt-ltb, le-ltb, ne_eqb, length, get_or, set, length-set, get_or-set_same, get_or-set_other, ext_get_or}
+use mathlib.Core.Path.{subst⁻¹}
+use mathlib.Core.Bool.{false≢true}
+use borrow.Author.Tests.{eqb-false}
 use Rattle.spelling.specs.declared.Triple.{Triple}
-use Rattle.sheet.specs.declared.Found.{Found}
-use Rattle.sheet.specs.declared.Found.TheVariants.{At, Nothing}
 use Rattle.sheet.specs.Plan.{no_triple, part_line, is_entry, named, Declaration, find_in, find_entry}
-use Rattle.sheet.specs.Rows.{rows, row_triple, line_count, EndsFrom, first_at, next_at, linked_from, linked, placed, Linked, in_front, link_entry, Unlinked, link_all}
+use Rattle.sheet.specs.Rows.{rows, row_triple, line_count, EndsFrom, first_at, next_at, linked_from, linked, some_line, placed, Linked, in_front, link_entry, Unlinked, link_all}
 use Rattle.sheet.proofs.RowLaws.{length-rows, row_is}
 use Rattle.sheet.proofs.Lines.{line-from, line-inside}
-use Rattle.sheet.proofs.Declarations.{from, from_past, from-none, from_one, find-hit, find-turn, find_past}
+use Rattle.sheet.proofs.Declarations.{from, from_one, EntryAt, find-hit, find-turn, find_past}
 
 -- ---- what a store behind the rows leaves
 module _ (d : List ℕ) (j v : ℕ) (h : 2 * line_count d ≤ j) where
@@ -127,11 +121,11 @@ module _ (d : List ℕ) (falls : Falls d) (k x : ℕ) where
 
 -- ---- linking entry by entry
 -- what the links say, else what is left of the entries
-abbrev first_of : Found → Found → Found
-first_of Nothing r = r
-first_of (At l n) r = At l n
+abbrev first_of : Option Extent → Option Extent → Option Extent
+first_of None r = r
+first_of (Some e) r = Some e
 
-settled : (ls : List Triple) (q : ℕ) → eqb q 0 ≡ false → (r r' : Found) → first_of (placed ls q) r ≡ first_of (placed ls q) r'
+settled : (ls : List Triple) (q : ℕ) → eqb q 0 ≡ false → (r r' : Option Extent) → first_of (placed ls q) r ≡ first_of (placed ls q) r'
 settled ls zero e r r' = absurd (eqb-false 0 0 e refl)
 settled ls (suc q) e r r' = refl
 
@@ -160,11 +154,11 @@ linking-start d e u =
       rest = λ k x m h l. rw (n, u.none (x % line_count d) (mod-lt x (omega arith)), from_nothing m d k x) (from_first (rows d) k x);
     }
 
-done-rest : (f : Found) → first_of f Nothing ≡ f
-done-rest Nothing = refl
-done-rest (At l n) = refl
+done-rest : (f : Option Extent) → first_of f None ≡ f
+done-rest None = refl
+done-rest (Some e) = refl
 
-none : (ls : List Triple) (at : ℕ) → from ls at ≡ [] → (k x : ℕ) → Nothing ≡ find_in k x (from ls at)
+none : (ls : List Triple) (at : ℕ) → from ls at ≡ [] → (k x : ℕ) → None ≡ find_in k x (from ls at)
 unfolding find_in
 none ls at e k x = rw e
 
@@ -306,7 +300,7 @@ module _ {ls : List Triple} {d : List ℕ} {at : ℕ} (L : Linking ls d at) (h :
 
   -- what is looked for stands in front
   front-hit : eqb (linked d t.kind t.value) 0 ≡ true → (k x m : ℕ) → named k x t ≡ true → at ≤ m
-      → At (at + 1) (next - (at + 1)) ≡ find_entry k x ls
+      → Some (record { line = (at + 1); count = (next - (at + 1)) }) ≡ find_entry k x ls
   front-hit e k x m q i =
       let w = named-is k x t q in
       let c = count L in
@@ -362,7 +356,7 @@ module _ {ls : List Triple} {d : List ℕ} {at : ℕ} (L : Linking ls d at) (h :
         let j = mod-lt x {m = length ls} (omega arith) in
         let g = first-low w (omega arith) in
         let f : linked_from m d₁ k x (first_at d₁ w) ≡ linked_from m d k x (first_at d w) = ap (linked_from m d₁ k x) (first-other d slot at slot-within i w (omega arith) ne) ∙ alike-front k x m (first_at d w) g in
-        ap₂ (λ (y : ℕ) (r : Found). first_of (placed ls y) r) f (find-turn ls at h k x entry q) ∙ L.rest k x m (omega arith) (omega arith)
+        ap₂ (λ (y : ℕ) (r : Option Extent). first_of (placed ls y) r) f (find-turn ls at h k x entry q) ∙ L.rest k x m (omega arith) (omega arith)
 
     front_rest : Rest d₁ k x m
     front_rest = go (eqb w slot) refl
@@ -415,39 +409,44 @@ module _ {ls : List Triple} {d : List ℕ} {at : ℕ} (L : Linking ls d at) (h :
       go false e = linking-kept e
 
 -- ---- `link_entry` and `link_entries`, exit by exit
-module _ (d : List ℕ) (at : ℕ) {u : Triple} {q : ℕ} (e : u ≡ get_or (rows d) at no_triple) (p : q ≡ linked d u.kind u.value) where
-  abbrev by-line : Triple → List ℕ
-  by-line v = cond (eqb (linked d v.kind v.value) 0) (in_front d (v.value % line_count d) at) d
+pub a_line : (at : ℕ) → (at ≡ 0 → ⊥) → Some at ≡ some_line at
+a_line zero z = absurd (z refl)
+a_line (suc i) z = refl
 
-  pub link-new : q ≡ 0 → {j : ℕ} → j ≡ u.value % line_count d → in_front d j at ≡ link_entry d at
-  link-new z s =
-      let b = eq-eqb (linked d u.kind u.value) 0 (sym p ∙ z) in
-      ap (λ (i : ℕ). in_front d i at) s ∙ ap (λ (y : Bool). cond y (in_front d (u.value % line_count d) at) d) (sym b) ∙ ap by-line e
+some-zero : (q : ℕ) → is_some (some_line q) ≡ not (eqb q 0)
+some-zero zero = refl
+some-zero (suc i) = sym (ap not (ne_eqb (suc i) 0 (λ e. omega arith)))
 
-  pub link-old : (q ≡ 0 → ⊥) → d ≡ link_entry d at
-  link-old z =
-      let b = ne_eqb (linked d u.kind u.value) 0 (λ y. z (p ∙ y)) in
-      ap (λ (y : Bool). cond y (in_front d (u.value % line_count d) at) d) (sym b) ∙ ap by-line e
+not-same : (a b : Bool) → not a ≡ not b → a ≡ b
+not-same true true e = refl
+not-same true false e = absurd (false≢true e)
+not-same false true e = absurd (false≢true (sym e))
+not-same false false e = refl
+
+module _ (d : List ℕ) (at : ℕ) {u : Triple} (e : u ≡ get_or (rows d) at no_triple) {q : Option ℕ} (p : q ≡ some_line (linked d u.kind u.value)) {r b : Bool} (tested : is_some q ≡ not r) (f : r ≡ b) where
+  abbrev by-line : Bool → List ℕ
+  by-line y = cond y (in_front d (u.value % line_count d) at) d
+
+  linked-by : by-line b ≡ link_entry d at
+  linked-by =
+      ap by-line (sym f ∙ not-same r (eqb (linked d u.kind u.value) 0) (sym tested ∙ ap is_some p ∙ some-zero (linked d u.kind u.value)))
+      ∙ ap (λ (v : Triple). cond (eqb (linked d v.kind v.value) 0) (in_front d (v.value % line_count d) at) d) e
+
+pub link-new : (d : List ℕ) (at : ℕ) {u : Triple} → u ≡ get_or (rows d) at no_triple → {q : Option ℕ} → q ≡ some_line (linked d u.kind u.value) → {r : Bool} → is_some q ≡ not r → r ≡ true → {j : ℕ} → j ≡ u.value % line_count d
+    → in_front d j at ≡ link_entry d at
+link-new d at e p t f s = ap (λ (i : ℕ). in_front d i at) s ∙ linked-by d at e p t f
+
+pub link-old : (d : List ℕ) (at : ℕ) {u : Triple} → u ≡ get_or (rows d) at no_triple → {q : Option ℕ} → q ≡ some_line (linked d u.kind u.value) → {r : Bool} → is_some q ≡ not r → r ≡ false → d ≡ link_entry d at
+link-old d at e p t f = linked-by d at e p t f
 
 module _ {ls : List Triple} {d : List ℕ} {at : ℕ} (L : Linking ls d at) where
-  pub line-here : {u : Triple} → u ≡ get_or (rows d) at no_triple → u ≡ get_or ls at no_triple
-  line-here e = e ∙ ap (λ (ts : List Triple). get_or ts at no_triple) L.same
-
-  pub linking-next : at < length ls → is_entry (get_or ls at no_triple) ≡ true → {d' : List ℕ} → d' ≡ link_entry d at → {r : ℕ} → ((ms : List Triple) → length ms ≡ length ls → EndsFrom ms d' (at + 1) → r ≡ part_line ms (at + 1) 1)
-      → Linking ls d' r × (at < r) × (link_all d' (from ls r) ≡ link_all d (from ls at))
-  linking-next h entry {d'} e {r} f =
-      let N : Linking ls d' (part_line ls (at + 1) 1) = subst⁻¹ (λ (x : List ℕ). Linking ls x (part_line ls (at + 1) 1)) e (linking-turn L h entry) in
-      let g = f ls refl (λ i l j. N.ends i (omega arith) j) in
+  pub linking-next : {e : Entry} → EntryAt ls at e → {d' : List ℕ} → d' ≡ link_entry d at → Linking ls d' e.end × (at < e.end) × (link_all d' (from ls e.end) ≡ link_all d (from ls at))
+  linking-next {e} E {d'} f =
+      let N : Linking ls d' (part_line ls (at + 1) 1) = subst⁻¹ (λ (x : List ℕ). Linking ls x (part_line ls (at + 1) 1)) f (linking-turn L E.within E.entry) in
       let u = line-from ls (at + 1) 1 in
-      rw g (N, omega arith, ap (λ (x : List ℕ). link_all x (from ls (part_line ls (at + 1) 1))) e ∙ all-turn ls d at h entry)
+      rw E.same (N, omega arith, ap (λ (x : List ℕ). link_all x (from ls (part_line ls (at + 1) 1))) f ∙ all-turn ls d at E.within E.entry)
 
-  pub linking-none : at < length ls → is_entry (get_or ls at no_triple) ≡ false → (rows d ≡ ls) × Linked d × (d ≡ link_all d (from ls at))
-  linking-none h e = linking-done L (from-none ls at h e)
-
-  pub linking-past : length ls ≤ at → (rows d ≡ ls) × Linked d × (d ≡ link_all d (from ls at))
-  linking-past h = linking-done L (from_past ls at h)
-
--- where the type of an entry stands
-pub placed_at : (ls : List Triple) (at : ℕ) {end : ℕ} → (at ≡ 0 → ⊥) → end ≡ part_line ls at 1 → At at (end - at) ≡ placed ls at
-placed_at ls zero z e = absurd (z refl)
-placed_at ls (suc i) z e = rw e
+-- where the type of an entry stands that was found
+pub placed_at : (ls : List Triple) (q : ℕ) {at end : ℕ} → some_line q ≡ Some at → end ≡ part_line ls at 1 → Some (record { line = at; count = (end - at) }) ≡ placed ls q
+placed_at ls zero s e = cc
+placed_at ls (suc i) {at} s e = let k : suc i ≡ at = cc in rw (e, ← k)

@@ -1,23 +1,19 @@
 -- Laws of the plain mark. Assumes nothing.
-use mathlib.Core.Path.{◌≡◌, refl, sym, ap, ap₂, ◌∙◌}
-use mathlib.Core.Bool.{Bool, true, false, not, cond, ◌&&◌, ◌||◌, and-eq-true_iff, and-true, and-false, or-true, or-false, or_assoc, or_comm}
-use mathlib.Core.List.{List, [], ◌∷◌}
-use Prim.Native.Nat.{ℕ, zero, suc, ◌+◌, ◌-◌, ◌≤◌, ◌<◌}
-use native.Mathlib.Numerals.{add-one}
-use native.Mathlib.Omega.{arith}
-use lib.ListN.{length, get_or, set, take, drop, drop_of_length-le, length-drop, replicate, length-replicate, length-set, get_or-eq_default}
-use lib.Dec.{eqb, leb}
-use lib.Seq.{drop-cons, take_all, set_out, get_or-set_same, get_or-set_other}
-use borrow.Author.Tests.{eq-eqb, ne_eqb, eqb-true, eqb-false, leb-true, leb-false}
+use Rattle.std.proofs.Common.{◌≡◌, refl, sym, ap, ap₂, ◌∙◌, Bool, true, false, not, cond, ◌&&◌, ◌||◌, List, [], ◌∷◌, map, ℕ, zero, suc, ◌+◌, ◌-◌, ◌≤◌, ◌<◌, add-one, arith, length, get_or, set, take, drop, drop_of_length-le, length-drop, replicate, length-set, eqb, leb, drop-cons, take_all, get_or-set_same, get_or-set_other, eqb-true, leb-true, leb-false}
+use mathlib.Core.Bool.{and-eq-true_iff, and-true, and-false, or-true, or-false, or_assoc, or_comm}
+use Rattle.std.specs.List.{list_all, range_with_len}
+use lib.ListN.{length-replicate, get_or-eq_default}
+use borrow.Author.Tests.{eqb-false}
 use Rattle.nodes.specs.Parts.{take_parts}
 use Rattle.nodes.proofs.PartLaws.{is-take}
 use Rattle.spelling.specs.declared.Triple.{Triple}
 use Rattle.kinds.specs.Kinds.{parts_of}
-use Rattle.sheet.specs.Plan.{no_triple, is_entry, Declaration, declarations, part_line, places_of, is_plain, is_use, names, plain_entries, plain_plan}
+use Rattle.sheet.specs.declared.Entry.{Entry}
+use Rattle.sheet.specs.Rows.{entry_of}
+use Rattle.sheet.specs.Plan.{no_triple, Declaration, declarations, part_line, places_of, is_plain, is_use, names, plain_entries, plain_plan}
 use Rattle.sheet.specs.declared.Places.{Places}
 use Rattle.sheet.specs.Used.{table_length, mark_name, marked, is_marked, Tells, SmallNames}
 use Rattle.sheet.proofs.Lines.{lines-between}
-use Rattle.sheet.proofs.Declarations.{seen, from, from-none, from_one, from_past}
 
 -- ---- the lines from i up to end
 plain-next : (ls : List Triple) (i n : ℕ)
@@ -30,28 +26,13 @@ plain-next [] (suc i) (suc n) = refl
 plain-next (t ∷ ls) zero n = refl
 plain-next (t ∷ ls) (suc i) n = plain-next ls i n
 
-module _ (ls : List Triple) (i end : ℕ) where
-  -- what the rest of the lines says
-  abbrev rest : Bool
-  rest = is_plain (take (end - i) (drop i ls))
+abbrev pub PlainLine : List Triple → ℕ → Bool
+PlainLine ls i = let k = (get_or ls i no_triple).kind in not (eqb k 14 || eqb k 25)
 
-  here : i < end → rest ≡ (not (eqb (get_or ls i no_triple).kind 14 || eqb (get_or ls i no_triple).kind 25) && is_plain (take (end - (i + 1)) (drop (i + 1) ls)))
-  here h =
-      let e : end - i ≡ suc (end - (i + 1)) = omega arith in
-      ap (λ (n : ℕ). is_plain (take n (drop i ls))) e ∙ plain-next ls i (end - (i + 1)) ∙ rw add-one
-
-  pub plain_end : end ≤ i → true ≡ rest
-  unfolding is_plain
-  plain_end h = let e : end - i ≡ 0 = omega arith in rw e
-
-  pub plain-forall : i < end → (get_or ls i no_triple).kind ≡ 14 → false ≡ rest
-  plain-forall h e = sym (here h ∙ rw (eq-eqb (get_or ls i no_triple).kind 14 e))
-
-  pub plain-lambda : i < end → ((get_or ls i no_triple).kind ≡ 14 → ⊥) → (get_or ls i no_triple).kind ≡ 25 → false ≡ rest
-  plain-lambda h n e = sym (here h ∙ rw (ne_eqb (get_or ls i no_triple).kind 14 n, eq-eqb (get_or ls i no_triple).kind 25 e))
-
-  pub plain_turn : i < end → ((get_or ls i no_triple).kind ≡ 14 → ⊥) → ((get_or ls i no_triple).kind ≡ 25 → ⊥) → is_plain (take (end - (i + 1)) (drop (i + 1) ls)) ≡ rest
-  plain_turn h n m = sym (here h ∙ rw (ne_eqb (get_or ls i no_triple).kind 14 n, ne_eqb (get_or ls i no_triple).kind 25 m))
+pub plain-range : (ls : List Triple) (n i : ℕ) → list_all (PlainLine ls) (range_with_len i n) ≡ is_plain (take n (drop i ls))
+unfolding is_plain
+plain-range ls zero i = refl
+plain-range ls (suc n) i = ap (λ (b : Bool). PlainLine ls i && b) (plain-range ls n (i + 1) ∙ ap (λ (j : ℕ). is_plain (take n (drop j ls))) (add-one i)) ∙ sym (plain-next ls i n)
 
 -- ---- the names marked
 module _ (ls : List Triple) (i : ℕ) (u : List ℕ) where
@@ -62,16 +43,6 @@ module _ (ls : List Triple) (i : ℕ) (u : List ℕ) where
   pub mark-end : length ls ≤ i → u ≡ marked (drop i ls) u
   unfolding marked
   mark-end h = rw (drop_of_length-le ls h)
-
-module _ (t : Triple) (u : List ℕ) where
-  pub mark-used : is_use t.kind ≡ true → set u t.value 1 ≡ mark_name t u
-  mark-used e = sym (rw e)
-
-  pub mark-out : is_use t.kind ≡ true → length u ≤ t.value → u ≡ mark_name t u
-  mark-out e h = sym (set_out u t.value 1 h) ∙ mark-used e
-
-  pub mark-unused : is_use t.kind ≡ false → u ≡ mark_name t u
-  mark-unused e = sym (rw e)
 
 pub mark-length : (t : Triple) (u : List ℕ) → length (mark_name t u) ≡ length u
 mark-length t u = go (is_use t.kind)
@@ -139,34 +110,18 @@ zeros-tell ts u e s x =
     ap (λ (w : List ℕ). is_marked w x) e ∙ table-tells ts (replicate table_length 0) (length-replicate {A = ℕ} table_length 0) (zeros-read table_length) s x
 
 -- ---- the entries
-module _ (term ls : List Triple) where
-  pub entries-past : (at : ℕ) → length ls ≤ at → true ≡ plain_entries term ls (from ls at)
+-- by a table of names
+abbrev pub PlainBy : List ℕ → List Triple → Entry → Bool
+PlainBy u ls e = not (is_marked u e.head.value) || is_plain (take (e.end - e.line) (drop e.line ls))
+
+-- by that of the names that the term uses
+module _ (term ls : List Triple) (u : List ℕ) (tells : Tells u term) where
+  pub all-entries : (es : List Declaration) → list_all (PlainBy u ls) (map entry_of es) ≡ plain_entries term ls es
   unfolding plain_entries
-  entries-past at h = rw (from_past ls at h)
-
-  module _ (at : ℕ) (h : at < length ls) where
-    abbrev head : Triple
-    head = get_or ls at no_triple
-
-    abbrev next : ℕ
-    next = part_line ls (at + 1) 1
-
-    pub entries_none : is_entry head ≡ false → true ≡ plain_entries term ls (from ls at)
-    unfolding plain_entries
-    entries_none e = rw (from-none ls at h e)
-
-    -- by a table of the term's names, from what the code has read of the entry
-    module _ (u : List ℕ) (tells : Tells u term) {t : Triple} (read : t ≡ head) {entry : Bool} (tested : entry ≡ is_entry t) (holds : entry ≡ true) {end : ℕ} (ends : end ≡ next)
-        {plain : Bool} (looked : plain ≡ (not (is_marked u t.value) || is_plain (take (end - (at + 1)) (drop (at + 1) ls)))) where
-      entries-one : plain_entries term ls (from ls at) ≡ (plain && plain_entries term ls (from ls end))
-      unfolding plain_entries
-      entries-one = ap (plain_entries term ls) (from_one ls at h (seen is_entry read tested holds)) ∙ rw (looked, ends, read, tells head.value)
-
-      pub entries-not : plain ≡ false → false ≡ plain_entries term ls (from ls at)
-      entries-not f = sym (entries-one ∙ ap (λ (b : Bool). b && plain_entries term ls (from ls end)) f)
-
-      pub entries-turn : plain ≡ true → plain_entries term ls (from ls end) ≡ plain_entries term ls (from ls at)
-      entries-turn f = sym (entries-one ∙ ap (λ (b : Bool). b && plain_entries term ls (from ls end)) f)
+  all-entries [] = refl
+  all-entries (e ∷ es) =
+      let k : e.line + e.count - e.line ≡ e.count = omega arith in
+      rw (tells e.head.value, k) (ap (λ (b : Bool). (not (names e.head.value term) || is_plain (take e.count (drop e.line ls))) && b) (all-entries es))
 
 -- ---- the whole mark
 module _ (ls : List Triple) where
@@ -221,12 +176,12 @@ take-plain zero ls e = refl
 take-plain (suc n) [] e = refl
 take-plain (suc n) (t ∷ ls) e = let h = head_plain t ls e in ap₂ (λ (a b : Bool). a && b) h.0 (take-plain n ls h.1)
 
-entries-plain : (term ls : List Triple) (es : List Declaration) → is_plain ls ≡ true → plain_entries term ls es ≡ true
+entries-plain : (used ls : List Triple) (es : List Declaration) → is_plain ls ≡ true → plain_entries used ls es ≡ true
 unfolding plain_entries
-entries-plain term ls [] e = refl
-entries-plain term ls (d ∷ es) e =
-    ap₂ (λ (a b : Bool). (not (names d.head.value term) || a) && b) (take-plain d.count (drop d.line ls) (drop-plain d.line ls e)) (entries-plain term ls es e)
-    ∙ ap (λ (b : Bool). b && true) (or-true (not (names d.head.value term)))
+entries-plain used ls [] e = refl
+entries-plain used ls (d ∷ es) e =
+    ap₂ (λ (a b : Bool). (not (names d.head.value used) || a) && b) (take-plain d.count (drop d.line ls) (drop-plain d.line ls e)) (entries-plain used ls es e)
+    ∙ ap (λ (b : Bool). b && true) (or-true (not (names d.head.value used)))
 
 pub mark-all : (ls : List Triple) → is_plain ls ≡ true → true ≡ plain_plan ls
 mark-all ls e =

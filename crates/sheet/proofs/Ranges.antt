@@ -1,22 +1,15 @@
 -- How large the fields of a line are where a part stands, and how many lines there are. Assumes nothing.
-use mathlib.Core.Path.{◌≡◌, refl, sym, ap, ◌∙◌, subst⁻¹}
-use mathlib.Core.Logic.{◌≢◌, ◌⊎◌, inl, inr}
-use mathlib.Core.Bool.{Bool, true, false, not, cond, ◌&&◌, ◌||◌, and-eq-true_iff, false≢true}
-use mathlib.Core.List.{List, [], ◌∷◌, ◌++◌}
-use Prim.Native.Nat.{ℕ, ◌≤◌, ◌<◌}
-use native.Mathlib.Omega.{arith}
-use lib.ListN.{length, drop}
-use lib.Dec.{eqb, leb}
-use borrow.Author.Tests.{eqb-true, ne_eqb, leb-true}
+use Rattle.grammar.specs.declared.SheetError.TheVariants.{Length}
+use Rattle.grammar.specs.declared.SheetError.{SheetError}
+use Rattle.std.proofs.Common.{Result, Ok, Err, Some, ◌≡◌, refl, sym, ap, ◌∙◌, ◌≢◌, ◌⊎◌, inl, inr, Bool, true, false, not, cond, ◌&&◌, ◌||◌, List, [], ◌∷◌, ◌++◌, ℕ, ◌≤◌, ◌<◌, arith, length, drop, eqb, leb, eqb-true, ne_eqb, leb-true}
+use mathlib.Core.Path.{subst⁻¹}
+use mathlib.Core.Bool.{and-eq-true_iff, false≢true}
 use Rattle.sizes.specs.Sizes.{most_lines, highest_name}
 use Rattle.nodes.specs.Lists.{All}
 use Rattle.spelling.specs.declared.Triple.{Triple}
-use Rattle.spelling.specs.declared.Line.TheVariants.{Spelt}
 use Rattle.kinds.specs.declared.Row.{Row}
 use Rattle.kinds.specs.Kinds.{a_term, number, table, row_of, unlisted, count_ok}
 use Rattle.kinds.proofs.Rows.{listed-passes}
-use Rattle.grammar.specs.declared.Check.{Check}
-use Rattle.grammar.specs.declared.Check.TheVariants.{Plan, Length}
 use Rattle.grammar.specs.Grammar.{Item, part, entries, ok, due}
 use Rattle.grammar.specs.Check.{length_ok, check}
 use Rattle.grammar.proofs.Lines.{few-lines}
@@ -55,7 +48,7 @@ count_small rule c = go (eqb rule 0)
     go true e = let z = leb-true c 0 e in omega arith
     go false e = leb-true c 99 e
 
-line-in-range : (x : ℕ) (t : Triple) → ok (part x) (Spelt t) ≡ true → InRange t
+line-in-range : (x : ℕ) (t : Triple) → ok (part x) (Some t) ≡ true → InRange t
 line-in-range x t e =
     let b = (due-following x t e).0 in
     record {
@@ -68,7 +61,7 @@ forms-in-range [] ahead p f = tt
 forms-in-range (t ∷ ts) [] p f = absurd f
 forms-in-range (t ∷ ts) (part x ∷ ahead) p f = (
   line-in-range x t f.0,
-  forms-in-range ts (due (part x) (Spelt t) ++ ahead) (parts-append (due (part x) (Spelt t)) ahead (due-parts x t f.0).1 p) f.1,
+  forms-in-range ts (due (part x) (Some t) ++ ahead) (parts-append (due (part x) (Some t)) ahead (due-parts x t f.0).1 p) f.1,
 )
 forms-in-range (t ∷ ts) (entries k n ∷ ahead) p f = absurd p
 
@@ -97,10 +90,10 @@ pub term-names : (ls : List Triple) → Formed ls → SmallNames (drop (places_o
 term-names ls f = names-small (drop (places_of ls).term ls) (part-in-range a_term (drop (places_of ls).term ls) f.term)
 
 -- a plan has at most 2,000 lines
-pub plan-few : (s : List ℕ) → check s ≡ Plan → length (triples s) ≤ most_lines
+pub plan-few : (s : List ℕ) → check s ≡ Ok tt → length (triples s) ≤ most_lines
 unfolding check
 plan-few s e = go (length_ok (length s)) refl _ e
   where
-    go : (b : Bool) → length_ok (length s) ≡ b → (x : Check) → cond b x Length ≡ Plan → length (triples s) ≤ most_lines
+    go : (b : Bool) → length_ok (length s) ≡ b → (x : (Result Unit SheetError)) → cond b x (Err Length) ≡ Ok tt → length (triples s) ≤ most_lines
     go true h x q = omega (arith, few-lines (length s) h, length-triples s)
     go false h x q = absurd (let z : ◌≡◌ {A = ℕ} 0 1 = cc in omega arith)

@@ -1,22 +1,18 @@
 -- Laws of `rows`: what a row holds, that a sheet read row by row is the sheet, and its words. Assumes nothing.
-use mathlib.Core.Path.{◌≡◌, refl, sym, ap, ap₂, ◌∙◌, subst⁻¹}
-use mathlib.Core.Bool.{Bool, true, false, cond}
-use mathlib.Core.List.{List, [], ◌∷◌, ◌++◌}
-use Prim.Native.Nat.{ℕ, zero, suc, ◌+◌, ◌*◌, ◌-◌, ◌/◌, ◌%◌, ◌≤◌, ◌<◌}
-use native.Mathlib.Nat.{zero-add, add-zero}
-use native.Mathlib.Omega.{arith}
-use lib.Dec.{T, ltb, eqb, eqb→eq}
-use borrow.Author.Tests.{ltb-true, ltb-false, eqb-false}
-use lib.ListN.{length, get_or, set, drop, length-set, length-replicate, get_or-replicate, get_or-eq_default}
-use lib.Seq.{sets, length-sets, get_or-set_same, get_or-set_other, get_or-drop, ext_get_or}
-use Rattle.sizes.specs.Sizes.{most_lines}
+use Rattle.std.proofs.Common.{◌≡◌, refl, sym, ap, ap₂, ◌∙◌, Bool, true, false, cond, List, [], ◌∷◌, ◌++◌, append_assoc, ℕ, zero, suc, ◌+◌, ◌*◌, ◌-◌, ◌/◌, ◌%◌, ◌≤◌, ◌<◌, zero-add, add-zero, arith, T, ltb, eqb, eqb→eq, ltb-true, ltb-false, length, get_or, set, take, drop, replicate, length-set, drop-drop, get_or-set_same, get_or-set_other, get_or-drop, ext_get_or}
+use mathlib.Core.Path.{subst⁻¹}
+use borrow.Author.Tests.{eqb-false}
+use lib.ListN.{length-replicate, get_or-replicate, get_or-eq_default}
+use borrow.Rule.Slice.PartMut.{put_mid}
+use lib.Seq.{sets, sets-eq, length-sets}
+use Rattle.sizes.specs.Sizes.{line_length, most_lines}
 use Rattle.nodes.specs.Nodes.{zeros}
 use Rattle.nodes.proofs.Laws.{getD-sets-below}
 use Rattle.spelling.specs.declared.Triple.{Triple}
 use Rattle.kinds.specs.Kinds.{parts_of}
 use Rattle.sheet.specs.Plan.{no_triple, triples, part_line}
-use Rattle.sheet.specs.Rows.{packed, row_triple, rows_from, rows, line_count, EndsFrom, KindsFrom, set_row, Unlinked, row_words, unlinked_words}
-use Rattle.sheet.proofs.Lines.{kind-small, count_small, line-turn, line-within}
+use Rattle.sheet.specs.Rows.{packed, row_triple, rows_from, rows, line_count, EndsFrom, KindsFrom, HeldFrom, set_row, RowAsk, Unlinked, row_words, unlinked_words}
+use Rattle.sheet.proofs.Lines.{length-triples, kind-small, count_small, line-turn, line-within}
 
 -- ---- what a row holds
 length_from : (n : ℕ) (d : List ℕ) → length (rows_from n d) ≡ n
@@ -27,6 +23,9 @@ length_from (suc n) d = ap suc (length_from n (drop 2 d))
 pub length-rows : (d : List ℕ) → length (rows d) ≡ length d / 4
 unfolding rows
 length-rows d = length_from (line_count d) d
+
+-- for the tactics: how many words there are for so many lines
+pub ruleset row_counts = (length-rows)
 
 from_is : (n : ℕ) (d : List ℕ) (i : ℕ) → i < n → get_or (rows_from n d) i no_triple ≡ row_triple (get_or d (2 * i) 0) (get_or d (2 * i + 1) 0)
 unfolding rows_from
@@ -86,6 +85,14 @@ unpack k true v c e h j = let w : 1 < 2 = omega arith in (rw (kind-of k 1 c e h 
 unpack k false v c e h j = let w : 0 < 2 = omega arith in (rw (kind-of k 0 c e h w j, sign_of k 0 c e h w j, count_of k 0 c e h w j), end_of k 0 c e h w j)
 
 -- ---- reading a sheet
+-- the words from a on, k of them, filled with 0
+pub filled : (d : List ℕ) (a k : ℕ) {ys : List ℕ} → a + k ≡ length d → ys ≡ replicate k 0 → put_mid a k d ys ≡ sets d a (zeros k)
+unfolding zeros
+filled d a k h e =
+    let n = length-replicate {A = ℕ} k 0 in
+    let rest : drop (a + length (replicate {A = ℕ} k 0)) d ≡ drop k (drop a d) = ap (λ (m : ℕ). drop (a + m) d) n ∙ sym (drop-drop k a d) in
+    rw e (sym (sets-eq (replicate k 0) d a (omega arith) ∙ append_assoc (take a d) (replicate k 0) (drop (a + length (replicate {A = ℕ} k 0)) d) ∙ ap (λ (xs : List ℕ). take a d ++ (replicate k 0 ++ xs)) rest))
+
 -- words that 0 was written to
 zeroed : (m : ℕ) (l : List ℕ) (p j : ℕ) → p + m ≤ length l → p ≤ j → j < p + m → get_or (sets l p (zeros m)) j 0 ≡ 0
 unfolding zeros
@@ -229,6 +236,10 @@ module _ (ls : List Triple) where
       unfolding unlinked_words
       rows_words u = words_are (2 * length ls) ls 0 d (omega arith) (λ i h. let w = f i (omega arith) h in (w.0, rw zero-add w.1)) (λ i h. behind u i h (ltb i (length ls)) refl)
 
+-- what `entry_at` asks, where the lines ls are held
+pub ends-held : (d : List ℕ) {ls : List Triple} → rows d ≡ ls → EndsFrom ls d 0 → (at : ℕ) → EndsFrom (rows d) d at
+ends-held d {ls} s e at i h = subst⁻¹ (λ (ts : List Triple). EndsFrom ts d 0) s e i (omega arith)
+
 -- of the lines of a sheet
 pub lines-small : (s : List ℕ) → Small (triples s)
 lines-small s i = let k = kind-small s i in let c = count_small s i in (omega arith, omega arith)
@@ -236,6 +247,10 @@ lines-small s i = let k = kind-small s i in let c = count_small s i in (omega ar
 pub bit-small : (b : Bool) → cond b 1 0 ≤ 1
 bit-small true = omega arith
 bit-small false = omega arith
+
+-- what reading line i knows of those after it
+pub held-after : (s : List ℕ) {d : List ℕ} {i : ℕ} → RowAsk d s i → HeldFrom (triples s) d (length s / line_length) (i + 1)
+held-after s a = record { count = length-triples s; ends = a.after; kinds = a.kinds }
 
 -- a part ends where the parts that follow its line end
 module _ (s : List ℕ) (i : ℕ) (h : i < length (triples s)) (t : Triple) (e : t ≡ get_or (triples s) i no_triple) (parts end : ℕ) (p : parts ≡ parts_of t) (q : end ≡ part_line (triples s) (i + 1) parts) where

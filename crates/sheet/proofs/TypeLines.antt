@@ -1,19 +1,13 @@
 -- The lines of a whole type are, as nodes, one whole type: `type-whole`. Words hold their values: `type-narrow`; and those of a term, but for a literal: `term-narrow`. Assumes nothing.
-use mathlib.Core.Path.{◌≡◌, refl, sym, ap, ◌∙◌, subst⁻¹}
-use mathlib.Core.Logic.{◌⊎◌, inl, inr}
-use mathlib.Core.Bool.{Bool, true, false, not, cond, ◌&&◌, ◌||◌, and-eq-true_iff}
-use mathlib.Core.List.{List, [], ◌∷◌, ◌++◌, append-nil}
-use Prim.Native.Nat.{ℕ, zero, suc, ◌≤◌, ◌<◌}
-use native.Mathlib.Omega.{arith}
-use lib.ListN.{length, replicate, length-append, length-replicate}
-use lib.Dec.{eqb, leb}
-use borrow.Author.Tests.{eqb-true, ne_eqb, leb-true}
+use Rattle.std.proofs.Common.{Some, ◌≡◌, refl, sym, ap, ◌∙◌, ◌⊎◌, inl, inr, Bool, true, false, not, cond, ◌&&◌, ◌||◌, List, [], ◌∷◌, ◌++◌, append-nil, ℕ, zero, suc, ◌≤◌, ◌<◌, arith, length, replicate, length-append, eqb, leb, eqb-true, ne_eqb, leb-true}
+use mathlib.Core.Path.{subst⁻¹}
+use mathlib.Core.Bool.{and-eq-true_iff}
+use lib.ListN.{length-replicate}
 use Rattle.sizes.specs.Sizes.{highest_name}
 use Rattle.nodes.specs.Nodes.{node, node_parts}
 use Rattle.nodes.specs.Parts.{Whole}
 use Rattle.nodes.specs.Lists.{All}
 use Rattle.spelling.specs.declared.Triple.{Triple}
-use Rattle.spelling.specs.declared.Line.TheVariants.{Spelt}
 use Rattle.kinds.specs.declared.Row.{Row}
 use Rattle.kinds.specs.Kinds.{a_type, a_term, nothing, number, table, row_of, unlisted, value_ok, count_ok, begins}
 use Rattle.nodes.proofs.ListLaws.{cond_ind}
@@ -99,7 +93,7 @@ module _ (x : ℕ) (t : Triple) (h : begins x t ≡ true) where
       go (inl u) = absurd (let z : ◌≡◌ {A = ℕ} nothing x = sym (ap (λ (r : Row). r.sort) u) ∙ sort-is in omega arith)
       go (inr h) = h
 
-pub type-line : (t : Triple) → ok (part a_type) (Spelt t) ≡ true → Only a_type (due (part a_type) (Spelt t)) × (length (due (part a_type) (Spelt t)) ≡ node_parts (line_node t))
+pub type-line : (t : Triple) → ok (part a_type) (Some t) ≡ true → Only a_type (due (part a_type) (Some t)) × (length (due (part a_type) (Some t)) ≡ node_parts (line_node t))
 unfolding table
 type-line t e =
     let d = due-following a_type t e in
@@ -124,7 +118,7 @@ name-small rule v e = go (eqb rule 0) (eqb rule number) e
 pub name-narrow : (rule v : ℕ) → not (eqb rule number) ≡ true → value_ok rule v ≡ true → v < 4294967296
 name-narrow rule v e q = omega (arith, name-small rule v e q)
 
-line-narrow : (t : Triple) → ok (part a_type) (Spelt t) ≡ true → Narrow t
+line-narrow : (t : Triple) → ok (part a_type) (Some t) ≡ true → Narrow t
 unfolding table
 line-narrow t e =
     let h = (due-following a_type t e).0 in
@@ -138,10 +132,10 @@ types-all [] (x ∷ ahead) f ty = absurd f
 types-all (t ∷ ts) [] f ty = absurd f
 types-all (t ∷ ts) (entries k n ∷ ahead) f ty = absurd ty
 types-all (t ∷ ts) (part x ∷ ahead) f ty =
-    let g : (ok (part a_type) (Spelt t) ≡ true) × Forms ts (due (part a_type) (Spelt t) ++ ahead) = rw ty.0 at f in
+    let g : (ok (part a_type) (Some t) ≡ true) × Forms ts (due (part a_type) (Some t) ++ ahead) = rw ty.0 at f in
     let l = type-line t g.0 in
-    let all = types-all ts (due (part a_type) (Spelt t) ++ ahead) g.1 (only-append a_type (due (part a_type) (Spelt t)) ahead l.0 ty.1) in
-    (rw (length-append (due (part a_type) (Spelt t)) ahead, l.1) at all.0, (line-narrow t g.0, all.1))
+    let all = types-all ts (due (part a_type) (Some t) ++ ahead) g.1 (only-append a_type (due (part a_type) (Some t)) ahead l.0 ty.1) in
+    (rw (length-append (due (part a_type) (Some t)) ahead, l.1) at all.0, (line-narrow t g.0, all.1))
 
 pub type-whole : (ts : List Triple) → IsPart a_type ts → Whole node_parts (nodes_of ts) 1
 type-whole ts f = (types-all ts (part a_type ∷ []) f (refl, tt)).0
@@ -153,7 +147,7 @@ type-narrow ts f = (types-all ts (part a_type ∷ []) f (refl, tt)).1
 abbrev not_number : ℕ → Row → Bool
 not_number k r = not (eqb r.sort a_term) || (eqb k 22 || not (eqb r.value number))
 
-pub term-narrow : (t : Triple) → ok (part a_term) (Spelt t) ≡ true → (t.kind ≡ 22 → ⊥) → Narrow t
+pub term-narrow : (t : Triple) → ok (part a_term) (Some t) ≡ true → (t.kind ≡ 22 → ⊥) → Narrow t
 unfolding table
 term-narrow t e f =
     let h = (due-following a_term t e).0 in

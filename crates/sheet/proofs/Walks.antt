@@ -1,21 +1,14 @@
 -- The walk over the parts of a line by their first lines. Assumes nothing.
-use mathlib.Core.Path.{◌≡◌, refl, sym, ap, ap₂, ◌∙◌}
-use mathlib.Core.Logic.{◌≢◌}
-use mathlib.Core.Bool.{Bool, true, false, ◌&&◌, and-eq-true_iff}
-use mathlib.Core.List.{List, [], ◌∷◌, ◌++◌}
-use Prim.Native.Nat.{ℕ, zero, suc, ◌+◌, ◌*◌, ◌-◌, ◌%◌, ◌≤◌, ◌<◌}
-use native.Mathlib.Omega.{arith}
-use lib.ListN.{length, get_or, drop, replicate, length-append, drop_of_length-le}
-use lib.Dec.{eqb}
-use borrow.Author.Tests.{ne_eqb, eqb-true}
+use Rattle.std.proofs.Common.{◌≡◌, refl, sym, ap, ap₂, ◌∙◌, ◌≢◌, Bool, true, false, ◌&&◌, List, [], ◌∷◌, ◌++◌, ℕ, zero, suc, ◌+◌, ◌*◌, ◌-◌, ◌%◌, ◌≤◌, ◌<◌, arith, length, get_or, drop, replicate, length-append, drop_of_length-le, eqb, ne_eqb, eqb-true}
+use mathlib.Core.Bool.{and-eq-true_iff}
 use Rattle.nodes.specs.Parts.{drop_parts}
 use Rattle.spelling.specs.declared.Triple.{Triple}
 use Rattle.kinds.specs.declared.Row.{Row}
-use Rattle.kinds.specs.Kinds.{a_type, a_term, a_pattern, an_arm, row_of, is_leaf, fields_ok, parts_of}
+use Rattle.kinds.specs.Kinds.{a_type, a_term, a_pattern, row_of, is_leaf, fields_ok, parts_of}
 use Rattle.grammar.specs.Grammar.{Item, part, entries, arms, repeated, following}
 use Rattle.sheet.specs.declared.Walked.{Walked}
 use Rattle.sheet.specs.Plan.{no_triple, part_line}
-use Rattle.sheet.specs.Rows.{end_at, EndsFrom, KindsFrom}
+use Rattle.sheet.specs.Rows.{end_at, HeldFrom}
 use Rattle.sheet.specs.Fit.{first_sort, meets, parts_after, walked_over, walked}
 use Rattle.sheet.proofs.Lines.{line-none, line-past, line-hop, line-from, drop-line}
 use Rattle.sheet.proofs.Declarations.{here}
@@ -89,68 +82,53 @@ module _ (ls : List Triple) where
   over-on at f a b p =
       both-are (line_on at (length a) (length b) ∙ ap (part_line ls at) (sym (length-append a b))) (sym (ap (λ (x : Bool). f && x) (meets_on at a b p) ∙ and_assoc f _ _))
 
--- ---- what the code has read: ends and kinds stand in the words
-pub ends_on : (ls : List Triple) (d : List ℕ) (at line : ℕ) → at ≤ line → EndsFrom ls d at → EndsFrom ls d line
-ends_on ls d at line h e i k l = e i (omega arith) l
-
-pub kinds-on : (ls : List Triple) (d : List ℕ) (at line : ℕ) → at ≤ line → KindsFrom ls d at → KindsFrom ls d line
-kinds-on ls d at line h e i k l = e i (omega arith) l
+-- ---- what the code has read
+pub held-on : {ls : List Triple} {d : List ℕ} {lines at line : ℕ} → HeldFrom ls d lines at → at ≤ line → HeldFrom ls d lines line
+held-on H h = record { count = H.count; ends = λ i k l. H.ends i (omega arith) l; kinds = λ i k l. H.kinds i (omega arith) l }
 
 pub over-from : (ls : List Triple) (at : ℕ) (f : Bool) (ahead : List Item) {w : Walked} → w ≡ walked_over ls at f ahead → at ≤ w.line
 over-from ls at f ahead e = rw e (line-from ls at (length ahead))
 
--- one more of so many parts of one sort
-module _ (d : List ℕ) (ls : List Triple) {at : ℕ} (ends : EndsFrom ls d at) (kinds : KindsFrom ls d at) (x : ℕ) where
-  pub sort-turn : (line : ℕ) (fits : Bool) (due : ℕ) → at ≤ line → line < length ls → 0 < due → {s e : ℕ} {f : Bool}
-      → s ≡ (row_of (get_or d (2 * line + 1) 0 % 1024)).sort → e ≡ end_at d line → f ≡ (fits && eqb s x)
-      → (at ≤ e) × (walked_over ls e f (replicate (due - 1) (part x)) ≡ walked_over ls line fits (replicate due (part x)))
-  sort-turn line fits zero h l k es ee ef = absurd (omega arith)
-  sort-turn line fits (suc due) h l k es ee ef =
-      let s = es ∙ ap (λ (j : ℕ). (row_of j).sort) (kinds line h l) in
-      let e = ee ∙ ends line h l in
-      let n : suc due - 1 ≡ due = omega arith in
+-- part i of n parts of one sort
+module _ (x n i line : ℕ) (fits : Bool) {ls : List Triple} {d : List ℕ} {lines at : ℕ} (H : HeldFrom ls d lines at) where
+  pub sort-turn : i < n → at ≤ line → line < lines → {s e : ℕ} → s ≡ (row_of (get_or d (2 * line + 1) 0 % 1024)).sort → e ≡ end_at d line
+      → (at ≤ e) × (walked_over ls e (fits && eqb s x) (replicate (n - (i + 1)) (part x)) ≡ walked_over ls line fits (replicate (n - i) (part x)))
+  sort-turn m h l es ee =
+      let c = H.count in
+      let s = es ∙ ap (λ (j : ℕ). (row_of j).sort) (H.kinds line h (omega arith)) in
+      let e = ee ∙ H.ends line h (omega arith) in
+      let k : n - i ≡ suc (n - (i + 1)) = omega arith in
       let w = line-from ls line 1 in
-      rw (ef, s, e, n) (omega arith, over-next ls line fits x (replicate due (part x)) l)
+      rw (s, e, k) (omega arith, over-next ls line fits x (replicate (n - (i + 1)) (part x)) (omega arith))
 
-  pub sort-past : (line : ℕ) (fits : Bool) (due : ℕ) → length ls ≤ line → 0 < due → 0 < x → ended line false ≡ walked_over ls line fits (replicate due (part x))
-  sort-past line fits zero l k p = absurd (omega arith)
-  sort-past line fits (suc due) l k p = over-past ls line fits x (replicate due (part x)) l (λ e. omega arith)
+  pub sort-past : i < n → lines ≤ line → 0 < x → ended line false ≡ walked_over ls line fits (replicate (n - i) (part x))
+  sort-past m l p =
+      let c = H.count in
+      let k : n - i ≡ suc (n - (i + 1)) = omega arith in
+      rw k (over-past ls line fits x (replicate (n - (i + 1)) (part x)) (omega arith) (λ e. omega arith))
 
-pub sort-done : (ls : List Triple) (x line : ℕ) (fits : Bool) (due : ℕ) → due ≤ 0 → ended line fits ≡ walked_over ls line fits (replicate due (part x))
-sort-done ls x line fits zero h = over_none ls line fits
-sort-done ls x line fits (suc due) h = absurd (omega arith)
+  pub sort-done : n ≤ i → ended line fits ≡ walked_over ls line fits (replicate (n - i) (part x))
+  sort-done h = let k : n - i ≡ 0 = omega arith in rw k (over_none ls line fits)
 
--- one more arm
-pub arm-turn : (ls : List Triple) (line : ℕ) (fits : Bool) (due : ℕ) → 0 < due → {p t : Walked} → p ≡ walked_over ls line fits (replicate 1 (part a_pattern)) → t ≡ walked_over ls p.line p.fits (replicate 1 (part a_term))
-    → (line ≤ t.line) × (walked_over ls t.line t.fits (arms (due - 1)) ≡ walked_over ls line fits (arms due))
-unfolding arms
-arm-turn ls line fits zero h ep et = absurd (omega arith)
-arm-turn ls line fits (suc due) h ep et =
-    let n : suc due - 1 ≡ due = omega arith in
-    let w = line-from ls line 1 in
-    let v = line-from ls (part_line ls line 1) 1 in
-    let m = meets (drop line ls) (part a_pattern ∷ []) in
-    rw (et, ep, n) (omega arith, over-on ls (part_line ls line 1) (fits && m) (part a_term ∷ []) (arms due) tt ∙ over-on ls line fits (part a_pattern ∷ []) (part a_term ∷ arms due) tt)
+-- arm i of n
+module _ (ls : List Triple) (n i line : ℕ) (fits : Bool) where
+  pub arm-turn : i < n → {p t : Walked} → p ≡ walked_over ls line fits (replicate 1 (part a_pattern)) → t ≡ walked_over ls p.line p.fits (replicate 1 (part a_term))
+      → (line ≤ t.line) × (walked_over ls t.line t.fits (arms (n - (i + 1))) ≡ walked_over ls line fits (arms (n - i)))
+  unfolding arms
+  arm-turn h ep et =
+      let k : n - i ≡ suc (n - (i + 1)) = omega arith in
+      let w = line-from ls line 1 in
+      let v = line-from ls (part_line ls line 1) 1 in
+      let m = meets (drop line ls) (part a_pattern ∷ []) in
+      rw (et, ep, k) (omega arith, over-on ls (part_line ls line 1) (fits && m) (part a_term ∷ []) (arms (n - (i + 1))) tt ∙ over-on ls line fits (part a_pattern ∷ []) (part a_term ∷ arms (n - (i + 1))) tt)
 
-pub arms-done : (ls : List Triple) (line : ℕ) (fits : Bool) (due : ℕ) → due ≤ 0 → ended line fits ≡ walked_over ls line fits (arms due)
-unfolding arms
-arms-done ls line fits zero h = over_none ls line fits
-arms-done ls line fits (suc due) h = absurd (omega arith)
+  pub arms-done : n ≤ i → ended line fits ≡ walked_over ls line fits (arms (n - i))
+  unfolding arms
+  arms-done h = let k : n - i ≡ 0 = omega arith in rw k (over_none ls line fits)
 
 -- what follows count times
 pub each_none : (ls : List Triple) (line : ℕ) (fits : Bool) (e n : ℕ) → e ≡ 0 → ended line fits ≡ walked_over ls line fits (repeated e n)
 each_none ls line fits e n h = rw h (over_none ls line fits)
-
-pub each-arms : (e n : ℕ) → e ≡ an_arm → arms n ≡ repeated e n
-each-arms e n h = rw h
-
-pub each-sort : (e n : ℕ) → e ≤ 4 → (e ≡ 0 → ⊥) → (e ≡ an_arm → ⊥) → replicate n (part e) ≡ repeated e n
-each-sort zero n h f g = absurd (f refl)
-each-sort (suc zero) n h f g = refl
-each-sort (suc (suc zero)) n h f g = refl
-each-sort (suc (suc (suc zero))) n h f g = refl
-each-sort (suc (suc (suc (suc zero)))) n h f g = absurd (g refl)
-each-sort (suc (suc (suc (suc (suc e))))) n h f g = absurd (omega arith)
 
 -- all that follows a line
 all-parts : (n x : ℕ) → AllParts (replicate n (part x))

@@ -1,28 +1,25 @@
 -- Whether lines make up a plan, told line by line from the last one up. Assumes nothing: these are definitions.
-use Rattle.std.specs.Prelude.{Bool, true, false, ◌&&◌, List, [], ◌∷◌, ◌++◌, ℕ, ◌+◌, eqb, length, drop}
+use Rattle.grammar.specs.declared.SheetError.{SheetError}
+use Rattle.std.specs.Prelude.{◌≡◌, Bool, true, false, ◌&&◌, List, [], ◌∷◌, ◌++◌, ℕ, ◌+◌, eqb, length, drop, Result, Ok, Err, Some}
 use Rattle.nodes.specs.Parts.{drop_parts}
 use Rattle.spelling.specs.declared.Triple.{Triple}
-use Rattle.spelling.specs.declared.Line.TheVariants.{Spelt}
 use Rattle.kinds.specs.declared.Row.{Row}
 use Rattle.kinds.specs.Kinds.{nothing, row_of, fields_ok, parts_of}
-use Rattle.grammar.specs.declared.Check.{Check}
-use Rattle.grammar.specs.declared.Check.TheVariants.{Plan, Length, Misspelt, Unfit}
 use Rattle.grammar.specs.Grammar.{Item, part, entries, following, ok, due}
 use Rattle.sheet.specs.declared.Walked.{Walked}
 use Rattle.sheet.specs.Plan.{part_line}
+use Rattle.sheet.specs.Rows.{HeldFrom}
 
-abbrev pub is_plan : Check → Bool
-is_plan Plan = true
-is_plan Length = false
-is_plan (Misspelt l) = false
-is_plan (Unfit l) = false
+abbrev pub is_plan : Result Unit SheetError → Bool
+is_plan (Ok _) = true
+is_plan (Err e) = false
 
 -- the lines are what is due, and no others: `Forms` as a test
 unfoldable pub forms : List Triple → List Item → Bool
 forms [] [] = true
 forms [] (x ∷ ahead) = false
 forms (t ∷ ts) [] = false
-forms (t ∷ ts) (x ∷ ahead) = let rest = forms ts (due x (Spelt t) ++ ahead) in ok x (Spelt t) && rest
+forms (t ∷ ts) (x ∷ ahead) = let rest = forms ts (due x (Some t) ++ ahead) in ok x (Some t) && rest
 
 -- ---- what parts follow a line, by their first lines
 -- the sort of part that starts with the first of these lines
@@ -51,6 +48,10 @@ all_fit (t ∷ ts) = let rest = all_fit ts in line_fits t ts && rest
 -- what is due walked over from line `at` on: where it ends, and whether all fits, with what came before
 abbrev pub walked_over : List Triple → ℕ → Bool → List Item → Walked
 walked_over ls at held ahead = record { line = part_line ls at (length ahead); fits = held && meets (drop at ls) ahead }
+
+-- a walk over what is due, from where another one ended, gave `to`: so on any lines that are held from there on
+abbrev pub WalksOver : List ℕ → ℕ → Walked → List Item → Walked → Type 0
+WalksOver d lines from ahead to = (ls : List Triple) → HeldFrom ls d lines from.line → to ≡ walked_over ls from.line from.fits ahead
 
 -- line i, which says t: where its parts end, and whether it fits
 abbrev pub walked : List Triple → ℕ → Triple → Walked

@@ -1,8 +1,7 @@
 -- What lines a sheet that is taken has. Assumes nothing: these are definitions.
-use Rattle.std.specs.Prelude.{◌≡◌, true, List, [], ◌∷◌, ◌++◌, ℕ, take, drop}
+use Rattle.std.specs.Prelude.{◌≡◌, true, List, [], ◌∷◌, ◌++◌, ℕ, take, drop, Some}
 use Rattle.nodes.specs.Parts.{take_parts}
 use Rattle.spelling.specs.declared.Triple.{Triple}
-use Rattle.spelling.specs.declared.Line.TheVariants.{Spelt}
 use Rattle.kinds.specs.Kinds.{a_type, a_term, parts_of}
 use Rattle.grammar.specs.Grammar.{Item, part, ok, due}
 use Rattle.sheet.specs.Plan.{Declaration, declarations, places_of}
@@ -12,7 +11,7 @@ abbrev pub Forms : List Triple → List Item → Type 0
 Forms [] [] = Unit {0}
 Forms [] (x ∷ ahead) = ⊥
 Forms (t ∷ ts) [] = ⊥
-Forms (t ∷ ts) (x ∷ ahead) = (ok x (Spelt t) ≡ true) × Forms ts (due x (Spelt t) ++ ahead)
+Forms (t ∷ ts) (x ∷ ahead) = (ok x (Some t) ≡ true) × Forms ts (due x (Some t) ++ ahead)
 
 -- one whole type, term or pattern
 abbrev pub IsPart : ℕ → List Triple → Type 0

@@ -4,3 +4,4 @@ pub mod Form
 pub mod Used
 pub mod Fit
 pub mod Binders
+pub mod Entries

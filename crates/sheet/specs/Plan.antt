@@ -1,15 +1,11 @@
 -- The plan on a sheet: its data constructors, its context, its expected type and its term. Assumes nothing: these are definitions.
-use Rattle.std.specs.Prelude.{Bool, true, false, not, cond, ◌&&◌, ◌||◌, List, [], ◌∷◌, map, ℕ, zero, suc, ◌+◌, ◌<◌, length, take, drop, eqb}
-use Rattle.std.proofs.Math.Option.{Option, none, some}
+use Rattle.sheet.specs.declared.Extent.{Extent}
+use Rattle.std.specs.Prelude.{Bool, true, false, not, cond, ◌&&◌, ◌||◌, List, [], ◌∷◌, map, ℕ, zero, suc, ◌+◌, ◌<◌, length, take, drop, eqb, Option, None, Some}
 use Rattle.nodes.specs.Nodes.{Node, node, Ty}
 use Rattle.nodes.specs.Parts.{take_parts}
 use Rattle.spelling.specs.declared.Triple.{Triple}
-use Rattle.spelling.specs.declared.Line.{Line}
-use Rattle.spelling.specs.declared.Line.TheVariants.{Spelt, Misspelt}
 use Rattle.spelling.specs.Spelling.{lines_of}
 use Rattle.kinds.specs.Kinds.{parts_of}
-use Rattle.sheet.specs.declared.Found.{Found}
-use Rattle.sheet.specs.declared.Found.TheVariants.{At, Nothing}
 use Rattle.sheet.specs.declared.Places.{Places}
 
 -- ---- lines
@@ -17,9 +13,9 @@ use Rattle.sheet.specs.declared.Places.{Places}
 abbrev pub no_triple : Triple
 no_triple = record { kind = 0; negative = false; value = 0; count = 0 }
 
-abbrev pub triple_of : Line → Triple
-triple_of (Spelt t) = t
-triple_of Misspelt = no_triple
+abbrev pub triple_of : Option Triple → Triple
+triple_of (Some t) = t
+triple_of None = no_triple
 
 -- a sheet as its lines
 unfoldable pub triples : List ℕ → List Triple
@@ -65,16 +61,16 @@ declarations (t ∷ ts) zero at =
     cond (is_entry t) (record { head = t; line = at + 1; count = length (take_parts parts_of ts 1) } ∷ others) []
 
 -- where the type of the entry of kind k and name x stands
-unfoldable pub find_in : ℕ → ℕ → List Declaration → Found
-find_in k x [] = Nothing
-find_in k x (e ∷ es) = cond (named k x e.head) (At e.line e.count) (find_in k x es)
+unfoldable pub find_in : ℕ → ℕ → List Declaration → Option Extent
+find_in k x [] = None
+find_in k x (e ∷ es) = cond (named k x e.head) (Some (record { line = e.line; count = e.count })) (find_in k x es)
 
 -- the line after the entries, which start at line `at`
 unfoldable pub end_from : ℕ → List Declaration → ℕ
 end_from at [] = at
 end_from at (e ∷ es) = end_from (e.line + e.count) es
 
-unfoldable pub find_entry : ℕ → ℕ → List Triple → Found
+unfoldable pub find_entry : ℕ → ℕ → List Triple → Option Extent
 find_entry k x ls = find_in k x (declarations ls 0 0)
 
 unfoldable pub entries_end : List Triple → ℕ
@@ -97,12 +93,12 @@ bindings_in k ls (e ∷ es) =
 
 -- the type under a name; and the type that stands at a place
 unfoldable pub lookup : ℕ → Bindings → Option Ty
-lookup x [] = none
-lookup x (◌∶◌ y t ∷ bs) = cond (eqb y x) (some t) (lookup x bs)
+lookup x [] = None
+lookup x (◌∶◌ y t ∷ bs) = cond (eqb y x) (Some t) (lookup x bs)
 
-abbrev pub type_at : List Triple → Found → Option Ty
-type_at ls (At line count) = some (nodes_of (take count (drop line ls)))
-type_at ls Nothing = none
+abbrev pub type_at : List Triple → Option Extent → Option Ty
+type_at ls (Some e) = Some (nodes_of (take e.count (drop e.line ls)))
+type_at ls None = None
 
 -- the lines at which the expected type and the term start: each comes after a line of its own, of kind 3 and of kind 4
 unfoldable pub places_of : List Triple → Places

@@ -1,11 +1,11 @@
 -- A sheet that was read, as rows of two words: a line's value; and its kind, sign and count with the line after the part that starts there. A binder stands in the latter too. Behind the rows stand links between the entries.
 -- Assumes nothing: these are definitions.
-use Rattle.std.specs.Prelude.{◌≡◌, Bool, cond, ◌&&◌, List, [], ◌∷◌, ◌++◌, ℕ, zero, suc, ◌+◌, ◌*◌, ◌-◌, ◌/◌, ◌%◌, ◌≤◌, ◌<◌, eqb, ltb, length, get_or, set, take, drop}
+use Rattle.sheet.specs.declared.Entry.{Entry}
+use Rattle.sheet.specs.declared.Extent.{Extent}
+use Rattle.std.specs.Prelude.{◌≡◌, Bool, cond, ◌&&◌, List, [], ◌∷◌, ◌++◌, ℕ, zero, suc, ◌+◌, ◌*◌, ◌-◌, ◌/◌, ◌%◌, ◌≤◌, ◌<◌, eqb, ltb, length, get_or, set, take, drop, Option, Some, None}
 use Rattle.sizes.specs.Sizes.{most_lines}
 use Rattle.nodes.specs.Nodes.{zeros}
 use Rattle.spelling.specs.declared.Triple.{Triple}
-use Rattle.sheet.specs.declared.Found.{Found}
-use Rattle.sheet.specs.declared.Found.TheVariants.{At, Nothing}
 use Rattle.sheet.specs.Plan.{no_triple, triples, part_line, named, Declaration, declarations, find_entry}
 
 -- the second word: 10 bits of kind, one of sign, 17 of count, and then the line, of 12; a binder's place stands above
@@ -38,6 +38,20 @@ EndsFrom ls d at = (i : ℕ) → at ≤ i → i < length ls → end_at d i ≡ p
 abbrev pub KindsFrom : List Triple → List ℕ → ℕ → Type 0
 KindsFrom ls d at = (i : ℕ) → at ≤ i → i < length ls → get_or d (2 * i + 1) 0 % 1024 ≡ (get_or ls i no_triple).kind
 
+-- the lines ls, which are so many, are held with their ends and kinds from line `at` on
+pub record HeldFrom (ls : List Triple) (d : List ℕ) (lines at : ℕ) : Type 0 where
+  pub count : length ls ≡ lines
+  pub ends : EndsFrom ls d at
+  pub kinds : KindsFrom ls d at
+
+-- an entry as the code has it: with the line after it; and the first of entries
+abbrev pub entry_of : Declaration → Entry
+entry_of e = record { head = e.head; line = e.line; end = e.line + e.count }
+
+abbrev pub first_entry : List Declaration → Option Entry
+first_entry [] = None
+first_entry (e ∷ es) = Some (entry_of e)
+
 -- ---- links: an entry is written as the line after it, and 0 is none
 -- the first entry with that remainder, and the next one with the remainder of the entry at line i
 abbrev pub first_at : List ℕ → ℕ → ℕ
@@ -56,10 +70,15 @@ linked_from (suc n) d k x at =
 unfoldable pub linked : List ℕ → ℕ → ℕ → ℕ
 linked d k x = linked_from (line_count d) d k x (first_at d (x % line_count d))
 
+-- the line after an entry that is linked, if it is one
+abbrev pub some_line : ℕ → Option ℕ
+some_line zero = None
+some_line (suc i) = Some (suc i)
+
 -- where the type of an entry stands that is linked
-abbrev pub placed : List Triple → ℕ → Found
-placed ls zero = Nothing
-placed ls (suc i) = At (suc i) (part_line ls (suc i) 1 - suc i)
+abbrev pub placed : List Triple → ℕ → Option Extent
+placed ls zero = None
+placed ls (suc i) = Some (record { line = suc i; count = part_line ls (suc i) 1 - suc i })
 
 -- ---- binders: a Var in a constructor's type has the place of the quantifier at the type's front that binds it
 -- the names that the quantifiers at the front of a type bind
@@ -97,7 +116,7 @@ pub record Linked (d : List ℕ) : Type 0 where
 pub record Ended (d : List ℕ) : Type 0 where
   pub ends : EndsFrom (rows d) d 0
   pub found : (k x : ℕ) → placed (rows d) (linked d k x) ≡ find_entry k x (rows d)
-  pub bound : (x line n : ℕ) → find_entry 1 x (rows d) ≡ At line n → Bound (rows d) d line n
+  pub bound : (x line n : ℕ) → find_entry 1 x (rows d) ≡ Some (record { line = line; count = n }) → Bound (rows d) d line n
 
 -- the entry at line i put in front of those with the remainder of its name
 abbrev pub in_front : List ℕ → ℕ → ℕ → List ℕ

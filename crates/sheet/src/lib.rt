@@ -1,27 +1,40 @@
-// The plan on a sheet: its lines, where a part starts, its entries, where its expected type and its term start, the plain mark.
-// A sheet is read once into rows, and the rules read those. A function that looks for a part's end asks for rows that have their ends, as `read_plan` gives them; the others take any words. What
-// they mean as a plan is for a sheet that is one.
+// The plan on a sheet: its lines, where a part starts, its entries, where its expected type and its term start, the
+// plain mark. A sheet is read once into rows, and the rules read those. A function that looks for a part's end asks for
+// rows that have their ends, as `read_plan` gives them; the others take any words. What they mean as a plan is for a
+// sheet that is one.
 #![tactic(auto)]
 
-ghost use Rattle.std.specs.Prelude.{◌≡◌, true, not, cond, ◌&&◌, ◌||◌, List, [], ◌∷◌, ℕ, ◌+◌, ◌*◌, ◌-◌, ◌/◌, ◌%◌, ◌≤◌, ◌<◌, length, get_or, set, take, drop, replicate};
+ghost use Rattle.std.specs.Prelude.{◌≡◌, true, not, cond, ◌&&◌, ◌||◌, List, [], ◌∷◌, ℕ, ◌+◌, ◌*◌, ◌-◌, ◌/◌, ◌%◌, ◌≤◌, ◌<◌, length, get_or, set, take, drop, replicate, eqb};
 ghost use Rattle.std.proofs.lemmas.List.Edits.{sets};
 ghost use Rattle.sizes.specs.Sizes.{line_length, most_lines};
 ghost use Rattle.kinds.specs.Kinds.{a_goal, row_of, Tabled};
-ghost use Rattle.grammar.specs.Grammar.{part, entries, in_order, arms, repeated};
+ghost use Rattle.grammar.specs.Grammar.{part, entries, arms, repeated};
 ghost use Rattle.grammar.specs.Check.{length_ok, check};
 ghost use Rattle.nodes.specs.Nodes.{number, words, zeros};
 ghost use Rattle.nodes.specs.Lists.{All};
-ghost use Rattle.sheet.specs.Plan.{no_triple, triple_of, triples, part_line, line_node, nodes_of, Narrow, is_entry, named, declarations, find_entry, entries_end, places_of, is_plain, is_use, plain_entries, plain_plan};
+ghost use Rattle.sheet.specs.Plan.{no_triple, triples, part_line, line_node, nodes_of, Narrow, is_entry, named, declarations, find_entry, entries_end, places_of, is_plain, is_use, plain_entries, plain_plan};
 ghost use Rattle.sheet.specs.Used.{table_length, mark_name, marked, is_marked, Tells, SmallNames};
-ghost use Rattle.sheet.specs.Rows.{packed, row_triple, line_count, rows, end_at, binder_at, EndsFrom, Ended, set_row, RowAsk, KindsFrom, linked, link_entry, Unlinked, Linked, unlinked_words, link_all, front_of, set_binder, put_binders, quantified, bind_type, bind_all, sheet_words};
+ghost use Rattle.sheet.specs.Rows.{packed, row_triple, line_count, rows, end_at, binder_at, EndsFrom, HeldFrom, first_entry, some_line, Ended, set_row, RowAsk, KindsFrom, linked, link_entry, Unlinked, Linked, unlinked_words, link_all, front_of, set_binder, put_binders, quantified, bind_type, bind_all, sheet_words};
 ghost use Rattle.sheet.specs.Binders.{put_names, binder_by, TellsPlaces, UpTo, mark_type, mark_all, any_quantified, Bindable, TypeAsk};
-ghost use Rattle.sheet.specs.Fit.{is_plan, forms, parts_after, walked_over, walked, line_fits, all_fit};
+ghost use Rattle.sheet.specs.Fit.{is_plan, forms, parts_after, WalksOver, walked, line_fits, all_fit};
 
+use grammar::in_order;
 use kinds::{
     ARM, NOTHING, PATTERN, Row, TERM, TYPE, fields_ok, is_leaf, table_words, unpacked, word_in,
 };
 use sizes::{HIGHEST_NAME, LINE_LENGTH};
-use spelling::{Line, Triple, few_at, line_at};
+use spelling::{Triple, few_at, line_at};
+
+// What a line says where there is none.
+const NO_TRIPLE: Triple = Triple {
+    kind: 0,
+    negative: false,
+    value: 0,
+    count: 0,
+};
+
+// An element for each name.
+const TABLE_LENGTH: usize = HIGHEST_NAME as usize + 1;
 
 // How many lines there are: each has a row of two words, and behind the rows two words that link the entries.
 pub fn line_count(s: &[u64]) -> usize
@@ -47,13 +60,9 @@ pub fn triple_at(s: &[u64], i: usize) -> Triple
     ensures { result ≡ get_or (rows s.now) i no_triple }
 {
     if i < s.len() / 4 {
-        return row_triple(s[2 * i], s[2 * i + 1]);
-    }
-    Triple {
-        kind: 0,
-        negative: false,
-        value: 0,
-        count: 0,
+        row_triple(s[2 * i], s[2 * i + 1])
+    } else {
+        NO_TRIPLE
     }
 }
 
@@ -65,36 +74,13 @@ fn end_at(s: &[u64], i: usize) -> usize
     (s[2 * i + 1] / 268435456 % 4096) as usize
 }
 
-// What stands above the end in a row's second word. A word's range is known of a parameter.
-fn binder_in(word: u64) -> u32
-    ensures { (result ≡ word / 1099511627776) × (result < 16777216) }
-{
-    (word / 1099511627776) as u32
-}
-
-// The place of the quantifier at the front of a constructor's type that binds the Var at line i, counted from 1; 0 where none does.
+// The place of the quantifier at the front of a constructor's type that binds the Var at line i, counted from 1;
+// 0 where none does.
 pub fn binder_at(s: &[u64], i: usize) -> u32
     requires { 2 * i + 1 < length s.now }
     ensures { (result ≡ binder_at s.now i) × (result < 16777216) }
 {
-    binder_in(s[2 * i + 1])
-}
-
-// The line after n whole parts that start at line `first` of so many lines, or the line count if they don't end; from `first` on the ends stand in the rows.
-fn after_parts(s: &[u64], lines: usize, first: usize, n: usize) -> usize
-    requires { 2 * lines ≤ length s.now }
-    ensures { (ls : List Triple) → length ls ≡ lines → EndsFrom ls s.now first → result ≡ part_line ls first n }
-{
-    let mut at = first;
-    let mut due = n;
-    while 0 < due {
-        if lines <= at {
-            return at;
-        }
-        at = end_at(s, at);
-        due -= 1;
-    }
-    at
+    (s[2 * i + 1] / 1099511627776) as u32
 }
 
 // The line after n whole parts that start at line `first`, or the line count if they don't end.
@@ -102,48 +88,30 @@ pub fn part_line(s: &[u64], first: usize, n: usize) -> usize
     requires { Ended s.now }
     ensures { result ≡ part_line (rows s.now) first n }
 {
-    after_parts(s, line_count(s), first, n)
-}
-
-// What a line of the sheet itself says; all 0 where it is misspelt.
-fn triple_of(l: Line) -> Triple
-    ensures { result ≡ triple_of l }
-{
-    match l {
-        Line::Spelt(t) => t,
-        Line::Misspelt => Triple {
-            kind: 0,
-            negative: false,
-            value: 0,
-            count: 0,
-        },
+    let lines = line_count(s);
+    let mut at = first;
+    for _ in 0..n {
+        if lines <= at {
+            return at;
+        }
+        at = end_at(s, at);
     }
-}
-
-fn sign_bit(negative: bool) -> u64
-    ensures { result ≡ cond negative 1 0 }
-{
-    if negative { 1 } else { 0 }
+    at
 }
 
 fn pack(t: Triple, end: usize) -> u64
     requires { (t.kind < 1000) × (t.count < 100000) × (end ≤ most_lines + 1) }
     ensures { result ≡ packed t end }
 {
-    let sign = sign_bit(t.negative);
-    t.kind + 1024 * (sign + 2 * (t.count + 131072 * (end as u64)))
+    t.kind + 1024 * (u64::from(t.negative) + 2 * (t.count + 131072 * (end as u64)))
 }
 
 // No entry is linked.
 fn clear_links(d: &mut [u64])
     ensures { d.new ≡ sets d.old (2 * line_count d.old) (zeros (length d.old - 2 * line_count d.old)) }
 {
-    let n = d.len();
-    let mut i = 2 * (n / 4);
-    while i < n {
-        d[i] = 0;
-        i += 1;
-    }
+    let behind = 2 * (d.len() / 4);
+    d[behind..].fill(0);
 }
 
 // What line i says. Most lines have few digits.
@@ -151,158 +119,135 @@ fn line_said(s: &[u8], i: usize) -> Triple
     requires { i < length s.now / line_length }
     ensures { result ≡ get_or (triples s.now) i no_triple }
 {
-    if let Line::Spelt(t) = few_at(s, LINE_LENGTH * i) {
-        return t;
+    match few_at(s, LINE_LENGTH * i) {
+        Some(t) => t,
+        None => line_at(s, i).unwrap_or(NO_TRIPLE),
     }
-    triple_of(line_at(s, i))
 }
 
-fn both(a: bool, b: bool) -> bool
-    ensures { result ≡ (a && b) }
-{
-    if a { b } else { false }
-}
-
-// The sort of part that starts at line i.
-fn sort_at(d: &[u64], words: &[u32; 44], i: usize) -> u64
-    requires { (2 * i + 1 < length d.now) × Tabled words.now }
-    ensures { result ≡ (row_of (get_or d.now (2 * i + 1) 0 % 1024)).sort }
-{
-    let row = unpacked(word_in(words, d[2 * i + 1] % 1024));
-    row.sort
-}
-
-// Where the parts that follow a line end, and whether the line fits in front of them.
+// Where the parts that follow a line end, and whether the line fits in front of them. A part that doesn't fit ends too,
+// and so its line is read: there is one in either case.
 #[derive(Clone, Copy)]
 pub struct Walked {
     pub line: usize,
     pub fits: bool,
 }
 
-// Walks over n parts of one sort from line `at` on by their first lines; the rows from there on have their ends. `held` tells whether all before them fits.
-fn walk_sort(
-    d: &[u64],
-    words: &[u32; 44],
+// What is read of the parts that follow a line: the sheet's rows, of so many lines, and the table of kinds.
+#[derive(Clone, Copy)]
+struct Walk<'a> {
+    sheet: &'a [u64],
+    table: &'a [u32; 44],
     lines: usize,
-    at: usize,
-    n: u64,
-    sort: u64,
-    held: bool,
-) -> Walked
-    requires { (2 * lines ≤ length d.now) × Tabled words.now × (0 < sort) }
-    ensures { (ls : List Triple) → length ls ≡ lines → EndsFrom ls d.now at → KindsFrom ls d.now at → result ≡ walked_over ls at held (replicate n (part sort)) }
-{
-    let mut line = at;
-    let mut fits = held;
-    let mut due = n;
-    while 0 < due {
-        if lines <= line {
-            return Walked { line, fits: false };
+    ghost room: { 2 * lines ≤ length sheet.now },
+    ghost tabled: { Tabled table.now },
+}
+
+// Each walks over parts by their first lines, from where another one ended on; the rows from there on have been read.
+impl Walk<'_> {
+    // The sort of part that starts at line i.
+    fn sort_at(self, i: usize) -> u64
+        requires { 2 * i + 1 < length self.sheet.now }
+        ensures { result ≡ (row_of (get_or self.entry.sheet.now (2 * i + 1) 0 % 1024)).sort }
+    {
+        unpacked(word_in(self.table, self.sheet[2 * i + 1] % 1024)).sort
+    }
+
+    // n parts of one sort.
+    fn over_sort(self, from: Walked, n: u64, sort: u64) -> Walked
+        requires { 0 < sort }
+        ensures { WalksOver self.entry.sheet.now self.entry.lines from (replicate n (part sort)) result }
+    {
+        let mut line = from.line;
+        let mut fits = from.fits;
+        for _ in 0..n {
+            if self.lines <= line {
+                return Walked { line, fits: false };
+            }
+            fits &= self.sort_at(line) == sort;
+            line = end_at(self.sheet, line);
         }
-        fits = both(fits, sort_at(d, words, line) == sort);
-        line = end_at(d, line);
-        due -= 1;
+        Walked { line, fits }
     }
-    Walked { line, fits }
-}
 
-// The same over n arms.
-fn walk_arms(d: &[u64], words: &[u32; 44], lines: usize, at: usize, n: u64, held: bool) -> Walked
-    requires { (2 * lines ≤ length d.now) × Tabled words.now }
-    ensures { (ls : List Triple) → length ls ≡ lines → EndsFrom ls d.now at → KindsFrom ls d.now at → result ≡ walked_over ls at held (arms n) }
-{
-    let mut line = at;
-    let mut fits = held;
-    let mut due = n;
-    while 0 < due {
-        let pattern = walk_sort(d, words, lines, line, 1, PATTERN, fits);
-        let term = walk_sort(d, words, lines, pattern.line, 1, TERM, pattern.fits);
-        line = term.line;
-        fits = term.fits;
-        due -= 1;
+    // n arms.
+    fn over_arms(self, from: Walked, n: u64) -> Walked
+        ensures { WalksOver self.entry.sheet.now self.entry.lines from (arms n) result }
+    {
+        let mut walked = from;
+        for _ in 0..n {
+            let pattern = self.over_sort(walked, 1, PATTERN);
+            walked = self.over_sort(pattern, 1, TERM);
+        }
+        walked
     }
-    Walked { line, fits }
-}
 
-// The same over what follows n times.
-fn walk_each(
-    d: &[u64],
-    words: &[u32; 44],
-    lines: usize,
-    at: usize,
-    n: u64,
-    each: u64,
-    held: bool,
-) -> Walked
-    requires { (2 * lines ≤ length d.now) × Tabled words.now × (each ≤ 4) }
-    ensures { (ls : List Triple) → length ls ≡ lines → EndsFrom ls d.now at → KindsFrom ls d.now at → result ≡ walked_over ls at held (repeated each n) }
-{
-    if each == NOTHING {
-        return Walked {
-            line: at,
-            fits: held,
+    // What follows n times.
+    fn over_each(self, from: Walked, n: u64, each: u64) -> Walked
+        requires { each ≤ 4 }
+        ensures { WalksOver self.entry.sheet.now self.entry.lines from (repeated each n) result }
+    {
+        match each {
+            NOTHING => from,
+            ARM => self.over_arms(from, n),
+            _ => self.over_sort(from, n, each),
+        }
+    }
+
+    // All that follows a line of that row with the count n.
+    fn over_parts(self, from: Walked, n: u64, row: Row) -> Walked
+        requires { row.each ≤ 4 }
+        ensures { WalksOver self.entry.sheet.now self.entry.lines from (parts_after row n) result }
+    {
+        let types = self.over_sort(from, row.types, TYPE);
+        let terms = self.over_sort(types, row.terms, TERM);
+        self.over_each(terms, n, row.each)
+    }
+
+    // All that follows line i, which says t. The line fits if its fields are in range and each part starts with a line
+    // of the sort that is due there.
+    fn over_line(self, i: usize, t: Triple) -> Walked
+        requires { i < self.lines }
+        ensures { (ls : List Triple) → HeldFrom ls self.entry.sheet.now self.entry.lines (i + 1) → result ≡ walked ls i t }
+    {
+        let word = word_in(self.table, t.kind);
+        let here = Walked {
+            line: i + 1,
+            fits: fields_ok(word, t),
         };
+        if is_leaf(word) {
+            return here;
+        }
+        self.over_parts(here, t.count, unpacked(word))
     }
-    if each == ARM {
-        return walk_arms(d, words, lines, at, n, held);
-    }
-    walk_sort(d, words, lines, at, n, each, held)
 }
 
-// The same over all that follows a line of that row with the count n.
-fn walk_parts(
-    d: &[u64],
-    words: &[u32; 44],
-    lines: usize,
-    at: usize,
-    n: u64,
-    row: Row,
-    held: bool,
-) -> Walked
-    requires { (2 * lines ≤ length d.now) × Tabled words.now × (row.each ≤ 4) }
-    ensures { (ls : List Triple) → length ls ≡ lines → EndsFrom ls d.now at → KindsFrom ls d.now at → result ≡ walked_over ls at held (parts_after row n) }
-{
-    let types = walk_sort(d, words, lines, at, row.types, TYPE, held);
-    let terms = walk_sort(d, words, lines, types.line, row.terms, TERM, types.fits);
-    walk_each(d, words, lines, terms.line, n, row.each, terms.fits)
-}
-
-// Walks over the parts of line i, which says t. The line fits if its fields are in range and each part starts with a line of the sort that is due there.
-fn walk_line(d: &[u64], words: &[u32; 44], lines: usize, i: usize, t: Triple) -> Walked
-    requires { (2 * lines ≤ length d.now) × (i < lines) × Tabled words.now }
-    ensures { (ls : List Triple) → length ls ≡ lines → EndsFrom ls d.now (i + 1) → KindsFrom ls d.now (i + 1) → result ≡ walked ls i t }
-{
-    let word = word_in(words, t.kind);
-    let fits = fields_ok(word, t);
-    if is_leaf(word) {
-        return Walked { line: i + 1, fits };
-    }
-    walk_parts(d, words, lines, i + 1, t.count, unpacked(word), fits)
-}
-
-// Reads line i to its row. Its parts end where its own end stands; those after it have been read. Gives whether the line fits in front of them.
-fn read_line(d: &mut [u64], words: &[u32; 44], s: &[u8], i: usize) -> bool
-    requires { RowAsk d.old s.now i × Tabled words.now }
+// Reads line i to its row. Its parts end where its own end stands; those after it have been read. Gives whether the
+// line fits in front of them.
+fn read_line(d: &mut [u64], table: &[u32; 44], s: &[u8], i: usize) -> bool
+    requires { RowAsk d.old s.now i × Tabled table.now }
     ensures { (d.new ≡ set_row d.old i (get_or (triples s.now) i no_triple) (part_line (triples s.now) i 1)) × (result ≡ line_fits (get_or (triples s.now) i no_triple) (drop (i + 1) (triples s.now))) }
 {
     let t = line_said(s, i);
-    let w = walk_line(d, words, s.len() / LINE_LENGTH, i, t);
+    let walk = Walk {
+        sheet: d,
+        table,
+        lines: s.len() / LINE_LENGTH,
+    };
+    let parts = walk.over_line(i, t);
     d[2 * i] = t.value;
-    d[2 * i + 1] = pack(t, w.line);
-    w.fits
+    d[2 * i + 1] = pack(t, parts.line);
+    parts.fits
 }
 
 // Reads all lines, the last one first. Gives whether every line fits in front of those after it.
-fn read_lines(d: &mut [u64], words: &[u32; 44], s: &[u8]) -> bool
-    requires { (length d.old ≡ 4 * length (triples s.now)) × (length (triples s.now) ≤ most_lines) × Unlinked d.old × Tabled words.now }
+fn read_lines(d: &mut [u64], table: &[u32; 44], s: &[u8]) -> bool
+    requires { (length d.old ≡ 4 * length (triples s.now)) × (length (triples s.now) ≤ most_lines) × Unlinked d.old × Tabled table.now }
     ensures { (rows d.new ≡ triples s.now) × EndsFrom (rows d.new) d.new 0 × Unlinked d.new × (d.new ≡ unlinked_words (triples s.now)) × (result ≡ all_fit (triples s.now)) }
 {
-    let mut i = s.len() / LINE_LENGTH;
     let mut fits = true;
-    while 0 < i {
-        i -= 1;
-        let here = read_line(d, words, s, i);
-        fits = both(here, fits);
+    for i in (0..s.len() / LINE_LENGTH).rev() {
+        fits &= read_line(d, table, s, i);
     }
     fits
 }
@@ -312,52 +257,77 @@ fn goal_ok(d: &[u64], at: usize) -> bool
     requires { EndsFrom (rows d.now) d.now 0 × (all_fit (rows d.now) ≡ true) }
     ensures { result ≡ forms (drop at (rows d.now)) (part a_goal ∷ []) }
 {
-    let lines = line_count(d);
-    if at < lines {
-        let t = triple_at(d, at);
-        if t.kind == 4 {
-            return end_at(d, at) == lines;
-        }
-    }
-    false
+    triple_at(d, at).kind == 4 && end_at(d, at) == line_count(d)
 }
 
-// An entry of kind 2 comes after those of kind 1, and its name is above the last one of its kind.
-fn in_order(t: Triple, kind: u64, last: u64) -> bool
-    ensures { result ≡ in_order kind last t }
+// An entry: its own line, where its type starts, and the line after it.
+#[derive(Clone, Copy)]
+struct Entry {
+    head: Triple,
+    line: usize,
+    end: usize,
+}
+
+// The entry at line `at`, if one is there.
+fn entry_at(s: &[u64], at: usize) -> Option<Entry>
+    requires { EndsFrom (rows s.now) s.now at }
+    ensures { result ≡ first_entry (declarations (drop at (rows s.now)) 0 at) }
 {
-    if t.kind == kind {
-        last < t.value
+    let head = triple_at(s, at);
+    if is_entry(head) {
+        Some(Entry {
+            head,
+            line: at + 1,
+            end: end_at(s, at),
+        })
     } else {
-        t.kind == 2
+        None
     }
 }
 
-// The plan's own lines come in their order: entries, the expected type's, the goal's. All lines fit in front of those after them.
+// The entries from line `at` on.
+#[derive(Clone, Copy)]
+struct Entries<'a> {
+    sheet: &'a [u64],
+    at: usize,
+    ghost ends: { EndsFrom (rows sheet.now) sheet.now at },
+}
+
+impl Iterator for Entries<'_> {
+    ghost use Rattle.std.specs.Iterator.{YieldsFirst, item_count};
+    ghost use Rattle.sheet.specs.Entries.{entries_left};
+
+    type Item = Entry;
+
+    ghost next_gives = { YieldsFirst entries_left };
+
+    ghost remaining = { item_count entries_left };
+
+    fn next(&mut self) -> Option<Entry> {
+        let entry = entry_at(self.sheet, self.at)?;
+        self.at = entry.end;
+        Some(entry)
+    }
+}
+
+// The plan's own lines come in their order: entries, the expected type's, the goal's. All lines fit in front of those
+// after them.
 fn top_ok(d: &[u64]) -> bool
     requires { EndsFrom (rows d.now) d.now 0 × (all_fit (rows d.now) ≡ true) }
     ensures { result ≡ forms (rows d.now) (entries 1 0 ∷ []) }
 {
-    let lines = line_count(d);
     let mut at = 0;
     let mut kind: u64 = 1;
     let mut last: u64 = 0;
-    while at < lines {
-        let t = triple_at(d, at);
-        if !is_entry(t) {
-            if t.kind == 3 {
-                return goal_ok(d, end_at(d, at));
-            }
+    while let Some(entry) = entry_at(d, at) {
+        if !in_order(entry.head, kind, last) {
             return false;
         }
-        if !in_order(t, kind, last) {
-            return false;
-        }
-        kind = t.kind;
-        last = t.value;
-        at = end_at(d, at);
+        kind = entry.head.kind;
+        last = entry.head.value;
+        at = entry.end;
     }
-    false
+    triple_at(d, at).kind == 3 && goal_ok(d, end_at(d, at))
 }
 
 // Reads a sheet once, to rows, and tells whether it is a plan: every word is fixed, those of the links too.
@@ -366,38 +336,32 @@ pub fn read_plan(d: &mut [u64], s: &[u8]) -> bool
     ensures { (result ≡ is_plan (check s.now)) × (d.new ≡ cond result (sheet_words (triples s.now)) (unlinked_words (triples s.now))) × (result ≡ true → (rows d.new ≡ triples s.now) × Ended d.new) }
 {
     clear_links(d);
-    let words = table_words();
-    if read_lines(d, &words, s) {
-        if top_ok(d) {
-            link_entries(d);
-            bind_entries(d);
-            return true;
-        }
+    let table = table_words();
+    if read_lines(d, &table, s) && top_ok(d) {
+        link_entries(d);
+        bind_entries(d);
+        return true;
     }
     false
 }
 
 // Where the type of an entry stands: its first line, and how many lines it has.
 #[derive(Clone, Copy)]
-pub enum Found {
-    At { line: usize, count: usize },
-    Nothing,
+pub struct Extent {
+    pub line: usize,
+    pub count: usize,
 }
 
 fn is_entry(t: Triple) -> bool
     ensures { result ≡ is_entry t }
 {
-    if t.kind == 1 { true } else { t.kind == 2 }
+    matches!(t.kind, 1 | 2)
 }
 
 fn is_named(t: Triple, kind: u64, name: u64) -> bool
     ensures { result ≡ named kind name t }
 {
-    if t.kind == kind {
-        t.value == name
-    } else {
-        false
-    }
+    t.kind == kind && t.value == name
 }
 
 // Names with the same remainder by the line count share a slot.
@@ -408,42 +372,36 @@ fn slot_of(name: u64, lines: usize) -> usize
     (name % (lines as u64)) as usize
 }
 
-// The line after the linked entry of that kind and name; 0 if none is linked.
-fn linked_line(s: &[u64], kind: u64, name: u64) -> usize
-    ensures { result ≡ linked s.now kind name }
+// The line after the linked entry of that kind and name, if one is linked. A word of the links holds 0 for none.
+fn linked_line(s: &[u64], kind: u64, name: u64) -> Option<usize>
+    ensures { result ≡ some_line (linked s.now kind name) }
 {
     let lines = s.len() / 4;
     if lines == 0 {
-        return 0;
+        return None;
     }
-    let slot = slot_of(name, lines);
-    let mut at = s[2 * lines + slot] as usize;
-    let mut left = lines;
-    while 0 < left {
-        if at == 0 {
-            return 0;
-        }
-        if lines < at {
-            return 0;
+    let mut at = s[2 * lines + slot_of(name, lines)] as usize;
+    for _ in 0..lines {
+        if at == 0 || lines < at {
+            return None;
         }
         let line = at - 1;
         if is_named(triple_at(s, line), kind, name) {
-            return at;
+            return Some(at);
         }
         at = s[3 * lines + line] as usize;
-        left -= 1;
     }
-    0
+    None
 }
 
 // Links the entry at line `at`, unless one of its kind and name is linked.
+#[tactic(auto, using(crate::proofs::RowLaws::row_counts))]
 fn link_entry(d: &mut [u64], at: usize)
     requires { at < length (rows d.old) }
     ensures { d.new ≡ link_entry d.old at }
 {
     let t = triple_at(d, at);
-    let before = linked_line(d, t.kind, t.value);
-    if before == 0 {
+    if linked_line(d, t.kind, t.value).is_none() {
         let lines = d.len() / 4;
         let slot = slot_of(t.value, lines);
         d[3 * lines + at] = d[2 * lines + slot];
@@ -456,21 +414,15 @@ fn link_entries(d: &mut [u64])
     requires { EndsFrom (rows d.old) d.old 0 × Unlinked d.old }
     ensures { (rows d.new ≡ rows d.old) × Linked d.new × (d.new ≡ link_all d.old (declarations (rows d.old) 0 0)) }
 {
-    let lines = line_count(d);
     let mut at = 0;
-    while at < lines {
-        if is_entry(triple_at(d, at)) {
-            link_entry(d, at);
-            at = after_parts(d, lines, at + 1, 1);
-        } else {
-            return;
-        }
+    while let Some(entry) = entry_at(d, at) {
+        link_entry(d, at);
+        at = entry.end;
     }
 }
 
 // A line number for each name: the line after the last quantifier that bound it, 0 for none.
-fn set_name(last: &mut [u16], name: u64, line: u16)
-    requires { length last.old ≡ table_length }
+fn set_name(last: &mut [u16; TABLE_LENGTH], name: u64, line: u16)
     ensures { last.new ≡ set last.old name line }
 {
     if name <= HIGHEST_NAME {
@@ -479,41 +431,34 @@ fn set_name(last: &mut [u16], name: u64, line: u16)
 }
 
 // The names that the quantifiers at the front of a type bind; the type is the lines from `first` up to `end`.
-fn mark_front(last: &mut [u16], s: &[u64], first: usize, end: usize)
-    requires { (length last.old ≡ table_length) × (end < 65536) }
+fn mark_front(last: &mut [u16; TABLE_LENGTH], s: &[u64], first: usize, end: usize)
+    requires { end < 65536 }
     ensures { last.new ≡ put_names last.old first (front_of (take (end - first) (drop first (rows s.now)))) }
 {
-    let mut i = first;
-    while i < end {
+    for i in first..end {
         let t = triple_at(s, i);
-        if t.kind == 14 {
-            set_name(last, t.value, (i + 1) as u16);
-            i += 1;
-        } else {
+        if t.kind != 14 {
             return;
         }
+        set_name(last, t.value, (i + 1) as u16);
     }
 }
 
 // Which quantifier at the front of a type that starts at line `first` binds a line of it, counted from 1; 0 for none.
-fn binder_of(last: &[u16], first: usize, t: Triple) -> usize
-    requires { length last.now ≡ table_length }
+fn binder_of(last: &[u16; TABLE_LENGTH], first: usize, t: Triple) -> usize
     ensures { (result ≡ binder_by last.now first t) × (result < 65536) }
 {
-    if t.kind == 11 {
-        if t.value <= HIGHEST_NAME {
-            let line = last[t.value as usize] as usize;
-            if first < line {
-                return line - first;
-            }
-        }
+    if t.kind == 11 && t.value <= HIGHEST_NAME {
+        usize::from(last[t.value as usize]).saturating_sub(first)
+    } else {
+        0
     }
-    0
 }
 
 // Writes the binder of line i of such a type above the line's end.
-fn set_binder(d: &mut [u64], last: &[u16], first: usize, i: usize)
-    requires { (length last.now ≡ table_length) × (i < length (rows d.old)) }
+#[tactic(auto, using(crate::proofs::RowLaws::row_counts))]
+fn set_binder(d: &mut [u64], last: &[u16; TABLE_LENGTH], first: usize, i: usize)
+    requires { i < length (rows d.old) }
     ensures { d.new ≡ set_binder d.old i (binder_by last.now first (get_or (rows d.old) i no_triple)) }
 {
     let binder = binder_of(last, first, triple_at(d, i));
@@ -521,55 +466,43 @@ fn set_binder(d: &mut [u64], last: &[u16], first: usize, i: usize)
 }
 
 // Those of all its lines, up to `end`.
-fn set_binders(d: &mut [u64], last: &[u16], first: usize, end: usize)
-    requires { (length last.now ≡ table_length) × (end ≤ length (rows d.old)) }
+fn set_binders(d: &mut [u64], last: &[u16; TABLE_LENGTH], first: usize, end: usize)
+    requires { end ≤ length (rows d.old) }
     ensures { (xs : List ℕ) → TellsPlaces last.now first xs → d.new ≡ put_binders d.old first xs (take (end - first) (drop first (rows d.old))) }
 {
-    let mut i = first;
-    while i < end {
+    for i in first..end {
         set_binder(d, last, first, i);
-        i += 1;
     }
 }
 
-// An entry with the line t is a constructor, and its type, which starts at line `first`, begins with a quantifier.
-fn is_quantified(s: &[u64], t: Triple, first: usize) -> bool
-    ensures { result ≡ quantified (rows s.now) t first }
+// An entry is a constructor, and its type begins with a quantifier.
+fn is_quantified(s: &[u64], entry: Entry) -> bool
+    ensures { result ≡ quantified (rows s.now) entry.head entry.line }
 {
-    if t.kind == 1 {
-        let u = triple_at(s, first);
-        return u.kind == 14;
-    }
-    false
+    entry.head.kind == 1 && triple_at(s, entry.line).kind == 14
 }
 
-// The binders of one entry's type. What older types bound stands in the table by lines before this one's, and needs no clearing.
-fn bind_type(d: &mut [u64], last: &mut [u16], t: Triple, first: usize, end: usize)
-    requires { TypeAsk d.old last.old first end }
-    ensures { (d.new ≡ bind_type (rows d.old) d.old t first (end - first)) × (last.new ≡ mark_type (rows d.old) last.old t first (end - first)) }
+// The binders of one entry's type. What older types bound stands in the table by lines before this one's, and needs no
+// clearing.
+fn bind_type(d: &mut [u64], last: &mut [u16; TABLE_LENGTH], entry: Entry)
+    requires { TypeAsk d.old last.old entry.line entry.end }
+    ensures { (d.new ≡ bind_type (rows d.old) d.old entry.head entry.line (entry.end - entry.line)) × (last.new ≡ mark_type (rows d.old) last.old entry.head entry.line (entry.end - entry.line)) }
 {
-    if is_quantified(d, t, first) {
-        mark_front(last, d, first, end);
-        set_binders(d, last, first, end);
+    if is_quantified(d, entry) {
+        mark_front(last, d, entry.line, entry.end);
+        set_binders(d, last, entry.line, entry.end);
     }
 }
 
 // Those of every entry's.
-fn bind_types(d: &mut [u64], last: &mut [u16])
-    requires { Bindable d.old × (length last.old ≡ table_length) × UpTo last.old 0 }
+fn bind_types(d: &mut [u64], last: &mut [u16; TABLE_LENGTH])
+    requires { Bindable d.old × UpTo last.old 0 }
     ensures { (d.new ≡ bind_all (rows d.old) d.old (declarations (rows d.old) 0 0)) × (last.new ≡ mark_all (rows d.old) last.old (declarations (rows d.old) 0 0)) }
 {
-    let lines = line_count(d);
     let mut at = 0;
-    while at < lines {
-        let t = triple_at(d, at);
-        if is_entry(t) {
-            let end = after_parts(d, lines, at + 1, 1);
-            bind_type(d, last, t, at + 1, end);
-            at = end;
-        } else {
-            return;
-        }
+    while let Some(entry) = entry_at(d, at) {
+        bind_type(d, last, entry);
+        at = entry.end;
     }
 }
 
@@ -577,19 +510,8 @@ fn any_quantified(s: &[u64]) -> bool
     requires { EndsFrom (rows s.now) s.now 0 }
     ensures { result ≡ any_quantified (rows s.now) (declarations (rows s.now) 0 0) }
 {
-    let lines = line_count(s);
-    let mut at = 0;
-    while at < lines {
-        let t = triple_at(s, at);
-        if !is_entry(t) {
-            return false;
-        }
-        if is_quantified(s, t, at + 1) {
-            return true;
-        }
-        at = after_parts(s, lines, at + 1, 1);
-    }
-    false
+    let mut entries = Entries { sheet: s, at: 0 };
+    entries.any(|entry| is_quantified(s, entry))
 }
 
 // Writes the binders of the constructors' types. Most plans have none, and then no table is made.
@@ -604,19 +526,15 @@ fn bind_entries(d: &mut [u64])
 }
 
 // The type of the entry of kind `kind`, 1 or 2, and that name.
-pub fn find_entry(s: &[u64], kind: u64, name: u64) -> Found
+pub fn find_entry(s: &[u64], kind: u64, name: u64) -> Option<Extent>
     requires { Ended s.now }
     ensures { result ≡ find_entry kind name (rows s.now) }
 {
-    let first = linked_line(s, kind, name);
-    if first == 0 {
-        return Found::Nothing;
-    }
-    let end = part_line(s, first, 1);
-    Found::At {
-        line: first,
-        count: end - first,
-    }
+    let line = linked_line(s, kind, name)?;
+    Some(Extent {
+        line,
+        count: part_line(s, line, 1) - line,
+    })
 }
 
 // The line after the entries.
@@ -624,16 +542,8 @@ fn entries_end(s: &[u64]) -> usize
     requires { Ended s.now }
     ensures { result ≡ entries_end (rows s.now) }
 {
-    let lines = line_count(s);
-    let mut at = 0;
-    while at < lines {
-        if is_entry(triple_at(s, at)) {
-            at = part_line(s, at + 1, 1);
-        } else {
-            return at;
-        }
-    }
-    at
+    let entries = Entries { sheet: s, at: 0 };
+    entries.last().map_or(0, |entry| entry.end)
 }
 
 // The lines at which the expected type and the term start.
@@ -652,109 +562,69 @@ pub fn find_places(s: &[u64]) -> Places
     Places { expected, term }
 }
 
+// A line of this kind may stand in what is plain.
+fn is_plain_kind(kind: u64) -> bool
+    ensures { result ≡ not (eqb kind 14 || eqb kind 25) }
+{
+    !matches!(kind, 14 | 25)
+}
+
 // No line from `first` up to `end` has kind 14 or 25.
 fn plain_lines(s: &[u64], first: usize, end: usize) -> bool
     ensures { result ≡ is_plain (take (end - first) (drop first (rows s.now))) }
 {
-    let mut i = first;
-    while i < end {
-        let t = triple_at(s, i);
-        if t.kind == 14 {
-            return false;
-        }
-        if t.kind == 25 {
-            return false;
-        }
-        i += 1;
-    }
-    true
+    (first..end).all(|i| is_plain_kind(triple_at(s, i).kind))
 }
 
 // A line of this kind uses the name on it: a variable, a constructor or a pattern's constructor.
 fn is_use(kind: u64) -> bool
     ensures { result ≡ is_use kind }
 {
-    if kind == 21 {
-        return true;
-    }
-    if kind == 26 {
-        return true;
-    }
-    kind == 43
+    matches!(kind, 21 | 26 | 43)
 }
 
-// An element for each name.
-const TABLE_LENGTH: usize = HIGHEST_NAME as usize + 1;
-
 // Marks the name that a line uses, if it uses one.
-fn mark_name(used: &mut [u8], t: Triple)
-    requires { length used.old ≡ table_length }
+fn mark_name(used: &mut [u8; TABLE_LENGTH], t: Triple)
     ensures { used.new ≡ mark_name t used.old }
 {
-    if is_use(t.kind) {
-        if t.value <= HIGHEST_NAME {
-            used[t.value as usize] = 1;
-        }
+    if is_use(t.kind) && t.value <= HIGHEST_NAME {
+        used[t.value as usize] = 1;
     }
 }
 
 // Marks those of the lines from `first` on.
-fn mark_names(used: &mut [u8], s: &[u64], first: usize)
-    requires { length used.old ≡ table_length }
+fn mark_names(used: &mut [u8; TABLE_LENGTH], s: &[u64], first: usize)
     ensures { used.new ≡ marked (drop first (rows s.now)) used.old }
 {
-    let lines = line_count(s);
-    let mut i = first;
-    while i < lines {
+    for i in first..line_count(s) {
         mark_name(used, triple_at(s, i));
-        i += 1;
     }
 }
 
-fn is_marked(used: &[u8], name: u64) -> bool
-    requires { length used.now ≡ table_length }
+fn is_marked(used: &[u8; TABLE_LENGTH], name: u64) -> bool
     ensures { result ≡ is_marked used.now name }
 {
-    if name <= HIGHEST_NAME {
-        return used[name as usize] == 1;
-    }
-    false
+    name <= HIGHEST_NAME && used[name as usize] == 1
 }
 
-// An entry of that name, its type the lines from `first` up to `end`: plain, or its name is not marked.
-fn plain_entry(used: &[u8], s: &[u64], name: u64, first: usize, end: usize) -> bool
-    requires { length used.now ≡ table_length }
-    ensures { result ≡ (not (is_marked used.now name) || is_plain (take (end - first) (drop first (rows s.now)))) }
+// An entry is plain, or its name is not marked.
+fn plain_entry(used: &[u8; TABLE_LENGTH], s: &[u64], entry: Entry) -> bool
+    ensures { result ≡ (not (is_marked used.now entry.head.value) || is_plain (take (entry.end - entry.line) (drop entry.line (rows s.now)))) }
 {
-    if is_marked(used, name) {
-        return plain_lines(s, first, end);
-    }
-    true
+    !is_marked(used, entry.head.value) || plain_lines(s, entry.line, entry.end)
 }
 
 // Every entry whose name is marked is plain.
-fn plain_entries(used: &[u8], s: &[u64]) -> bool
-    requires { (length used.now ≡ table_length) × Ended s.now }
+fn plain_entries(used: &[u8; TABLE_LENGTH], s: &[u64]) -> bool
+    requires { Ended s.now }
     ensures { (term : List Triple) → Tells used.now term → result ≡ plain_entries term (rows s.now) (declarations (rows s.now) 0 0) }
 {
-    let lines = line_count(s);
-    let mut at = 0;
-    while at < lines {
-        let t = triple_at(s, at);
-        if !is_entry(t) {
-            return true;
-        }
-        let end = part_line(s, at + 1, 1);
-        if !plain_entry(used, s, t.value, at + 1, end) {
-            return false;
-        }
-        at = end;
-    }
-    true
+    let mut entries = Entries { sheet: s, at: 0 };
+    entries.all(|entry| plain_entry(used, s, entry))
 }
 
-// The entries whose names the term, from line `term` on, uses are plain. The names are marked first, so that each line is read a fixed
-// number of times.
+// The entries whose names the term, from line `term` on, uses are plain. The names are marked first, so that each line
+// is read a fixed number of times.
 fn plain_catalogue(s: &[u64], term: usize) -> bool
     requires { Ended s.now × SmallNames (drop term (rows s.now)) }
     ensures { result ≡ plain_entries (drop term (rows s.now)) (rows s.now) (declarations (rows s.now) 0 0) }
@@ -774,41 +644,27 @@ pub fn is_plain(s: &[u64]) -> bool
         return true;
     }
     let p = find_places(s);
-    if !plain_lines(s, p.expected, part_line(s, p.expected, 1)) {
-        return false;
-    }
-    if !plain_lines(s, p.term, lines) {
-        return false;
-    }
-    plain_catalogue(s, p.term)
+    plain_lines(s, p.expected, part_line(s, p.expected, 1))
+        && plain_lines(s, p.term, lines)
+        && plain_catalogue(s, p.term)
 }
 
 // A line's number as a node: a Product's is its count.
 pub fn node_number(t: Triple) -> u64
     ensures { result ≡ number (line_node t) }
 {
-    if t.kind == 16 {
-        return t.count;
-    }
-    t.value
+    if t.kind == 16 { t.count } else { t.value }
 }
 
 // Copies a type of n lines from line `first` on, as nodes, to word `at` of dst.
+#[tactic(auto, using(crate::proofs::RowLaws::row_counts))]
 pub fn copy_type(dst: &mut [u32], at: usize, s: &[u64], first: usize, n: usize)
     requires { (at + 2 * n ≤ length dst.old) × (first + n ≤ length (rows s.now)) × All Narrow (take n (drop first (rows s.now))) }
     ensures { dst.new ≡ sets dst.old at (words (nodes_of (take n (drop first (rows s.now))))) }
 {
-    let mut p = at;
-    let mut line = first;
-    let mut left = n;
-    while 0 < left {
-        let t = triple_at(s, line);
-        let kind = t.kind as u32;
-        let number = node_number(t) as u32;
-        dst[p] = kind;
-        dst[p + 1] = number;
-        p += 2;
-        line += 1;
-        left -= 1;
+    for i in 0..n {
+        let t = triple_at(s, first + i);
+        dst[at + 2 * i] = t.kind as u32;
+        dst[at + 2 * i + 1] = node_number(t) as u32;
     }
 }

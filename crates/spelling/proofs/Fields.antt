@@ -1,20 +1,15 @@
 -- A field reads as a number exactly if it is that number's text.
 -- Assumes nothing.
-use mathlib.Core.Path.{◌≡◌, refl, sym, ap, ◌∙◌}
-use mathlib.Core.Bool.{Bool, true, false, cond, ◌&&◌}
-use mathlib.Core.List.{List, [], ◌∷◌, ◌++◌}
-use Prim.Native.Nat.{ℕ, zero, suc, ◌+◌, ◌*◌, ◌-◌, ◌/◌, ◌%◌, ◌^◌, ◌≤◌, ◌<◌}
-use native.Mathlib.Omega.{arith}
-use lib.ListN.{length, get_or, take, drop, length-drop}
-use lib.Dec.{T, ltb, leb, eqb}
-use lib.Seq.{take-suc, take_all, length-take-le, drop-cons}
-use borrow.Author.Tests.{lt-ltb, le-ltb, le-leb, ne_eqb, leb-true, eqb-true, eqb-false, ltb-true, ltb-false}
+use Rattle.std.proofs.Common.{fold, zero-add, ◌≡◌, refl, sym, ap, ◌∙◌, Bool, true, false, cond, ◌&&◌, List, [], ◌∷◌, ◌++◌, ℕ, zero, suc, ◌+◌, ◌*◌, ◌-◌, ◌/◌, ◌%◌, ◌^◌, ◌≤◌, ◌<◌, arith, length, get_or, take, drop, length-drop, T, ltb, leb, eqb, take-suc, take_all, length-take-le, drop-cons, lt-ltb, le-ltb, le-leb, ne_eqb, leb-true, eqb-true, ltb-true, ltb-false, add-one}
+use lib.ListN.{get_or-eq_default}
+use borrow.Author.Tests.{eqb-false}
 use Rattle.spelling.specs.declared.Field.{Field}
 use Rattle.spelling.specs.declared.Field.TheVariants.{Blank, Minus, Number, Bad}
-use native.Mathlib.Numerals.{add-one}
 use native.Mathlib.Nat.{pow-succ'}
-use Rattle.spelling.specs.Spelling.{digit_step, other_step, step, field_from}
+use Rattle.spelling.specs.Spelling.{digit_step, other_step, step, field_from, spaces_from}
+use Rattle.spelling.proofs.Laws.{spaces-skip}
 use Rattle.spelling.specs.Text.{last, front, field_text}
+use Rattle.std.proofs.lemmas.List.Sums.{fold_push}
 
 -- w columns are enough for it
 unfoldable Wide : ℕ → Field → Type 0
@@ -22,9 +17,8 @@ Wide zero f = f ≡ Blank
 Wide (suc w) f = Wide w (front f)
 
 -- what the reader makes of a list of bytes, after f
-unfoldable pub run : Field → List ℕ → Field
-run f [] = f
-run f (b ∷ bs) = run (step f b) bs
+abbrev pub run : Field → List ℕ → Field
+run f bs = fold step f bs
 
 abbrev good : Field → Bool
 good Blank = true
@@ -89,9 +83,7 @@ back f b = go (leb 48 b) refl (leb b 57) refl
     go false e u i g = back-other f b g
 
 run-snoc : (f : Field) (l : List ℕ) (b : ℕ) → run f (l ++ (b ∷ [])) ≡ step (run f l) b
-unfolding run
-run-snoc f [] b = refl
-run-snoc f (x ∷ l) b = run-snoc (step f x) l b
+run-snoc f l b = fold_push step f l b
 
 good-front : (f : Field) → T (good f) → T (good (front f))
 good-front Blank g = tt
@@ -142,7 +134,7 @@ only (suc w) l e g =
     rw ((ends w l e g).0, (ends w l e g).1, ← only w (init w l e g) (init-length w l e g) (init-good w l e g)) (split w l e g)
 
 only-wide : (w : ℕ) (l : List ℕ) → length l ≡ w → T (good (run Blank l)) → Wide w (run Blank l)
-unfolding Wide run
+unfolding Wide
 only-wide zero l e g = rw (empty l e)
 only-wide (suc w) l e g = rw (ends w l e g).0 (only-wide w (init w l e g) (init-length w l e g) (init-good w l e g))
 
@@ -194,15 +186,20 @@ ok-front Bad o = o
 
 -- BACK: the spelling of a number reads as that number
 reads : (w : ℕ) (f : Field) → Ok f → Wide w f → run Blank (field_text w f) ≡ f
-unfolding field_text Wide run
+unfolding field_text Wide
 reads zero f o e = sym e
 reads (suc w) f o e = run-snoc Blank (field_text w (front f)) (last f) ∙ ap (λ (g : Field). step g (last f)) (reads w (front f) (ok-front f o) e) ∙ again f o
 
 -- the reader of w bytes from at reads that part of the sheet
 pub field-run : (w at : ℕ) (s : List ℕ) (f : Field) → at + w ≤ length s → field_from s at w f ≡ run f (take w (drop at s))
-unfolding field_from run
+unfolding field_from
 field-run zero at s f h = refl
 field-run (suc w) at s f h = field-run w (at + 1) s (step f (get_or s at 0)) (omega arith) ∙ rw (drop-cons s at 0 (omega arith), add-one)
+
+-- a field is what follows its spaces
+pub field-rest : (s : List ℕ) (n : ℕ) → n ≤ length s → n ≡ spaces_from s 0 (length s)
+    → run Blank (take (length s - n) (drop n s)) ≡ field_from s 0 (length s) Blank
+field-rest s n h e = sym (field-run (length s - n) n s Blank (omega arith)) ∙ rw (zero-add, ← e) at (spaces-skip s 0 (length s))
 
 -- ---- how wide a number is
 blank-wide : (w : ℕ) → Wide w Blank
@@ -238,7 +235,7 @@ minus-wide (suc w) x p h = go (ltb x 10) refl (λ p h. minus-wide w (x / 10) p h
 
 wide-small : (w : ℕ) (n : Bool) (x : ℕ) → Wide w (Number n x) → x < 10 ^ w
 unfolding Wide
-wide-small zero n x h = absurd (let z : ◌≡◌ {A = ℕ} 0 1 = cc in omega arith)
+wide-small zero n x h = cc
 wide-small (suc w) n x h = go (ltb x 10) refl (λ h. wide-small w n (x / 10) h) h
   where
     go : (t : Bool) → ltb x 10 ≡ t → (Wide w (Number n (x / 10)) → x / 10 < 10 ^ w) → Wide w (cond t (cond n Minus Blank) (Number n (x / 10))) → x < 10 ^ suc w
@@ -250,7 +247,7 @@ abbrev Fine : Field → Type 0
 Fine f = T (good f) → Ok f
 
 fine-digit : (f : Field) (d : ℕ) → d ≤ 9 → Fine f → Fine (digit_step f d)
-fine-digit Blank d k g = λ _. (omega arith, λ e. absurd (let z : ◌≡◌ {A = ℕ} 0 1 = cc in omega arith))
+fine-digit Blank d k g = λ _. (omega arith, λ e. cc)
 fine-digit Minus d k g = go (eqb d 0) refl
   where
     go : (t : Bool) → eqb d 0 ≡ t → Fine (cond t Bad (Number true d))
@@ -284,7 +281,6 @@ fine-step f b g = go (leb 48 b) refl (leb b 57) refl
     go false e u i = fine-other f b
 
 fine-run : (l : List ℕ) (f : Field) → Fine f → Fine (run f l)
-unfolding run
 fine-run [] f g = g
 fine-run (b ∷ l) f g = fine-run l (step f b) (fine-step f b g)
 
@@ -293,7 +289,7 @@ pub field-only : (w : ℕ) (l : List ℕ) (n : Bool) (x : ℕ) → length l ≡ 
 field-only w l n x h e = only w l h (rw e tt) ∙ ap (field_text w) e
 
 pub field-reads : (w x : ℕ) → 0 < w → x < 10 ^ w → x ≤ 2 ^ 63 → run Blank (field_text w (Number false x)) ≡ Number false x
-field-reads w x p h k = reads w (Number false x) (k, λ e. absurd (let z : ◌≡◌ {A = ℕ} 0 1 = cc in omega arith)) (unsigned-wide w x p h)
+field-reads w x p h k = reads w (Number false x) (k, λ e. cc) (unsigned-wide w x p h)
 
 pub minus-reads : (w x : ℕ) → 0 < w → x < 10 ^ w → 0 < x → x ≤ 2 ^ 63 → run Blank (field_text (suc w) (Number true x)) ≡ Number true x
 minus-reads w x p h l k = reads (suc w) (Number true x) (k, λ e z. omega arith) (minus-wide w x p h)
@@ -307,3 +303,13 @@ module _ (w at : ℕ) (s : List ℕ) (n : Bool) (x : ℕ) (h : at + w ≤ length
 
   pub in-range : (x ≤ 2 ^ 63) × (n ≡ true → x ≡ 0 → ⊥)
   in-range = let range : Fine (Number n x) = rw cut at (fine-run (take w (drop at s)) Blank (λ _. tt)) in range tt
+
+-- past the end of the list stands no LF
+pub inside : (s : List ℕ) (i : ℕ) → get_or s i 0 ≡ 10 → i < length s
+inside s i e = go (ltb i (length s)) refl
+  where
+    go : (b : Bool) → ltb i (length s) ≡ b → i < length s
+    go true h = ltb-true i (length s) h
+    go false h =
+        let z : get_or s i 0 ≡ 0 = get_or-eq_default s 0 (ltb-false i (length s) h) in
+        absurd (let y : ◌≡◌ {A = ℕ} 0 10 = sym z ∙ e in omega arith)

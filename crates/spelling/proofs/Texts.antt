@@ -1,40 +1,30 @@
--- A line reads as a triple exactly if the triple is fair and the line's 29 bytes are its text: `reads-back`, `only` and `fair`.
--- Assumes nothing.
-use mathlib.Core.Path.{◌≡◌, refl, sym, ap, ◌∙◌}
-use mathlib.Core.Bool.{Bool, true, false, not, cond, ◌&&◌}
-use mathlib.Core.List.{List, [], ◌∷◌, ◌++◌}
-use Prim.Native.Nat.{ℕ, zero, suc, ◌+◌, ◌*◌, ◌^◌, ◌≤◌, ◌<◌}
-use native.Mathlib.Omega.{arith}
-use native.Mathlib.Numerals.{add-one}
-use lib.ListN.{length, get_or, take, drop, length-drop, length-take, length-append, get_or-eq_default}
-use lib.Dec.{ltb, eqb}
-use lib.Seq.{take-add, drop-drop, length-take-le, drop-cons, take_at, drop_at}
-use borrow.Author.Tests.{lt-ltb, ltb-true, eq-eqb, eqb-true}
+-- A line reads as a triple exactly if the triple is fair and the line's 29 bytes are its text: `reads-back`, `only` and
+-- `fair`. Assumes nothing.
+use Rattle.std.proofs.Common.{Some, None, ◌≡◌, refl, sym, ap, ◌∙◌, Bool, true, false, not, cond, ◌&&◌, List, [], ◌∷◌, ◌++◌, ℕ, zero, suc, ◌+◌, ◌*◌, ◌^◌, ◌≤◌, ◌<◌, arith, add-one, length, get_or, take, drop, length-drop, length-take, length-append, eqb, take-add, drop-drop, length-take-le, drop-cons, take_at, drop_at, lt-ltb, ltb-true, eq-eqb, eqb-true}
 use Rattle.sizes.specs.Sizes.{line_length}
 use Rattle.spelling.specs.declared.Field.{Field}
 use Rattle.spelling.specs.declared.Field.TheVariants.{Blank, Minus, Number, Bad}
 use Rattle.spelling.specs.declared.Triple.{Triple}
-use Rattle.spelling.specs.declared.Line.TheVariants.{Spelt, Misspelt}
 use Rattle.spelling.specs.Spelling.{field_from, unsigned, magnitude, minus, sign_ok, line_of, line_at}
 use Rattle.spelling.specs.Text.{front, field_text, line_text, line_bytes, Fair}
-use Rattle.spelling.proofs.Fields.{run, field-run, field-only, field-reads, minus-reads, narrow, in-range}
+use Rattle.spelling.proofs.Fields.{run, field-run, field-only, field-reads, minus-reads, narrow, in-range, inside}
 
 -- ---- the fields of a line that is spelt
 is-unsigned : (f : Field) → unsigned f ≡ true → f ≡ Number false (magnitude f)
-is-unsigned Blank e = absurd (let z : ◌≡◌ {A = ℕ} 0 1 = cc in omega arith)
-is-unsigned Minus e = absurd (let z : ◌≡◌ {A = ℕ} 0 1 = cc in omega arith)
+is-unsigned Blank e = cc
+is-unsigned Minus e = cc
 is-unsigned (Number n m) e = go n e
   where
     go : (n : Bool) → not n ≡ true → Number n m ≡ Number false m
-    go true e = absurd (let z : ◌≡◌ {A = ℕ} 0 1 = cc in omega arith)
+    go true e = cc
     go false e = refl
-is-unsigned Bad e = absurd (let z : ◌≡◌ {A = ℕ} 0 1 = cc in omega arith)
+is-unsigned Bad e = cc
 
 is_number : (f : Field) (k : ℕ) → sign_ok f k ≡ true → f ≡ Number (minus f) (magnitude f)
-is_number Blank k e = absurd (let z : ◌≡◌ {A = ℕ} 0 1 = cc in omega arith)
-is_number Minus k e = absurd (let z : ◌≡◌ {A = ℕ} 0 1 = cc in omega arith)
+is_number Blank k e = cc
+is_number Minus k e = cc
 is_number (Number n m) k e = refl
-is_number Bad k e = absurd (let z : ◌≡◌ {A = ℕ} 0 1 = cc in omega arith)
+is_number Bad k e = cc
 
 record Fields (k v c : Field) (e : ℕ) (t : Triple) : Type 0 where
   kind : k ≡ Number false t.kind
@@ -43,18 +33,15 @@ record Fields (k v c : Field) (e : ℕ) (t : Triple) : Type 0 where
   sign : sign_ok (Number t.negative t.value) t.kind ≡ true
   ends : e ≡ 10
 
-fields : (k v c : Field) (e : ℕ) (t : Triple) → line_of k v c e ≡ Spelt t → Fields k v c e t
+fields : (k v c : Field) (e : ℕ) (t : Triple) → line_of k v c e ≡ Some t → Fields k v c e t
 unfolding line_of
 fields k v c e t = go (unsigned k) refl (sign_ok v (magnitude k)) refl (unsigned c) refl (eqb e 10) refl
   where
     u : Triple
     u = record { kind = magnitude k; negative = minus v; value = magnitude v; count = magnitude c }
 
-    bad : Misspelt ≡ Spelt t → ⊥
-    bad z = let y : ◌≡◌ {A = ℕ} 0 1 = cc in omega arith
-
     go : (p : Bool) → unsigned k ≡ p → (q : Bool) → sign_ok v (magnitude k) ≡ q → (r : Bool) → unsigned c ≡ r → (w : Bool) → eqb e 10 ≡ w
-        → cond (p && (q && (r && w))) (Spelt u) Misspelt ≡ Spelt t → Fields k v c e t
+        → cond (p && (q && (r && w))) (Some u) None ≡ Some t → Fields k v c e t
     go true p true q true r true w z =
         let same : u ≡ t = cc in
         let v-is : v ≡ Number (minus v) (magnitude v) = is_number v (magnitude k) q in
@@ -67,10 +54,10 @@ fields k v c e t = go (unsigned k) refl (sign_ok v (magnitude k)) refl (unsigned
               ∙ ap (λ (f : Field). sign_ok f (magnitude k)) (sym v-is) ∙ q;
           ends = eqb-true e 10 w;
         }
-    go true p true q true r false w z = absurd (bad z)
-    go true p true q false r w' w z = absurd (bad z)
-    go true p false q r' r w' w z = absurd (bad z)
-    go false p q' q r' r w' w z = absurd (bad z)
+    go true p true q true r false w z = cc
+    go true p true q false r w' w z = cc
+    go true p false q r' r w' w z = cc
+    go false p q' q r' r w' w z = cc
 
 -- ---- a line's bytes are those of its fields
 two : (n m p q : ℕ) (s : List ℕ) → p + n ≡ q → take (n + m) (drop p s) ≡ take n (drop p s) ++ take m (drop q s)
@@ -82,17 +69,7 @@ four p s =
     ∙ ap (λ (x : List ℕ). take 3 (drop p s) ++ x) (two 20 6 (p + 3) (p + 23) s (omega arith)
     ∙ ap (λ (x : List ℕ). take 20 (drop (p + 3) s) ++ x) (two 5 1 (p + 23) (p + 28) s (omega arith)))
 
--- past the end of the list stands no LF
-inside : (s : List ℕ) (i : ℕ) → get_or s i 0 ≡ 10 → i < length s
-inside s i e = go (ltb i (length s)) refl
-  where
-    go : (b : Bool) → ltb i (length s) ≡ b → i < length s
-    go true h = ltb-true i (length s) h
-    go false h =
-        let z : get_or s i 0 ≡ 0 = get_or-eq_default s 0 (borrow.Author.Tests.ltb-false i (length s) h) in
-        absurd (let y : ◌≡◌ {A = ℕ} 0 10 = sym z ∙ e in omega arith)
-
-module _ (s : List ℕ) (i : ℕ) (t : Triple) (z : line_at s i ≡ Spelt t) where
+module _ (s : List ℕ) (i : ℕ) (t : Triple) (z : line_at s i ≡ Some t) where
   the_fields : Fields (field_from s (line_length * i) 3 Blank) (field_from s (line_length * i + 3) 20 Blank) (field_from s (line_length * i + 23) 5 Blank) (get_or s (line_length * i + 28) 0) t
   unfolding line_at
   the_fields = fields _ _ _ _ t z
@@ -125,13 +102,13 @@ module _ (s : List ℕ) (i : ℕ) (t : Triple) (z : line_at s i ≡ Spelt t) whe
       record { kind = k; count = c; value = sign-value t.negative f.sign; minus = sign-minus t.negative f.sign p }
     where
       sign-value : (n : Bool) → sign_ok (Number n t.value) t.kind ≡ true → n ≡ false → t.value < 2 ^ 63
-      sign-value true e q = absurd (let z : ◌≡◌ {A = ℕ} 0 1 = cc in omega arith)
+      sign-value true e q = cc
       sign-value false e q = ltb-true t.value (2 ^ 63) e
 
       sign-minus : (n : Bool) → sign_ok (Number n t.value) t.kind ≡ true → (t.value ≤ 2 ^ 63) × (n ≡ true → t.value ≡ 0 → ⊥)
           → n ≡ true → (t.kind ≡ 22) × (0 < t.value) × (t.value ≤ 2 ^ 63)
       sign-minus true e p q = let nz = p.1 refl in (eqb-true t.kind 22 e, omega arith, p.0)
-      sign-minus false e p q = absurd (let z : ◌≡◌ {A = ℕ} 0 1 = cc in omega arith)
+      sign-minus false e p q = cc
 
 -- ---- the text of a fair triple
 pub length-field : (w : ℕ) (f : Field) → length (field_text w f) ≡ w
@@ -158,7 +135,7 @@ value-text true v h g = minus-reads 19 v (omega arith) (let z = g refl in omega 
 value-text false v h g = field-reads 20 v (omega arith) (let z = h refl in omega arith) (let z = h refl in omega arith)
 
 -- BACK: the text of a fair triple reads as that triple
-pub reads-back : (s : List ℕ) (i : ℕ) (t : Triple) → Fair t → line_bytes s i ≡ line_text t → line_at s i ≡ Spelt t
+pub reads-back : (s : List ℕ) (i : ℕ) (t : Triple) → Fair t → line_bytes s i ≡ line_text t → line_at s i ≡ Some t
 unfolding line_at line_of line_text
 reads-back s i t y z =
     let p = line_length * i in
@@ -182,8 +159,8 @@ reads-back s i t y z =
     rw (fk, fv, fc, last, sign-ok t.negative t.value t.kind y.value (λ q. (y.minus q).0))
 
 -- BACK and ONLY of 29 bytes by themselves
-pub text-reads : (t : Triple) → Fair t → line_at (line_text t) 0 ≡ Spelt t
+pub text-reads : (t : Triple) → Fair t → line_at (line_text t) 0 ≡ Some t
 text-reads t y = reads-back (line_text t) 0 t y (lib.Seq.take_all line_length (line_text t) (omega (arith, length-text t)))
 
-pub text-only : (l : List ℕ) (t : Triple) → length l ≡ line_length → line_at l 0 ≡ Spelt t → l ≡ line_text t
+pub text-only : (l : List ℕ) (t : Triple) → length l ≡ line_length → line_at l 0 ≡ Some t → l ≡ line_text t
 text-only l t h z = sym (lib.Seq.take_all line_length l (omega arith)) ∙ only l 0 t z

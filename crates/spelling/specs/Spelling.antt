@@ -1,11 +1,10 @@
--- How a sheet's lines are spelt: a decimal number, right-justified with spaces; no plus sign, no leading zero, no "-0", no blank field.
--- Assumes nothing: these are definitions.
-use Rattle.std.specs.Prelude.{Bool, true, false, not, cond, ◌&&◌, List, [], ◌∷◌, ℕ, zero, suc, ◌+◌, ◌*◌, ◌-◌, ◌/◌, ◌^◌, length, get_or, ltb, leb, eqb}
+-- How a sheet's lines are spelt: a decimal number, right-justified with spaces; no plus sign, no leading zero, no "-0",
+-- no blank field. Assumes nothing: these are definitions.
+use Rattle.std.specs.Prelude.{Bool, true, false, not, cond, ◌&&◌, List, [], ◌∷◌, ℕ, zero, suc, ◌+◌, ◌*◌, ◌-◌, ◌/◌, ◌^◌, length, get_or, ltb, leb, eqb, Option, Some, None}
 use Rattle.sizes.specs.Sizes.{line_length}
 use Rattle.spelling.specs.declared.Field.{Field}
+use Rattle.spelling.specs.declared.Triple.{Triple}
 use Rattle.spelling.specs.declared.Field.TheVariants.{Blank, Minus, Number, Bad}
-use Rattle.spelling.specs.declared.Line.{Line}
-use Rattle.spelling.specs.declared.Line.TheVariants.{Spelt, Misspelt}
 
 -- after the digit d: no digit follows a leading 0, none but 1 to 9 a minus sign, and no number passes 2 ^ 63
 abbrev pub digit_step : Field → ℕ → Field
@@ -67,28 +66,28 @@ sign_ok (Number n m) k = cond n (eqb k 22) (ltb m (2 ^ 63))
 sign_ok Bad k = false
 
 -- the line whose fields are k, v and c, and whose last byte is e
-unfoldable pub line_of : Field → Field → Field → ℕ → Line
+unfoldable pub line_of : Field → Field → Field → ℕ → Option Triple
 line_of k v c e =
     cond (unsigned k && (sign_ok v (magnitude k) && (unsigned c && eqb e 10)))
-    (Spelt (record { kind = magnitude k; negative = minus v; value = magnitude v; count = magnitude c }))
-    Misspelt
+    (Some (record { kind = magnitude k; negative = minus v; value = magnitude v; count = magnitude c }))
+    None
 
 -- the line at i, counted from 0: kind in columns 1 to 3, value in 4 to 23, count in 24 to 28, LF
-unfoldable pub line_at : List ℕ → ℕ → Line
+unfoldable pub line_at : List ℕ → ℕ → Option Triple
 line_at s i =
     line_of (field_from s (line_length * i) 3 Blank) (field_from s (line_length * i + 3) 20 Blank) (field_from s (line_length * i + 23) 5 Blank)
     (get_or s (line_length * i + 28) 0)
 
 -- the n lines from i on, and all lines of a sheet
-unfoldable pub lines_from : List ℕ → ℕ → ℕ → List Line
+unfoldable pub lines_from : List ℕ → ℕ → ℕ → List (Option Triple)
 lines_from s i zero = []
 lines_from s i (suc n) = line_at s i ∷ lines_from s (i + 1) n
 
-unfoldable pub lines_of : List ℕ → List Line
+unfoldable pub lines_of : List ℕ → List (Option Triple)
 lines_of s = lines_from s 0 (length s / line_length)
 
 -- how many lines stand before the first misspelt one
-unfoldable pub first_misspelt : List Line → ℕ
+unfoldable pub first_misspelt : List (Option Triple) → ℕ
 first_misspelt [] = 0
-first_misspelt (Spelt t ∷ ls) = suc (first_misspelt ls)
-first_misspelt (Misspelt ∷ ls) = 0
+first_misspelt (Some t ∷ ls) = suc (first_misspelt ls)
+first_misspelt (None ∷ ls) = 0

@@ -1,5 +1,6 @@
--- The text of a line: which 29 bytes say a triple, and which triples a line can say. Assumes nothing: these are definitions.
--- `proofs/Texts.antt` shows that a line reads as a triple exactly if the triple is fair and the line is its text.
+-- The text of a line: which 29 bytes say a triple, and which triples a line can say. Assumes nothing: these are
+-- definitions. `proofs/Texts.antt` shows that a line reads as a triple exactly if the triple is fair and the line is
+-- its text.
 use Rattle.std.specs.Prelude.{◌≡◌, true, false, cond, List, [], ◌∷◌, ◌++◌, ℕ, zero, suc, ◌+◌, ◌*◌, ◌/◌, ◌%◌, ◌^◌, ◌≤◌, ◌<◌, take, drop, ltb}
 use Rattle.sizes.specs.Sizes.{line_length}
 use Rattle.spelling.specs.declared.Field.{Field}
@@ -35,7 +36,8 @@ line_text t =
 abbrev pub line_bytes : List ℕ → ℕ → List ℕ
 line_bytes s i = take line_length (drop (line_length * i) s)
 
--- a triple that a line can say: each field no wider than its columns, the value in signed 64 bits, negative for kind 22 alone
+-- a triple that a line can say: each field no wider than its columns, the value in signed 64 bits, negative for kind 22
+-- alone
 pub record Fair (t : Triple) : Type 0 where
   pub kind : t.kind < 1000
   pub count : t.count < 100000

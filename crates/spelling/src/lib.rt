@@ -1,9 +1,9 @@
 // How a sheet's lines are spelt: fields of decimal numbers, lines of 29 bytes.
 #![tactic(auto)]
 
-ghost use Rattle.std.specs.Prelude.{◌≡◌, false, ◌&&◌, ◌+◌, ◌*◌, ◌-◌, ◌/◌, ◌≤◌, ◌<◌, eqb, length};
-ghost use Rattle.spelling.specs.Spelling.{digit_step, other_step, step, field_from, blank, spaces_from, unsigned, magnitude, minus, sign_ok, line_of, line_at};
-ghost use Rattle.spelling.specs.Few.{plain, roomy, short_field, few_at};
+ghost use Rattle.std.specs.Prelude.{◌≡◌, false, ◌&&◌, ◌+◌, ◌*◌, ◌-◌, ◌/◌, ◌≤◌, ◌<◌, eqb, length, IfSome};
+ghost use Rattle.spelling.specs.Spelling.{digit_step, other_step, step, field_from, blank, spaces_from, sign_ok, line_of, line_at};
+ghost use Rattle.spelling.specs.Few.{digit_of, plain, roomy, short_field, few_at};
 
 use sizes::LINE_LENGTH;
 
@@ -29,15 +29,6 @@ pub struct Triple {
     pub count: u64,
 }
 
-#[derive(Clone, Copy)]
-pub enum Line {
-    Spelt(Triple),
-    Misspelt,
-}
-
-// Stands in place of a number of at most four digits where there is none.
-const NO_NUMBER: u64 = 100000;
-
 // One digit more. A number that starts with 0 takes none, and no number passes 2^63.
 fn digit_step(f: Field, d: u64) -> Field
     requires { d ≤ 9 }
@@ -45,28 +36,12 @@ fn digit_step(f: Field, d: u64) -> Field
 {
     match f {
         Field::Blank => Field::Number(false, d),
-        Field::Minus => {
-            if d == 0 {
-                Field::Bad
-            } else {
-                Field::Number(true, d)
-            }
+        Field::Minus if d != 0 => Field::Number(true, d),
+        Field::Number(n, m)
+            if m != 0 && m <= 922337203685477580 && 10 * m + d <= 9223372036854775808 => {
+            Field::Number(n, 10 * m + d)
         }
-        Field::Number(n, m) => {
-            if m == 0 {
-                Field::Bad
-            } else if m <= 922337203685477580 {
-                let x = 10 * m + d;
-                if x <= 9223372036854775808 {
-                    Field::Number(n, x)
-                } else {
-                    Field::Bad
-                }
-            } else {
-                Field::Bad
-            }
-        }
-        Field::Bad => Field::Bad,
+        _ => Field::Bad,
     }
 }
 
@@ -74,19 +49,10 @@ fn digit_step(f: Field, d: u64) -> Field
 fn other_step(f: Field, b: u8) -> Field
     ensures { result ≡ other_step f b }
 {
-    match f {
-        Field::Blank => {
-            if b == 32 {
-                Field::Blank
-            } else if b == 45 {
-                Field::Minus
-            } else {
-                Field::Bad
-            }
-        }
-        Field::Minus => Field::Bad,
-        Field::Number(_, _) => Field::Bad,
-        Field::Bad => Field::Bad,
+    match (f, b) {
+        (Field::Blank, b' ') => Field::Blank,
+        (Field::Blank, b'-') => Field::Minus,
+        _ => Field::Bad,
     }
 }
 
@@ -94,109 +60,54 @@ fn other_step(f: Field, b: u8) -> Field
 pub fn byte_step(f: Field, b: u8) -> Field
     ensures { result ≡ step f b }
 {
-    if b < 48 {
-        other_step(f, b)
-    } else if b <= 57 {
-        digit_step(f, (b - 48) as u64)
-    } else {
-        other_step(f, b)
+    match b {
+        b'0'..=b'9' => digit_step(f, (b - b'0') as u64),
+        _ => other_step(f, b),
     }
 }
 
-// Only spaces so far, and one more.
-fn still(all: bool, b: u8) -> bool
-    ensures { result ≡ (all && eqb b 32) }
-{
-    if b == 32 { all } else { false }
-}
-
-// The 16 bytes from at are spaces. No byte ends the loop, so they are compared at once.
+// The 16 bytes from at are spaces. No byte ends the fold, so they are compared at once.
 fn sixteen_spaces(s: &[u8], at: usize) -> bool
     requires { at + 16 ≤ length s.now }
     ensures { result ≡ blank s.now at 16 }
 {
-    let mut all = true;
-    let mut i = 0;
-    while i < 16 {
-        all = still(all, s[at + i]);
-        i += 1;
-    }
-    all
+    s[at..at + 16]
+        .iter()
+        .fold(true, |all, b| all & (*b == b' '))
 }
 
-// How many of the w bytes from at may be passed over as spaces at once: 16 or none.
-fn spaces_at_once(s: &[u8], at: usize, w: usize) -> usize
-    requires { at + w ≤ length s.now }
-    ensures { (result ≤ w) × (result + spaces_from s.now (at + result) (w - result) ≡ spaces_from s.now at w) }
+// How many bytes may be passed over as spaces at once: 16 or none.
+fn spaces_at_once(bytes: &[u8]) -> usize
+    ensures within { result ≤ length bytes.now }
+    ensures rest { result + spaces_from bytes.now result (length bytes.now - result) ≡ spaces_from bytes.now 0 (length bytes.now) }
 {
-    if 16 <= w {
-        if sixteen_spaces(s, at) {
-            return 16;
-        }
+    if 16 <= bytes.len() && sixteen_spaces(bytes, 0) {
+        16
+    } else {
+        0
     }
-    0
 }
 
-// How many spaces stand at the front of the w bytes from at.
-fn spaces(s: &[u8], at: usize, w: usize) -> usize
-    requires { at + w ≤ length s.now }
-    ensures { result ≡ spaces_from s.now at w }
+// How many spaces stand at the front.
+fn spaces(bytes: &[u8]) -> usize
+    ensures within { result ≤ length bytes.now }
+    ensures count { result ≡ spaces_from bytes.now 0 (length bytes.now) }
 {
-    let mut i = spaces_at_once(s, at, w);
-    while i < w {
-        if s[at + i] != 32 {
+    for i in spaces_at_once(bytes)..bytes.len() {
+        if bytes[i] != b' ' {
             return i;
         }
-        i += 1;
     }
-    i
+    bytes.len()
 }
 
-// The field of w bytes from at. Its spaces are passed over in a loop of their own, since a field is mostly spaces.
-fn field_at(s: &[u8], at: usize, w: usize) -> Field
-    requires { at + w ≤ length s.now }
-    ensures { result ≡ field_from s.now at w Field.Blank }
+// What the bytes spell. Spaces are passed over in a loop of their own, since a field is mostly spaces.
+fn field_of(bytes: &[u8]) -> Field
+    ensures { result ≡ field_from bytes.now 0 (length bytes.now) Field.Blank }
 {
-    let mut f = Field::Blank;
-    let mut i = spaces(s, at, w);
-    while i < w {
-        f = byte_step(f, s[at + i]);
-        i += 1;
-    }
-    f
-}
-
-fn is_unsigned(f: Field) -> bool
-    ensures { result ≡ unsigned f }
-{
-    match f {
-        Field::Number(n, _) => !n,
-        Field::Blank => false,
-        Field::Minus => false,
-        Field::Bad => false,
-    }
-}
-
-fn magnitude_of(f: Field) -> u64
-    ensures { result ≡ magnitude f }
-{
-    match f {
-        Field::Number(_, m) => m,
-        Field::Blank => 0,
-        Field::Minus => 0,
-        Field::Bad => 0,
-    }
-}
-
-fn is_minus(f: Field) -> bool
-    ensures { result ≡ minus f }
-{
-    match f {
-        Field::Number(n, _) => n,
-        Field::Blank => false,
-        Field::Minus => false,
-        Field::Bad => false,
-    }
+    bytes[spaces(bytes)..]
+        .iter()
+        .fold(Field::Blank, |f, b| byte_step(f, *b))
 }
 
 // Only a kind 22 value may be negative, and a positive one is below 2^63.
@@ -204,181 +115,138 @@ fn sign_ok(f: Field, kind: u64) -> bool
     ensures { result ≡ sign_ok f kind }
 {
     match f {
-        Field::Number(n, m) => {
-            if n {
-                kind == 22
-            } else {
-                m < 9223372036854775808
-            }
-        }
-        Field::Blank => false,
-        Field::Minus => false,
-        Field::Bad => false,
+        Field::Number(true, _) => kind == 22,
+        Field::Number(false, m) => m < 9223372036854775808,
+        _ => false,
     }
 }
 
-fn line_of(k: Field, v: Field, c: Field, e: u8) -> Line
+#[tactic(auto, unfolding(crate::specs::Spelling::line_of))]
+fn line_of(k: Field, v: Field, c: Field, e: u8) -> Option<Triple>
     ensures { result ≡ line_of k v c e }
 {
-    let kind = magnitude_of(k);
-    if !is_unsigned(k) {
-        return Line::Misspelt;
+    match (k, v, c) {
+        (Field::Number(false, kind), Field::Number(negative, value), Field::Number(false, count))
+            if sign_ok(v, kind) && e == b'\n' => {
+            Some(Triple {
+                kind,
+                negative,
+                value,
+                count,
+            })
+        }
+        _ => None,
     }
-    if !sign_ok(v, kind) {
-        return Line::Misspelt;
+}
+
+// The digit that a byte writes.
+fn digit(b: u8) -> Option<u64>
+    ensures { result ≡ digit_of b }
+{
+    match b {
+        b'0'..=b'9' => Some((b - b'0') as u64),
+        _ => None,
     }
-    if !is_unsigned(c) {
-        return Line::Misspelt;
-    }
-    if e != 10 {
-        return Line::Misspelt;
-    }
-    Line::Spelt(Triple {
-        kind: kind,
-        negative: is_minus(v),
-        value: magnitude_of(v),
-        count: magnitude_of(c),
-    })
 }
 
 // Two bytes after spaces.
-fn last_two(a: u8, b: u8) -> u64
-    ensures { result ≡ plain (step (step Field.Blank a) b) }
+fn last_two(a: u8, b: u8) -> Option<u64>
+    ensures number { result ≡ plain (step (step Field.Blank a) b) }
+    ensures small { IfSome result (λ n. n < 100) }
 {
-    if b < 48 {
-        return NO_NUMBER;
+    let low = digit(b)?;
+    match a {
+        b' ' => Some(low),
+        b'1'..=b'9' => Some(10 * ((a - b'0') as u64) + low),
+        _ => None,
     }
-    if 57 < b {
-        return NO_NUMBER;
-    }
-    let low = (b - 48) as u64;
-    if a == 32 {
-        return low;
-    }
-    if a < 49 {
-        return NO_NUMBER;
-    }
-    if 57 < a {
-        return NO_NUMBER;
-    }
-    10 * ((a - 48) as u64) + low
 }
 
 // Two bytes after the digits of a number above 0.
-fn two_more(n: u64, a: u8, b: u8) -> u64
+fn two_more(n: u64, a: u8, b: u8) -> Option<u64>
     requires { (0 < n) × (n < 100) }
     ensures { result ≡ plain (step (step (Field.Number false n) a) b) }
 {
-    if a < 48 {
-        return NO_NUMBER;
-    }
-    if 57 < a {
-        return NO_NUMBER;
-    }
-    if b < 48 {
-        return NO_NUMBER;
-    }
-    if 57 < b {
-        return NO_NUMBER;
-    }
-    10 * (10 * n + ((a - 48) as u64)) + ((b - 48) as u64)
+    Some(10 * (10 * n + digit(a)?) + digit(b)?)
 }
 
 // Four bytes after spaces.
-fn last_four(s: &[u8], at: usize) -> u64
-    requires { at + 4 ≤ length s.now }
-    ensures { result ≡ plain (field_from s.now at 4 Field.Blank) }
+fn last_four(bytes: &[u8]) -> Option<u64>
+    requires { length bytes.now ≡ 4 }
+    ensures { result ≡ plain (field_from bytes.now 0 4 Field.Blank) }
 {
-    if s[at + 1] == 32 {
-        if s[at] == 32 {
-            return last_two(s[at + 2], s[at + 3]);
-        }
-        return NO_NUMBER;
+    if bytes[1] == b' ' {
+        return if bytes[0] == b' ' {
+            last_two(bytes[2], bytes[3])
+        } else {
+            None
+        };
     }
-    let n = last_two(s[at], s[at + 1]);
-    if n == 0 {
-        return NO_NUMBER;
+    match last_two(bytes[0], bytes[1])? {
+        0 => None,
+        n => two_more(n, bytes[2], bytes[3]),
     }
-    if n < 100 {
-        return two_more(n, s[at + 2], s[at + 3]);
-    }
-    NO_NUMBER
 }
 
 // Four bytes that are all spaces: compared as one word.
 fn are_spaces(a: u8, b: u8, c: u8, d: u8) -> bool
     ensures { result ≡ (eqb a 32 && (eqb b 32 && (eqb c 32 && eqb d 32))) }
 {
-    let low = (a as u32) + 256 * (b as u32);
-    let high = (c as u32) + 256 * (d as u32);
-    low + 65536 * high == 538976288
+    u32::from_le_bytes([a, b, c, d]) == 0x20202020
 }
 
 // Five bytes, of which the first three are spaces. Most counts have one digit.
-fn last_five(s: &[u8], at: usize) -> u64
-    requires { at + 5 ≤ length s.now }
-    ensures { result ≡ short_field s.now at }
+#[tactic(auto, using(crate::proofs::Few::short_is))]
+fn last_five(bytes: &[u8]) -> Option<u64>
+    requires { length bytes.now ≡ 5 }
+    ensures { result ≡ short_field bytes.now 0 }
 {
-    if are_spaces(s[at], s[at + 1], s[at + 2], s[at + 3]) {
-        return last_two(32, s[at + 4]);
+    if are_spaces(bytes[0], bytes[1], bytes[2], bytes[3]) {
+        return last_two(b' ', bytes[4]);
     }
-    if still(still(s[at] == 32, s[at + 1]), s[at + 2]) {
-        return last_two(s[at + 3], s[at + 4]);
+    if bytes[0] == b' ' && bytes[1] == b' ' && bytes[2] == b' ' {
+        return last_two(bytes[3], bytes[4]);
     }
-    NO_NUMBER
+    None
 }
 
 // Columns 1 and 4 to 19 are spaces, and LF stands at the end.
-fn is_roomy(s: &[u8], at: usize) -> bool
-    requires { at + 29 ≤ length s.now }
-    ensures { result ≡ roomy s.now at }
+#[tactic(auto, using(crate::proofs::Few::roomy_is))]
+fn is_roomy(line: &[u8]) -> bool
+    requires { length line.now ≡ 29 }
+    ensures { result ≡ roomy line.now 0 }
 {
-    if s[at + 28] != 10 {
-        return false;
-    }
-    still(sixteen_spaces(s, at + 3), s[at])
+    line[28] == b'\n' && sixteen_spaces(line, 3) && line[0] == b' '
 }
 
 // The line from the byte at, if its kind and count have at most two digits and its value at most four and no sign, as
-// in most lines. Misspelt says here that it is no such line, not that it is misspelt.
-pub fn few_at(s: &[u8], at: usize) -> Line
+// in most lines; None where it is no such line.
+pub fn few_at(s: &[u8], at: usize) -> Option<Triple>
     requires { at + 29 ≤ length s.now }
     ensures { result ≡ few_at s.now at }
 {
-    if !is_roomy(s, at) {
-        return Line::Misspelt;
+    let line = &s[at..at + 29];
+    if !is_roomy(line) {
+        return None;
     }
-    let kind = last_two(s[at + 1], s[at + 2]);
-    if NO_NUMBER <= kind {
-        return Line::Misspelt;
-    }
-    let value = last_four(s, at + 19);
-    if NO_NUMBER <= value {
-        return Line::Misspelt;
-    }
-    let count = last_five(s, at + 23);
-    if NO_NUMBER <= count {
-        return Line::Misspelt;
-    }
-    Line::Spelt(Triple {
-        kind: kind,
+    Some(Triple {
+        kind: last_two(line[1], line[2])?,
         negative: false,
-        value: value,
-        count: count,
+        value: last_four(&line[19..23])?,
+        count: last_five(&line[23..28])?,
     })
 }
 
-// The line at i, counted from 0. What lies past the last whole line is misspelt.
-pub fn line_at(s: &[u8], i: usize) -> Line
+// The line at i, counted from 0; None where it is misspelt, as what lies past the last whole line is.
+pub fn line_at(s: &[u8], i: usize) -> Option<Triple>
     ensures { result ≡ line_at s.now i }
 {
-    if i < s.len() / LINE_LENGTH {
-        let at = LINE_LENGTH * i;
-        let k = field_at(s, at, 3);
-        let v = field_at(s, at + 3, 20);
-        let c = field_at(s, at + 23, 5);
-        line_of(k, v, c, s[at + 28])
-    } else {
-        Line::Misspelt
+    if s.len() / LINE_LENGTH <= i {
+        return None;
     }
+    let at = LINE_LENGTH * i;
+    let k = field_of(&s[at..at + 3]);
+    let v = field_of(&s[at + 3..at + 23]);
+    let c = field_of(&s[at + 23..at + 28]);
+    line_of(k, v, c, s[at + 28])
 }

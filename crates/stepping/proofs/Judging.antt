@@ -1,14 +1,6 @@
 -- The rule of a taken entry, by what the entry is. Assumes nothing.
-use mathlib.Core.Path.{◌≡◌, refl, sym, ap, ap₂, ◌∙◌, subst}
-use mathlib.Core.Logic.{◌≢◌}
-use mathlib.Core.Bool.{Bool, true, false, cond}
-use mathlib.Core.List.{List, []}
-use Prim.Native.Nat.{ℕ, ◌+◌, ◌*◌, ◌≤◌, ◌<◌}
-use native.Mathlib.Omega.{arith}
-use lib.Dec.{eqb, ltb}
-use lib.ListN.{length, drop_of_length-le}
-use borrow.Author.Tests.{ne_eqb, ltb-true, ltb-false}
-use lib.Seq.{sets}
+use Rattle.std.proofs.Common.{◌≡◌, refl, sym, ap, ap₂, ◌∙◌, subst, ◌≢◌, Bool, true, false, cond, List, [], ℕ, ◌+◌, ◌*◌, ◌≤◌, ◌<◌, arith, eqb, ltb, length, drop_of_length-le, ne_eqb, ltb-true, ltb-false}
+use Rattle.std.proofs.lemmas.List.Edits.{sets}
 use Rattle.nodes.specs.Nodes.{node, Ty, words, nodes_at}
 use Rattle.nodes.specs.Parts.{take_parts}
 use Rattle.nodes.proofs.PartLaws.{take_all}

@@ -1,13 +1,11 @@
 -- What every state of a sheet's run has, and so what a step may ask for. Assumes nothing.
-use mathlib.Core.Path.{◌≡◌, subst⁻¹}
-use mathlib.Core.Bool.{Bool, true, false, cond}
-use mathlib.Core.List.{List, [], ◌∷◌}
-use Prim.Native.Nat.{ℕ, ◌≤◌}
-use native.Mathlib.Nat.{le_trans, le-max_right}
-use lib.ListN.{length}
-use Rattle.nodes.specs.Nodes.{Ty, nodes_at}
+use Rattle.std.proofs.Common.{Option, Some, None, ◌≡◌, List, [], ◌∷◌, ℕ, ◌≤◌, le_trans, length}
+use Rattle.judgment.specs.declared.TypeError.{TypeError}
+use mathlib.Core.Path.{subst⁻¹}
+use native.Mathlib.Nat.{le-max_right}
+use Rattle.nodes.specs.Nodes.{Ty}
 use Rattle.nodes.specs.Lists.{All}
-use Rattle.nodes.proofs.ListLaws.{all_map, cond_ind}
+use Rattle.nodes.proofs.ListLaws.{all_map}
 use Rattle.sheet.specs.Plan.{plan_of}
 use Rattle.sheet.specs.Rows.{rows}
 use Rattle.judgment.specs.Solutions.{Solutions, value}
@@ -24,9 +22,8 @@ use Rattle.judgment.proofs.Short.{OutcomeShort, AtMost, step-short, plan-short}
 use Rattle.judgment.proofs.Plans.{plan-env}
 use Rattle.board.specs.Board.{entries_of}
 use Rattle.book.specs.Book.{sols}
-use Rattle.operations.specs.declared.Halt.{Halt}
 use Rattle.operations.specs.declared.Run.{Run}
-use Rattle.operations.specs.State.{reported, error_of, going, outcome_by, outcome_of, WellFormed, Made}
+use Rattle.operations.specs.State.{outcome_by, outcome_of, WellFormed, Made}
 use Rattle.subtyping.specs.Subtyping.{Sound}
 use Rattle.applying.specs.Applying.{env_on}
 use Rattle.stepping.specs.Stepping.{longest, EntrySound, Standing}
@@ -51,15 +48,13 @@ module _ (Plain : Type 0) where
   step_ok L E h g (refused r ts s) q = q
 
   -- refused or not
-  pub of-outcome : (h : Halt) (rep : List ℕ) (Γ : Entries) (σ : Solutions) (n : ℕ) → OutcomeOK (outcome_by h rep (state Γ σ n)) → StateOK Plain Γ σ n
-  of-outcome h rep Γ σ n q = by (going h) q
-    where
-      by : (g : Bool) → OutcomeOK (cond g (finished (state Γ σ n)) (refused (error_of h) (nodes_at rep 0 (reported (error_of h))) (state Γ σ n))) → StateOK Plain Γ σ n
-      by true q = q
-      by false q = q
+  pub of-outcome : (h : Option TypeError) (rep : List ℕ) (Γ : Entries) (σ : Solutions) (n : ℕ) → OutcomeOK (outcome_by h rep (state Γ σ n)) → StateOK Plain Γ σ n
+  of-outcome None rep Γ σ n q = q
+  of-outcome (Some e) rep Γ σ n q = q
 
-  pub to-outcome : (h : Halt) (rep : List ℕ) (Γ : Entries) (σ : Solutions) (n : ℕ) → StateOK Plain Γ σ n → OutcomeOK (outcome_by h rep (state Γ σ n))
-  to-outcome h rep Γ σ n q = cond_ind OutcomeOK (going h) (λ _. q) (λ _. q)
+  pub to-outcome : (h : Option TypeError) (rep : List ℕ) (Γ : Entries) (σ : Solutions) (n : ℕ) → StateOK Plain Γ σ n → OutcomeOK (outcome_by h rep (state Γ σ n))
+  to-outcome None rep Γ σ n q = q
+  to-outcome (Some e) rep Γ σ n q = q
 
   whole_of : (o : Outcome) → OutcomeOK o → OutcomeWhole o
   whole_of (finished (state Γ σ n)) q = (q.entries, q.solutions)
@@ -85,15 +80,13 @@ module _ (Plain : Type 0) where
   solutions-sound n (x ∷ σ) h w = (sound-of n (value x) h.0.1 w.0, solutions-sound n σ h.1 w.1)
 
 -- of outcomes and of entries
-pub of-short : (z : ℕ) (h : Halt) (rep : List ℕ) (Γ : Entries) (σ : Solutions) (n : ℕ) → OutcomeShort z (outcome_by h rep (state Γ σ n)) → All (EntryShort z) Γ
-of-short z h rep Γ σ n q = by (going h) q
-  where
-    by : (g : Bool) → OutcomeShort z (cond g (finished (state Γ σ n)) (refused (error_of h) (nodes_at rep 0 (reported (error_of h))) (state Γ σ n))) → All (EntryShort z) Γ
-    by true q = q
-    by false q = q
+pub of-short : (z : ℕ) (h : Option TypeError) (rep : List ℕ) (Γ : Entries) (σ : Solutions) (n : ℕ) → OutcomeShort z (outcome_by h rep (state Γ σ n)) → All (EntryShort z) Γ
+of-short z None rep Γ σ n q = q
+of-short z (Some e) rep Γ σ n q = q
 
-to-short : (z : ℕ) (h : Halt) (rep : List ℕ) (Γ : Entries) (σ : Solutions) (n : ℕ) → All (EntryShort z) Γ → OutcomeShort z (outcome_by h rep (state Γ σ n))
-to-short z h rep Γ σ n q = cond_ind (OutcomeShort z) (going h) (λ _. q) (λ _. q)
+to-short : (z : ℕ) (h : Option TypeError) (rep : List ℕ) (Γ : Entries) (σ : Solutions) (n : ℕ) → All (EntryShort z) Γ → OutcomeShort z (outcome_by h rep (state Γ σ n))
+to-short z None rep Γ σ n q = q
+to-short z (Some e) rep Γ σ n q = q
 
 -- what a step leaves is standing
 pub stands : (m : ℕ) (L : Limits) {s b k : List ℕ} (rep : List ℕ) {c : Run} {b' k' : List ℕ} (rep' : List ℕ) {q : Run} → AtMost (longest m s) L.written → Standing m s b k c → WellFormed b' k' q → outcome_of (rows s) b' k' rep' q ≡ step_o L (env_on s) (outcome_of (rows s) b k rep c) → Standing m s b' k' q

@@ -1,12 +1,8 @@
 -- A sheet that is taken, and its rows: what is known of the one is known of the other. Assumes nothing.
-use mathlib.Core.Path.{◌≡◌, subst⁻¹}
-use mathlib.Core.List.{List}
-use Prim.Native.Nat.{ℕ, ◌/◌, ◌≤◌}
-use native.Mathlib.Omega.{arith}
-use lib.ListN.{length, drop}
+use Rattle.std.proofs.Common.{Ok, ◌≡◌, List, ℕ, ◌/◌, ◌≤◌, arith, length, drop}
+use mathlib.Core.Path.{subst⁻¹}
 use Rattle.sizes.specs.Sizes.{line_length, most_lines}
 use Rattle.spelling.specs.declared.Triple.{Triple}
-use Rattle.grammar.specs.declared.Check.TheVariants.{Plan}
 use Rattle.grammar.specs.Check.{check}
 use Rattle.sheet.specs.Plan.{places_of, plan_of}
 use Rattle.sheet.specs.Rows.{rows, Ended}
@@ -24,7 +20,7 @@ use Rattle.judgment.proofs.Short.{two-lines}
 use Rattle.stepping.specs.Stepping.{Read}
 
 -- at most 2,000 lines
-pub plan-lines : (s : List ℕ) → check s ≡ Plan → length s / line_length ≤ most_lines
+pub plan-lines : (s : List ℕ) → check s ≡ Ok tt → length s / line_length ≤ most_lines
 plan-lines s e = let n = length-triples s in let m = plan-few s e in omega arith
 
 module _ {d : List ℕ} (h : Read d) where

@@ -1,10 +1,7 @@
 -- One step in words is one step of the definition's run. Assumes nothing.
-use mathlib.Core.Path.{◌≡◌, refl, ap, ◌∙◌, subst}
-use mathlib.Core.List.{List, ◌∷◌}
-use Prim.Native.Nat.{ℕ, ◌+◌, ◌*◌, ◌≤◌, ◌<◌}
+use Rattle.operations.proofs.Latch.{not-halted}
+use Rattle.std.proofs.Common.{◌≡◌, refl, ap, ◌∙◌, subst, List, ◌∷◌, ℕ, ◌+◌, ◌*◌, ◌≤◌, ◌<◌, arith, length, Bool}
 use native.Mathlib.Nat.{le-max_left}
-use native.Mathlib.Omega.{arith}
-use lib.ListN.{length}
 use Rattle.sizes.specs.Sizes.{most_nodes, board_base}
 use Rattle.nodes.specs.Lists.{All}
 use Rattle.spelling.specs.declared.Triple.{Triple}
@@ -17,7 +14,6 @@ use Rattle.judgment.proofs.Chained.{performs, levels-performed}
 use Rattle.judgment.specs.Result.{limits_in}
 use Rattle.judgment.specs.Good.{EntryWhole, EntryOK}
 use Rattle.judgment.specs.Short.{EntryShort}
-use mathlib.Core.Bool.{Bool}
 use Rattle.board.specs.declared.Board.{Board}
 use Rattle.board.specs.declared.Top.{Top}
 use Rattle.board.specs.Board.{entries_of, Stacked, top_of}
@@ -91,9 +87,9 @@ module _ {m : ℕ} {s b k rep : List ℕ} {c : Run} {t l r w v : List ℕ} (a : 
       let n : Entry = top_entry ls b o in
       let σ = sols k in
       let one : perform_o (limits_in (way_in strict m k)) (rule E n) (outcome_by c.halt rep (state below σ c.counters.fresh)) ≡ step_o (limits_in (way_in strict m k)) E (outcome_by c.halt rep (state_of ls b k c))
-      = rw (g, entries-are) (performs (limits_in (way_in strict m k)) (rule E n) below σ c.counters.fresh) in
+      = rw (not-halted c.halt g, entries-are) (performs (limits_in (way_in strict m k)) (rule E n) below σ c.counters.fresh) in
       let two : perform_l (limits_in (way_in strict m k)) (rule E n) (outcome_by c.halt rep (state below σ c.counters.fresh)) (levels_of k) ≡ step_l (limits_in (way_in strict m k)) E (outcome_by c.halt rep (state_of ls b k c)) (levels_of k)
-      = rw (g, entries-are) (levels-performed (limits_in (way_in strict m k)) (rule E n) below σ c.counters.fresh (levels_of k)) in
+      = rw (not-halted c.halt g, entries-are) (levels-performed (limits_in (way_in strict m k)) (rule E n) below σ c.counters.fresh (levels_of k)) in
       let f : outcome_of ls b' k' rep' q ≡ step_o (limits_in (way_in strict m k)) E (outcome_of ls b k rep c) = ap (λ (x : Came). x.outcome) d.outcome ∙ one in
       record {
         standing = stands m (limits_in (way_in strict m k)) rep rep' (le-max_left m (length ls)) a.standing d.kept f;

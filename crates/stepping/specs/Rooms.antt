@@ -1,4 +1,5 @@
--- Every word of the report and of the room that a step is lent, by what the taken entry is. Assumes nothing: these are definitions.
+-- Every word of the report and of the room that a step is lent, by what the taken entry is. Assumes nothing: these are
+-- definitions.
 use Rattle.std.specs.Prelude.{cond, List, ℕ, ◌+◌, ◌*◌, eqb}
 use Rattle.std.proofs.lemmas.List.Edits.{sets}
 use Rattle.nodes.specs.Nodes.{Ty, words, nodes_at}

@@ -1,11 +1,11 @@
--- One step: which outcome of the definition's run stands in the words before and after it, and what it asks. Assumes nothing: these are definitions.
-use Rattle.std.specs.Prelude.{◌≡◌, Bool, true, List, ℕ, ◌+◌, ◌*◌, ◌≤◌, ◌<◌, max, length}
+-- One step: which outcome of the definition's run stands in the words before and after it, and what it asks. Assumes
+-- nothing: these are definitions.
+use Rattle.std.specs.Prelude.{◌≡◌, Bool, true, List, ℕ, ◌+◌, ◌*◌, ◌≤◌, ◌<◌, max, length, Ok}
 use Rattle.sizes.specs.Sizes.{most_nodes, board_size}
 use Rattle.nodes.specs.Nodes.{nodes_at}
 use Rattle.nodes.specs.Lists.{All}
 use Rattle.spelling.specs.declared.Triple.{Triple}
 use Rattle.kinds.specs.Kinds.{a_term}
-use Rattle.grammar.specs.declared.Check.TheVariants.{Plan}
 use Rattle.grammar.specs.Check.{check}
 use Rattle.sheet.specs.Plan.{triples}
 use Rattle.sheet.specs.Rows.{rows, Ended}
@@ -41,7 +41,7 @@ kept_of r m strict = record { book = r.book; halt = r.halt; limit = m; strict = 
 -- the rows of a sheet that is taken
 pub record Read (d : List ℕ) : Type 0 where
   pub sheet : List ℕ
-  pub plan : check sheet ≡ Plan
+  pub plan : check sheet ≡ Ok tt
   pub same : rows d ≡ triples sheet
   pub ended : Ended d
 
@@ -94,8 +94,9 @@ pub record Standing (m : ℕ) (s b k : List ℕ) (c : Run) : Type 0 where
 abbrev pub taking : Run → Top → Run
 taking c o = record { counters = record { taken = c.counters.taken + 1; fresh = c.counters.fresh; board = o.rest }; book = c.book; halt = c.halt }
 
--- One step of the definition, by the strict call or the first, from the words before to those after; and every word after it: of board and book as the rule's operations leave them, of the report and the room
--- (x and x' hold them before and after) as the taken entry has it.
+-- One step of the definition, by the strict call or the first, from the words before to those after; and every word
+-- after it: of board and book as the rule's operations leave them, of the report and the room (x and x' hold them before
+-- and after) as the taken entry has it.
 pub record Stepping (strict : Bool) (m : ℕ) (s b k : List ℕ) (c : Run) (x : Room) (b' k' : List ℕ) (q : Run) (x' : Room) : Type 0 where
   pub standing : Standing m s b' k' q
   pub outcome : outcome_of (rows s) b' k' x'.report q ≡ step_o (limits_in (way_in strict m k)) (env_on s) (outcome_of (rows s) b k x.report c)

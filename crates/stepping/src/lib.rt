@@ -1,4 +1,5 @@
-// One step of a run (worklist.rs: `solve_judgment`, and what `solve` does with an entry that it takes), its counters lent.
+// One step of a run (worklist.rs: `solve_judgment`, and what `solve` does with an entry that it takes), its counters
+// lent.
 #![tactic(auto)]
 
 ghost use Rattle.std.specs.Prelude.{◌≡◌};
@@ -14,26 +15,22 @@ use board::{Top, pop};
 use book::Book;
 use checking::solve_checking;
 use inferring::solve_inference;
+use judgment::TypeError;
 use nodes::copy_nodes;
-use operations::{Counters, Halt, Run};
+use operations::{Counters, Run};
 use subtyping::solve_subtype;
 
 // What a run has beside its counters, the nodes that it writes out at most, and whether the strict call began it.
 #[derive(Clone, Copy)]
 struct Kept {
     book: Book,
-    halt: Halt,
+    halt: Option<TypeError>,
     limit: usize,
     strict: bool,
 }
 
-#[derive(Clone, Copy)]
-struct Stepped {
-    counters: Counters,
-    kept: Kept,
-}
-
-// Performs the rule of an entry that was taken off the board. A type is copied where the rule's pushes would write over it; a TVar or a Var is dropped.
+// Performs the rule of an entry that was taken off the board. A type is copied where the rule's pushes would write over
+// it; a TVar or a Var is dropped.
 fn solve_judgment(
     board: &mut [u32],
     book: &mut [u32],
@@ -52,68 +49,63 @@ fn solve_judgment(
     requires { JudgeAsk limit s.now board.old book.old report.old c o t.old l.old r.old w.old v.old }
     ensures { Does (way_in strict limit book.old) (rows s.now) board.old book.old report.old c (rule (env_on s.now) (top_entry (rows s.now) board.old o)) board.new book.new report.new result × (room report.new t.new l.new r.new w.new v.new ≡ judged_room limit s.now board.old book.old c o (room report.old t.old l.old r.old w.old v.old)) }
 {
-    let kind = o.kind;
-    let line = o.number;
-    let at = o.at;
-    let n = o.left;
-    if kind == 3 {
-        return solve_subtype(board, book, report, c, at, n, o.right, limit, strict);
+    let Top {
+        kind,
+        number: line,
+        at,
+        left: n,
+        right,
+        ..
+    } = o;
+    match kind {
+        3 => solve_subtype(board, book, report, c, at, n, right, limit, strict),
+        4 => {
+            copy_nodes(t, 0, board, at, n);
+            solve_inference(board, c, s, line, t, n, l, r, w, v)
+        }
+        5 => solve_checking(board, book, c, s, line, at, n, t, l),
+        6 => solve_inf_app(board, book, report, c, line, at, n, right, limit),
+        _ => c,
     }
-    if kind == 4 {
-        copy_nodes(t, 0, board, at, n);
-        return solve_inference(board, c, s, line, t, n, l, r, w, v);
-    }
-    if kind == 5 {
-        return solve_checking(board, book, c, s, line, at, n, t, l);
-    }
-    if kind == 6 {
-        return solve_inf_app(board, book, report, c, line, at, n, o.right, limit);
-    }
-    c
 }
 
 fn kept_of(run: Run, limit: usize, strict: bool) -> Kept
     ensures { result ≡ kept_of run limit strict }
 {
-    let book = run.book;
-    let halt = run.halt;
     Kept {
-        book,
-        halt,
+        book: run.book,
+        halt: run.halt,
         limit,
         strict,
     }
 }
 
-// One step: takes the newest entry. The slices have one lifetime here and in the two functions below.
-fn step_apart<'a>(
-    c: Counters,
+// One step: takes the newest entry. The counters are lent: they are changed where they stand.
+fn step_lent(
+    c: &mut Counters,
     kept: Kept,
-    board: &'a mut [u32],
-    book: &'a mut [u32],
-    report: &'a mut [u32],
-    s: &'a [u64],
-    t: &'a mut [u32],
-    l: &'a mut [u32],
-    r: &'a mut [u32],
-    w: &'a mut [usize],
-    v: &'a mut [usize],
-) -> Stepped
-    requires { StepAsk kept.limit s.now board.old book.old report.old (run_with c kept) t.old l.old r.old w.old v.old }
-    ensures { Stepping kept.strict kept.limit s.now board.old book.old (run_with c kept) (room report.old t.old l.old r.old w.old v.old) board.new book.new (run_with result.counters result.kept) (room report.new t.new l.new r.new w.new v.new) }
+    board: &mut [u32],
+    book: &mut [u32],
+    report: &mut [u32],
+    s: &[u64],
+    t: &mut [u32],
+    l: &mut [u32],
+    r: &mut [u32],
+    w: &mut [usize],
+    v: &mut [usize],
+) -> Kept
+    requires { StepAsk kept.limit s.now board.old book.old report.old (run_with c.old kept) t.old l.old r.old w.old v.old }
+    ensures { Stepping kept.strict kept.limit s.now board.old book.old (run_with c.old kept) (room report.old t.old l.old r.old w.old v.old) board.new book.new (run_with c.new result) (room report.new t.new l.new r.new w.new v.new) }
 {
-    let b = c.board;
-    let o = pop(board, b);
-    let rest = o.rest;
-    let mut counters = c;
-    counters.taken = c.taken + 1;
-    counters.board = rest;
-    let solved = kept.book;
-    let halt = kept.halt;
+    let o = pop(board, c.board);
     let taken = Run {
-        counters,
-        book: solved,
-        halt,
+        counters: Counters {
+            taken: c.taken + 1,
+            board: o.rest,
+            ..*c
+        },
+        book: kept.book,
+        halt: kept.halt,
     };
     let q = solve_judgment(
         board,
@@ -130,59 +122,8 @@ fn step_apart<'a>(
         w,
         v,
     );
-    let after = q.counters;
-    let left = kept_of(q, kept.limit, kept.strict);
-    Stepped {
-        counters: after,
-        kept: left,
-    }
-}
-
-// The same with the counters lent: they are changed where they stand.
-fn step_lent<'c, 'a>(
-    c: &'c mut Counters,
-    kept: Kept,
-    board: &'a mut [u32],
-    book: &'a mut [u32],
-    report: &'a mut [u32],
-    s: &'a [u64],
-    t: &'a mut [u32],
-    l: &'a mut [u32],
-    r: &'a mut [u32],
-    w: &'a mut [usize],
-    v: &'a mut [usize],
-) -> Kept
-    requires { StepAsk kept.limit s.now board.old book.old report.old (run_with c.old kept) t.old l.old r.old w.old v.old }
-    ensures { Stepping kept.strict kept.limit s.now board.old book.old (run_with c.old kept) (room report.old t.old l.old r.old w.old v.old) board.new book.new (run_with c.new result) (room report.new t.new l.new r.new w.new v.new) }
-{
-    let q = step_apart(*c, kept, board, book, report, s, t, l, r, w, v);
     *c = q.counters;
-    q.kept
-}
-
-// Lends them. Its parameters are plain.
-fn lend_step<'a>(
-    c: Counters,
-    kept: Kept,
-    board: &'a mut [u32],
-    book: &'a mut [u32],
-    report: &'a mut [u32],
-    s: &'a [u64],
-    t: &'a mut [u32],
-    l: &'a mut [u32],
-    r: &'a mut [u32],
-    w: &'a mut [usize],
-    v: &'a mut [usize],
-) -> Stepped
-    requires { StepAsk kept.limit s.now board.old book.old report.old (run_with c kept) t.old l.old r.old w.old v.old }
-    ensures { Stepping kept.strict kept.limit s.now board.old book.old (run_with c kept) (room report.old t.old l.old r.old w.old v.old) board.new book.new (run_with result.counters result.kept) (room report.new t.new l.new r.new w.new v.new) }
-{
-    let mut mine = c;
-    let k = step_lent(&mut mine, kept, board, book, report, s, t, l, r, w, v);
-    Stepped {
-        counters: mine,
-        kept: k,
-    }
+    kept_of(q, kept.limit, kept.strict)
 }
 
 // One step of a run, by the strict call or the first, its counters lent.
@@ -203,16 +144,12 @@ pub fn solve_step(
     requires { StepAsk limit s.now board.old book.old report.old c t.old l.old r.old w.old v.old }
     ensures { Stepping strict limit s.now board.old book.old c (room report.old t.old l.old r.old w.old v.old) board.new book.new result (room report.new t.new l.new r.new w.new v.new) }
 {
-    let counters = c.counters;
     let kept = kept_of(c, limit, strict);
-    let q = lend_step(counters, kept, board, book, report, s, t, l, r, w, v);
-    let after = q.counters;
-    let left = q.kept;
-    let solved = left.book;
-    let halt = left.halt;
+    let mut counters = c.counters;
+    let left = step_lent(&mut counters, kept, board, book, report, s, t, l, r, w, v);
     Run {
-        counters: after,
-        book: solved,
-        halt,
+        counters,
+        book: left.book,
+        halt: left.halt,
     }
 }

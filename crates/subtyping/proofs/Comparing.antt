@@ -1,12 +1,10 @@
 -- Sub by what a comparison has met. Assumes nothing.
-use mathlib.Core.Path.{◌≡◌, refl, sym, ap, ap₂, ◌∙◌, subst⁻¹}
-use mathlib.Core.Logic.{◌≢◌}
-use mathlib.Core.Bool.{Bool, true, false, cond, true≢false}
-use mathlib.Core.List.{List}
-use Prim.Native.Nat.{ℕ, suc, ◌+◌, ◌*◌, ◌≤◌, ◌<◌}
-use native.Mathlib.Omega.{arith}
-use lib.ListN.{length, take}
-use borrow.Author.Tests.{le-leb, lt-leb}
+use Rattle.judgment.specs.declared.TypeError.{TypeError}
+use Rattle.book.specs.declared.Unlike.TheVariants.{Differ, Over}
+use Rattle.book.specs.declared.Unlike.{Unlike}
+use Rattle.std.proofs.Common.{Result, Ok, Err, Option, ◌≡◌, refl, sym, ap, ap₂, ◌∙◌, ◌≢◌, Bool, true, false, cond, true≢false, List, ℕ, suc, ◌+◌, ◌*◌, ◌≤◌, ◌<◌, arith, length, take, le-leb}
+use mathlib.Core.Path.{subst⁻¹}
+use borrow.Author.Tests.{lt-leb}
 use Rattle.nodes.specs.Nodes.{Ty, node_parts, nodes_at}
 use Rattle.nodes.specs.Parts.{Whole}
 use Rattle.nodes.proofs.ListLaws.{all_map}
@@ -22,29 +20,26 @@ use Rattle.judgment.proofs.TypeLaws.{eq_ty-same, eq_ty-not}
 use Rattle.judgment.specs.Levels.{Levels}
 use Rattle.board.specs.Board.{entries_of}
 use Rattle.book.specs.Book.{sols, levels_of}
-use Rattle.operations.specs.declared.Halt.{Halt}
 use Rattle.operations.specs.declared.Run.{Run}
-use Rattle.operations.specs.State.{outcome_by, state_of, zonk_w, perform_w, Does, going, stopped, refused_run, Zonks}
-use Rattle.operations.proofs.Latch.{refused-is, came, stays-does}
+use Rattle.operations.specs.State.{outcome_by, zonk_w, perform_w, Does, going, stopped, refused_run, Zonks}
+use Rattle.operations.proofs.Latch.{not-halted, came, stays-does}
 use Rattle.operations.proofs.Then.{does-as, done-does, zonk-then}
 use Rattle.book.specs.declared.Rest.{Rest}
-use Rattle.book.specs.declared.Met.{Met}
-use Rattle.book.specs.declared.Met.TheVariants.{Same, Differ, Over}
 use Rattle.book.specs.Compared.{parts_from, verdict, passed, compared, MeetAsk}
 use Rattle.book.proofs.Comparing.{Tells, tells, parts_at}
 use Rattle.subtyping.specs.Subtyping.{differ_report, subtype_report, SubtypeAsk}
 use Rattle.subtyping.proofs.Outs.{written_sub, same-done}
 
 -- ---- a write-out that is judged and not made
-fits_out : (w : Way) (h : Halt) → going h ≡ true → (rep : List ℕ) (Γ : Entries) (σ : Solutions) (n : ℕ) (t : Ty) (f : Ty → Rule) → length (write_out σ t) ≤ w.written
+fits_out : (w : Way) (h : Option TypeError) → going h ≡ true → (rep : List ℕ) (Γ : Entries) (σ : Solutions) (n : ℕ) (t : Ty) (f : Ty → Rule) → length (write_out σ t) ≤ w.written
     → perform_o (limits_in w) (f (write_out σ t)) (outcome_by h rep (state Γ σ n)) ≡ perform_o (limits_in w) (zonk t f) (outcome_by h rep (state Γ σ n))
 unfolding zonk_o
-fits_out w h g rep Γ σ n t f few = rw (g, le-leb (length (write_out σ t)) w.written few) refl
+fits_out w h g rep Γ σ n t f few = rw (not-halted h g, le-leb (length (write_out σ t)) w.written few) refl
 
-fits-levels : (w : Way) (h : Halt) → going h ≡ true → (rep : List ℕ) (Γ : Entries) (σ : Solutions) (n : ℕ) (t : Ty) (f : Ty → Rule) (v : Levels) → length (write_out σ t) ≤ w.written
+fits-levels : (w : Way) (h : Option TypeError) → going h ≡ true → (rep : List ℕ) (Γ : Entries) (σ : Solutions) (n : ℕ) (t : Ty) (f : Ty → Rule) (v : Levels) → length (write_out σ t) ≤ w.written
     → perform_l (limits_in w) (f (write_out σ t)) (outcome_by h rep (state Γ σ n)) v ≡ perform_l (limits_in w) (zonk t f) (outcome_by h rep (state Γ σ n)) v
 unfolding zonk_o
-fits-levels w h g rep Γ σ n t f v few = rw (g, le-leb (length (write_out σ t)) w.written few) refl
+fits-levels w h g rep Γ σ n t f v few = rw (not-halted h g, le-leb (length (write_out σ t)) w.written few) refl
 
 fits-words : (w : Way) (ls : List Triple) (b k : List ℕ) (c : Run) → going c.halt ≡ true → (t : Ty) (f : Ty → Rule) → length (write_out (sols k) t) ≤ w.written
     → perform_w w ls (f (write_out (sols k) t)) (record { board = b; book = k; run = c }) ≡ perform_w w ls (zonk t f) (record { board = b; book = k; run = c })
@@ -117,7 +112,7 @@ module _ {b k rep : List ℕ} {c : Run} {at ln rn w : ℕ} (p : SubtypeAsk b k r
     does = λ z ls b f. record {
       kept = record { board = f.board; book = f.book; numbers = f.numbers; unmade = f.unmade };
       taken = refl;
-      outcome = came (refused-is TypeTooLong rep (state_of ls b k c) ∙ rw (g, lt-leb (length L) w many)) (rw (g, lt-leb (length L) w many)) refl;
+      outcome = came (rw (not-halted c.halt g, lt-leb (length L) w many)) (rw (g, lt-leb (length L) w many)) refl;
     };
     nodes = λ z. absurd (true≢false (sym z));
     within = omega arith;
@@ -135,21 +130,21 @@ module _ {b k rep : List ℕ} {c : Run} {at ln rn w : ℕ} (p : SubtypeAsk b k r
   nothing_written : take (suc w) L ≡ take (suc w) R → rep ≡ subtype_report rep c L R w
   nothing_written e = sym (ap (λ (x : Bool). cond x rep (differ_report rep c L R w)) (ap (eq_ty (take (suc w) L)) (sym e) ∙ eq_ty-same (take (suc w) L)))
 
-  module _ {o : Met} {i : Rest} (e : i ≡ sides) (q : o ≡ compared b b k i) where
-    said : {m : Met} → o ≡ m → Tells L R w (passed b b k sides) m
+  module _ {o : (Result Rest Unlike)} {i : Rest} (e : i ≡ sides) (q : o ≡ compared b b k i) where
+    said : {m : (Result Rest Unlike)} → o ≡ m → Tells L R w (passed b b k sides) m
     unfolding compared
     said {m} u = tells L R w (passed b b k sides) m
         (ap₂ (λ (s t : Ty). verdict (write_out (sols k) s) (write_out (sols k) t) w (passed b b k sides)) (sym left_is) (sym right_is) ∙ sym (q ∙ ap (compared b b k) e) ∙ u)
 
-    pub same-leaves : {d : Rest} → o ≡ Same d → Leaves b k rep c
+    pub same-leaves : {d : Rest} → o ≡ Ok d → Leaves b k rep c
     same-leaves u = let s = said u in (λ z ls. same-does s.0 s.1 z ls (going c.halt) refl, nothing_written (ap (λ (t : Ty). take (suc w) t) s.0))
 
-    pub over-leaves : {d : Run} → o ≡ Over → d ≡ refused_run c TypeTooLong → Leaves b k rep d
+    pub over-leaves : {d : Run} → o ≡ Err Over → d ≡ refused_run c TypeTooLong → Leaves b k rep d
     over-leaves u v = let s = said u in (λ z ls. over-does s.1 v z ls (going c.halt) refl, nothing_written s.0)
 
     -- a node differs: the types do
-    pub differ-asks : o ≡ Differ → L ≢ R
+    pub differ-asks : o ≡ Err Differ → L ≢ R
     differ-asks u = λ s. said u (ap (λ (t : Ty). take (suc w) t) s)
 
-    pub differ-report : o ≡ Differ → {rep' : List ℕ} → rep' ≡ differ_report rep c L R w → rep' ≡ subtype_report rep c L R w
+    pub differ-report : o ≡ Err Differ → {rep' : List ℕ} → rep' ≡ differ_report rep c L R w → rep' ≡ subtype_report rep c L R w
     differ-report u h = h ∙ sym (ap (λ (x : Bool). cond x rep (differ_report rep c L R w)) (eq_ty-not (take (suc w) L) (take (suc w) R) (said u)))

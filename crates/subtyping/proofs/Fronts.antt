@@ -1,11 +1,6 @@
 -- A type moved to the front of the report. Assumes nothing.
-use mathlib.Core.Path.{◌≡◌, sym, ap₂, ◌∙◌}
-use mathlib.Core.Bool.{true, false}
-use mathlib.Core.List.{List}
-use Prim.Native.Nat.{ℕ, ◌+◌, ◌*◌, ◌≤◌}
-use native.Mathlib.Omega.{arith}
-use lib.ListN.{length}
-use lib.Seq.{sets}
+use Rattle.std.proofs.Common.{◌≡◌, sym, ap₂, ◌∙◌, true, false, List, ℕ, ◌+◌, ◌*◌, ◌≤◌, arith, length}
+use Rattle.std.proofs.Math.Seq.{sets}
 use Rattle.nodes.specs.Nodes.{Ty, words, nodes_at}
 use Rattle.nodes.proofs.Laws.{length-nodes_at, nodes_at-same}
 use Rattle.judgment.specs.Types.{is_monotype}

@@ -1,12 +1,6 @@
 -- A sound type, written out, may be compared; two write-outs one after the other. Assumes nothing.
-use mathlib.Core.Path.{◌≡◌, sym, ap, ap₂, ◌∙◌, subst⁻¹}
-use mathlib.Core.Logic.{◌≢◌}
-use mathlib.Core.Bool.{Bool, true, false, cond}
-use mathlib.Core.List.{List, [], ◌∷◌}
-use Prim.Native.Nat.{ℕ, ◌+◌, ◌*◌, ◌≤◌, ◌<◌}
-use native.Mathlib.Nat.{le_trans}
-use native.Mathlib.Omega.{arith}
-use lib.ListN.{length}
+use Rattle.std.proofs.Common.{◌≡◌, sym, ap, ap₂, ◌∙◌, ◌≢◌, Bool, true, false, cond, List, [], ◌∷◌, ℕ, ◌+◌, ◌*◌, ◌≤◌, ◌<◌, le_trans, arith, length}
+use mathlib.Core.Path.{subst⁻¹}
 use Rattle.sizes.specs.Sizes.{most_nodes}
 use Rattle.nodes.specs.Nodes.{Node, Ty, node_parts, nodes_at}
 use Rattle.spelling.specs.declared.Triple.{Triple}
@@ -131,7 +125,8 @@ module _ {b k rep : List ℕ} {c : Run} {at fn tn w : ℕ} (p : SubtypeAsk b k r
       pub twice-stays : (v : ℕ → Ty → Bool) (ls : List Triple) (G : Ty → Ty → Rule) → going y.run.halt ≡ false → Does (way v) ls b k rep c (zonk f (λ (x : Ty). zonk t (G x))) b k rep₂ y.run
       twice-stays v ls G g = twice-then v ls G (stays-does (D₂ v ls).kept (way v) ls rep₂ g (G F T))
 
-      -- every word of the report: the write-outs', and then what G makes of them, with the two types as they stand there
+      -- every word of the report: the write-outs', and then what G makes of them, with the two types as they stand
+      -- there
       module _ (q₁ : rep₁ ≡ zonk_words rep c (write_out (sols k) f) 0 w) where
         twice-report : {g : Bool} → going y.run.halt ≡ g → (G : List ℕ → List ℕ) → cond g (G rep₂) rep₂ ≡ twice_report rep c (write_out (sols k) f) (write_out (sols k) t) w G
         twice-report h G =

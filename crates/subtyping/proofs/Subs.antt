@@ -1,11 +1,5 @@
 -- Sub by the shapes of its two types. Assumes nothing.
-use mathlib.Core.Path.{◌≡◌, refl, sym, ap, ap₂, ◌∙◌, subst}
-use mathlib.Core.Logic.{◌≢◌}
-use mathlib.Core.Bool.{Bool, true, false, cond}
-use mathlib.Core.List.{List, [], ◌∷◌, ◌++◌}
-use Prim.Native.Nat.{ℕ, ◌+◌, ◌*◌, ◌-◌, ◌≤◌, ◌<◌}
-use native.Mathlib.Omega.{arith}
-use lib.ListN.{length, get_or}
+use Rattle.std.proofs.Common.{◌≡◌, refl, sym, ap, ap₂, ◌∙◌, subst, ◌≢◌, Bool, true, false, cond, List, [], ◌∷◌, ◌++◌, ℕ, ◌+◌, ◌*◌, ◌-◌, ◌≤◌, ◌<◌, arith, length, get_or}
 use Rattle.sizes.specs.Sizes.{most_nodes}
 use Rattle.nodes.specs.Nodes.{node, Ty, nodes_at}
 use Rattle.nodes.specs.Lists.{All}
@@ -20,6 +14,8 @@ use Rattle.judgment.proofs.RuleLaws.{occurs-false}
 use Rattle.book.specs.Book.{sols}
 use Rattle.operations.specs.declared.Run.{Run}
 use Rattle.operations.specs.State.{WellFormed, going}
+use Rattle.subtyping.specs.declared.Shape.{Shape}
+use Rattle.subtyping.specs.declared.Shape.TheVariants.{Arrow, App, Forall, Unknown}
 use Rattle.subtyping.specs.Subtyping.{shape_of, right_by, parts_by, opened_at, inst_report, right_report, unknown_report, left_report, shapes_report, Written, InstAsk, PartsAsk, OpenAsk, SubAsk}
 use Rattle.subtyping.proofs.Shapes.{arrow-view, app-view, forall-view, unknown-view, unknown-is}
 
@@ -28,7 +24,7 @@ both-free x ks [] a f = tt
 both-free x ks (n ∷ t) a f = ((a.0, f.0), both-free x ks t a.1 f.1)
 
 -- ---- the rule by views
-right-other : (l r : Ty) (v : View) → shape_of v ≢ 4 → mismatch l r ≡ right_by l r v
+right-other : (l r : Ty) (v : View) → shape_of v ≢ Unknown → mismatch l r ≡ right_by l r v
 right-other l r (is_arrow a b) h = refl
 right-other l r (is_app a b) h = refl
 right-other l r (is_forall x b) h = refl
@@ -43,14 +39,14 @@ module _ (l r : Ty) where
   sub-forall-right (is_unknown k) x b = refl
   sub-forall-right is_other x b = refl
 
-  sub-forall-left : (w : View) → shape_of w ≢ 3 → (x : ℕ) (a : Ty) → forall_left l r x a ≡ subtype_by l r (is_forall x a) w
+  sub-forall-left : (w : View) → shape_of w ≢ Forall → (x : ℕ) (a : Ty) → forall_left l r x a ≡ subtype_by l r (is_forall x a) w
   sub-forall-left (is_arrow b c) h x a = refl
   sub-forall-left (is_app b c) h x a = refl
   sub-forall-left (is_forall y c) h x a = absurd (h refl)
   sub-forall-left (is_unknown k) h x a = refl
   sub-forall-left is_other h x a = refl
 
-  sub-unknown-left : (w : View) → shape_of w ≢ 3 → (k : ℕ) → unknown_left l r k (right_by l r w) ≡ subtype_by l r (is_unknown k) w
+  sub-unknown-left : (w : View) → shape_of w ≢ Forall → (k : ℕ) → unknown_left l r k (right_by l r w) ≡ subtype_by l r (is_unknown k) w
   sub-unknown-left (is_arrow b c) h k = refl
   sub-unknown-left (is_app b c) h k = refl
   sub-unknown-left (is_forall y c) h k = absurd (h refl)
@@ -58,7 +54,7 @@ module _ (l r : Ty) where
   sub-unknown-left is_other h k = refl
 
   -- neither a quantifier, nor an unknown on the left, nor two Arrows or two Apps
-  sub-right : (v w : View) → shape_of w ≢ 3 → shape_of v ≢ 3 → shape_of v ≢ 4 → (shape_of v ≡ 1 → shape_of w ≢ 1) → (shape_of v ≡ 2 → shape_of w ≢ 2) → right_by l r w ≡ subtype_by l r v w
+  sub-right : (v w : View) → shape_of w ≢ Forall → shape_of v ≢ Forall → shape_of v ≢ Unknown → (shape_of v ≡ Arrow → shape_of w ≢ Arrow) → (shape_of v ≡ App → shape_of w ≢ App) → right_by l r w ≡ subtype_by l r v w
   sub-right (is_arrow a₁ a₂) (is_arrow b₁ b₂) h g u p q = absurd (p refl refl)
   sub-right (is_arrow a₁ a₂) (is_app b₁ b₂) h g u p q = refl
   sub-right (is_arrow a₁ a₂) (is_forall y b) h g u p q = absurd (h refl)
@@ -80,7 +76,7 @@ module _ (l r : Ty) where
 -- ---- what the calls ask
 module _ {b k rep : List ℕ} {c : Run} (f : WellFormed b k c) (g : going c.halt ≡ true) where
   inst-asks : (x at n : ℕ) → at + 2 * n ≤ length rep → Written k c (nodes_at rep at n) → Written k c (unknown x) → occurs x (nodes_at rep at n) ≡ false
-      → shape_of (view (nodes_at rep at n)) ≢ 3 → InstAsk b k rep c x at n
+      → shape_of (view (nodes_at rep at n)) ≢ Forall → InstAsk b k rep c x at n
   inst-asks x at n h w u o flat = record {
     formed = f;
     goes = g;
@@ -119,12 +115,12 @@ module _ {b k rep : List ℕ} {c : Run} {l r : ℕ} (a : SubAsk b k rep c l r) w
       let q : nodes_at rep 0 (l + r) ≡ L ++ R = nodes_at-append rep 0 l r ∙ ap (λ (p : ℕ). nodes_at rep 0 l ++ nodes_at rep p r) z in
       ap₂ (λ (x : ℕ × ℕ) (t : Ty). refuse (SubtypingError x.0 x.1) t) (ap₂ (λ (x y : ℕ). (x, y)) (sym (length-nodes_at rep 0 l)) (sym (length-nodes_at rep (2 * l) r))) q
 
-  pub right-asks : shape_of (view R) ≡ 4 → shape_of (view L) ≢ 3 → occurs (get_or rep (2 * l + 1) 0) L ≡ false → InstAsk b k rep c (get_or rep (2 * l + 1) 0) 0 l
+  pub right-asks : shape_of (view R) ≡ Unknown → shape_of (view L) ≢ Forall → occurs (get_or rep (2 * l + 1) 0) L ≡ false → InstAsk b k rep c (get_or rep (2 * l + 1) 0) 0 l
   right-asks e flat o =
       let w = a.within in
       inst-asks a.formed a.goes (get_or rep (2 * l + 1) 0) 0 l (omega arith) a.left (subst (Written k c) (unknown-is rep (2 * l) r sizes.1 e) a.right) o flat
 
-  pub left-asks : shape_of (view L) ≡ 4 → shape_of (view R) ≢ 3 → occurs (get_or rep 1 0) R ≡ false → InstAsk b k rep c (get_or rep 1 0) (2 * l) r
+  pub left-asks : shape_of (view L) ≡ Unknown → shape_of (view R) ≢ Forall → occurs (get_or rep 1 0) R ≡ false → InstAsk b k rep c (get_or rep 1 0) (2 * l) r
   left-asks e flat o =
       let w = a.within in
       inst-asks a.formed a.goes (get_or rep 1 0) (2 * l) r (omega arith) a.right (subst (Written k c) (unknown-is rep 0 l sizes.0 e) a.left) o flat
@@ -139,55 +135,53 @@ module _ {b k rep : List ℕ} {c : Run} {l r : ℕ} (a : SubAsk b k rep c l r) w
       record { formed = (k, a.formed); left = omega arith; right = omega arith; few_left = omega arith; few_right = omega arith }
 
   -- ---- the branches of the code, by the shapes and the occurs checks that it has read
-  module _ {sl sr : ℕ} (el : sl ≡ shape_of (view L)) (er : sr ≡ shape_of (view R)) where
-    by : {v w : View} → view L ≡ v → view R ≡ w → subtype_by L R v w ≡ subtype_by L R (view L) (view R)
-    by p q = ap₂ (subtype_by L R) (sym p) (sym q)
+  by : {v w : View} → view L ≡ v → view R ≡ w → subtype_by L R v w ≡ subtype_by L R (view L) (view R)
+  by p q = ap₂ (subtype_by L R) (sym p) (sym q)
 
-    pub by-forall-right : sr ≡ 3 → forall_right L R (get_or rep (2 * l + 1) 0) (nodes_at rep (2 * l + 2) (r - 1)) ≡ subtype_by L R (view L) (view R)
-    by-forall-right e = sub-forall-right L R (view L) (get_or rep (2 * l + 1) 0) (nodes_at rep (2 * l + 2) (r - 1)) ∙ by refl (forall-view rep (2 * l) r (sym er ∙ e))
+  pub by-forall-right : Forall ≡ shape_of (view R) → forall_right L R (get_or rep (2 * l + 1) 0) (nodes_at rep (2 * l + 2) (r - 1)) ≡ subtype_by L R (view L) (view R)
+  by-forall-right e = sub-forall-right L R (view L) (get_or rep (2 * l + 1) 0) (nodes_at rep (2 * l + 2) (r - 1)) ∙ by refl (forall-view rep (2 * l) r (sym e))
 
-    pub by-forall-left : sr ≢ 3 → sl ≡ 3 → forall_left L R (get_or rep 1 0) (nodes_at rep 2 (l - 1)) ≡ subtype_by L R (view L) (view R)
-    by-forall-left h e = sub-forall-left L R (view R) (λ z. h (er ∙ z)) (get_or rep 1 0) (nodes_at rep 2 (l - 1)) ∙ by (forall-view rep 0 l (sym el ∙ e)) refl
+  pub by-forall-left : shape_of (view R) ≢ Forall → shape_of (view L) ≡ Forall → forall_left L R (get_or rep 1 0) (nodes_at rep 2 (l - 1)) ≡ subtype_by L R (view L) (view R)
+  by-forall-left h e = sub-forall-left L R (view R) h (get_or rep 1 0) (nodes_at rep 2 (l - 1)) ∙ by (forall-view rep 0 l e) refl
 
-    pub by-unknown-left : sr ≢ 3 → sl ≡ 4 → unknown_left L R (get_or rep 1 0) (right_by L R (view R)) ≡ subtype_by L R (view L) (view R)
-    by-unknown-left h e = sub-unknown-left L R (view R) (λ z. h (er ∙ z)) (get_or rep 1 0) ∙ by (unknown-view rep 0 l (sym el ∙ e)) refl
+  pub by-unknown-left : shape_of (view R) ≢ Forall → shape_of (view L) ≡ Unknown → unknown_left L R (get_or rep 1 0) (right_by L R (view R)) ≡ subtype_by L R (view L) (view R)
+  by-unknown-left h e = sub-unknown-left L R (view R) h (get_or rep 1 0) ∙ by (unknown-view rep 0 l e) refl
 
-    pub by-arrows : sl ≡ 1 → sr ≡ 1 → parts_by true (nodes_at rep 2 (l - 1)) (nodes_at rep (2 * l + 2) (r - 1)) ≡ subtype_by L R (view L) (view R)
-    by-arrows e f = by (arrow-view rep 0 l (sym el ∙ e)) (arrow-view rep (2 * l) r (sym er ∙ f))
+  pub by-arrows : Arrow ≡ shape_of (view L) → Arrow ≡ shape_of (view R) → parts_by true (nodes_at rep 2 (l - 1)) (nodes_at rep (2 * l + 2) (r - 1)) ≡ subtype_by L R (view L) (view R)
+  by-arrows e f = by (arrow-view rep 0 l (sym e)) (arrow-view rep (2 * l) r (sym f))
 
-    pub by-apps : sl ≡ 2 → sr ≡ 2 → parts_by false (nodes_at rep 2 (l - 1)) (nodes_at rep (2 * l + 2) (r - 1)) ≡ subtype_by L R (view L) (view R)
-    by-apps e f = by (app-view rep 0 l (sym el ∙ e)) (app-view rep (2 * l) r (sym er ∙ f))
+  pub by-apps : App ≡ shape_of (view L) → App ≡ shape_of (view R) → parts_by false (nodes_at rep 2 (l - 1)) (nodes_at rep (2 * l + 2) (r - 1)) ≡ subtype_by L R (view L) (view R)
+  by-apps e f = by (app-view rep 0 l (sym e)) (app-view rep (2 * l) r (sym f))
 
-    pub by_right : sr ≢ 3 → sl ≢ 3 → sl ≢ 4 → (sl ≡ 1 → sr ≢ 1) → (sl ≡ 2 → sr ≢ 2) → right_by L R (view R) ≡ subtype_by L R (view L) (view R)
-    by_right h g u p q = sub-right L R (view L) (view R) (λ z. h (er ∙ z)) (λ z. g (el ∙ z)) (λ z. u (el ∙ z)) (λ y z. p (el ∙ y) (er ∙ z)) (λ y z. q (el ∙ y) (er ∙ z))
+  pub by_right : shape_of (view R) ≢ Forall → shape_of (view L) ≢ Forall → shape_of (view L) ≢ Unknown → (shape_of (view L) ≡ Arrow → shape_of (view R) ≢ Arrow)
+      → (shape_of (view L) ≡ App → shape_of (view R) ≢ App) → right_by L R (view R) ≡ subtype_by L R (view L) (view R)
+  by_right h g u p q = sub-right L R (view L) (view R) h g u p q
 
-  pub by-left-occurs : {o p : Bool} → o ≡ occurs (get_or rep 1 0) R → o ≡ p
-      → cond p (right_by L R (view R)) (instantiate left (get_or rep 1 0) R) ≡ unknown_left L R (get_or rep 1 0) (right_by L R (view R))
-  by-left-occurs e q = ap (λ (z : Bool). cond z (right_by L R (view R)) (instantiate left (get_or rep 1 0) R)) (sym q ∙ e)
+  pub by-left-occurs : {p : Bool} → p ≡ occurs (get_or rep 1 0) R → cond p (right_by L R (view R)) (instantiate left (get_or rep 1 0) R) ≡ unknown_left L R (get_or rep 1 0) (right_by L R (view R))
+  by-left-occurs e = ap (λ (z : Bool). cond z (right_by L R (view R)) (instantiate left (get_or rep 1 0) R)) e
 
-  module _ {s : ℕ} (e : s ≡ shape_of (view R)) where
-    pub by-right-occurs : s ≡ 4 → {o p : Bool} → o ≡ occurs (get_or rep (2 * l + 1) 0) L → o ≡ p
-        → cond p (refuse (SubtypingError l r) (nodes_at rep 0 (l + r))) (instantiate right (get_or rep (2 * l + 1) 0) L) ≡ right_by L R (view R)
-    by-right-occurs h {p = p} f q =
-        ap (λ (m : Rule). cond p m (instantiate right (get_or rep (2 * l + 1) 0) L)) mismatch-is
-        ∙ ap (λ (z : Bool). cond z (mismatch L R) (instantiate right (get_or rep (2 * l + 1) 0) L)) (sym q ∙ f)
-        ∙ ap (right_by L R) (sym (unknown-view rep (2 * l) r (sym e ∙ h)))
+  pub by-right-occurs : Unknown ≡ shape_of (view R) → {p : Bool} → p ≡ occurs (get_or rep (2 * l + 1) 0) L
+      → cond p (refuse (SubtypingError l r) (nodes_at rep 0 (l + r))) (instantiate right (get_or rep (2 * l + 1) 0) L) ≡ right_by L R (view R)
+  by-right-occurs e {p = p} f =
+      ap (λ (m : Rule). cond p m (instantiate right (get_or rep (2 * l + 1) 0) L)) mismatch-is
+      ∙ ap (λ (z : Bool). cond z (mismatch L R) (instantiate right (get_or rep (2 * l + 1) 0) L)) f
+      ∙ ap (right_by L R) (sym (unknown-view rep (2 * l) r (sym e)))
 
-    pub by-mismatch : s ≢ 4 → refuse (SubtypingError l r) (nodes_at rep 0 (l + r)) ≡ right_by L R (view R)
-    by-mismatch h = mismatch-is ∙ right-other L R (view R) (λ z. h (e ∙ z))
+  pub by-mismatch : {s : Shape} → s ≡ shape_of (view R) → s ≢ Unknown → refuse (SubtypingError l r) (nodes_at rep 0 (l + r)) ≡ right_by L R (view R)
+  by-mismatch e h = mismatch-is ∙ right-other L R (view R) (λ z. h (e ∙ z))
 
   -- ---- every word of the report
-  pub report-left-occurs : {o p : Bool} → o ≡ occurs (get_or rep 1 0) R → o ≡ p → cond p (right_report rep L (view R)) (inst_report rep R (view R)) ≡ unknown_report rep (get_or rep 1 0) L R
-  report-left-occurs e q = ap (λ (z : Bool). cond z (right_report rep L (view R)) (inst_report rep R (view R))) (sym q ∙ e)
+  pub report-left-occurs : {p : Bool} → p ≡ occurs (get_or rep 1 0) R → cond p (right_report rep L (view R)) (inst_report rep R (view R)) ≡ unknown_report rep (get_or rep 1 0) L R
+  report-left-occurs e = ap (λ (z : Bool). cond z (right_report rep L (view R)) (inst_report rep R (view R))) e
 
-  module _ {s : ℕ} (e : s ≡ shape_of (view R)) where
-    pub report-right-occurs : s ≡ 4 → {o p : Bool} → o ≡ occurs (get_or rep (2 * l + 1) 0) L → o ≡ p → cond p rep (inst_report rep L (view L)) ≡ right_report rep L (view R)
-    report-right-occurs h f q = ap (λ (z : Bool). cond z rep (inst_report rep L (view L))) (sym q ∙ f) ∙ ap (right_report rep L) (sym (unknown-view rep (2 * l) r (sym e ∙ h)))
+  pub report-right-occurs : Unknown ≡ shape_of (view R) → {p : Bool} → p ≡ occurs (get_or rep (2 * l + 1) 0) L → cond p rep (inst_report rep L (view L)) ≡ right_report rep L (view R)
+  report-right-occurs e f = ap (λ (z : Bool). cond z rep (inst_report rep L (view L))) f ∙ ap (right_report rep L) (sym (unknown-view rep (2 * l) r (sym e)))
 
-    pub report-mismatch : s ≢ 4 → rep ≡ right_report rep L (view R)
+  module _ {s : Shape} (e : s ≡ shape_of (view R)) where
+    pub report-mismatch : s ≢ Unknown → rep ≡ right_report rep L (view R)
     report-mismatch h = by (view R) (λ z. h (e ∙ z))
       where
-        by : (v : View) → shape_of v ≢ 4 → rep ≡ right_report rep L v
+        by : (v : View) → shape_of v ≢ Unknown → rep ≡ right_report rep L v
         by (is_arrow a b) h = refl
         by (is_app a b) h = refl
         by (is_forall x b) h = refl
@@ -195,38 +189,37 @@ module _ {b k rep : List ℕ} {c : Run} {l r : ℕ} (a : SubAsk b k rep c l r) w
         by is_other h = refl
 
   module _ (u : ℕ) where
-    shapes-left : (w : View) → shape_of w ≢ 3 → left_report rep u L R (view L) ≡ shapes_report rep u L R w
+    shapes-left : (w : View) → shape_of w ≢ Forall → left_report rep u L R (view L) ≡ shapes_report rep u L R w
     shapes-left (is_arrow b c) h = refl
     shapes-left (is_app b c) h = refl
     shapes-left (is_forall y c) h = absurd (h refl)
     shapes-left (is_unknown j) h = refl
     shapes-left is_other h = refl
 
-    left-right : (v : View) → shape_of v ≢ 3 → shape_of v ≢ 4 → right_report rep L (view R) ≡ left_report rep u L R v
+    left-right : (v : View) → shape_of v ≢ Forall → shape_of v ≢ Unknown → right_report rep L (view R) ≡ left_report rep u L R v
     left-right (is_arrow b c) h g = refl
     left-right (is_app b c) h g = refl
     left-right (is_forall y c) h g = absurd (h refl)
     left-right (is_unknown j) h g = absurd (g refl)
     left-right is_other h g = refl
 
-    module _ {sl sr : ℕ} (el : sl ≡ shape_of (view L)) (er : sr ≡ shape_of (view R)) where
-      pub report-forall-right : sr ≡ 3 → opened_at rep (2 * l + 2) (get_or rep (2 * l + 1) 0) (node 18 u) (nodes_at rep (2 * l + 2) (r - 1)) ≡ shapes_report rep u L R (view R)
-      report-forall-right e =
-          ap (λ (m : ℕ). opened_at rep (2 * m + 2) (get_or rep (2 * l + 1) 0) (node 18 u) (nodes_at rep (2 * l + 2) (r - 1))) (sym (length-nodes_at rep 0 l))
-          ∙ ap (shapes_report rep u L R) (sym (forall-view rep (2 * l) r (sym er ∙ e)))
+    pub report-forall-right : Forall ≡ shape_of (view R) → opened_at rep (2 * l + 2) (get_or rep (2 * l + 1) 0) (node 18 u) (nodes_at rep (2 * l + 2) (r - 1)) ≡ shapes_report rep u L R (view R)
+    report-forall-right e =
+        ap (λ (m : ℕ). opened_at rep (2 * m + 2) (get_or rep (2 * l + 1) 0) (node 18 u) (nodes_at rep (2 * l + 2) (r - 1))) (sym (length-nodes_at rep 0 l))
+        ∙ ap (shapes_report rep u L R) (sym (forall-view rep (2 * l) r (sym e)))
 
-      module _ (h : sr ≢ 3) where
-        by_left : {v : View} → view L ≡ v → left_report rep u L R v ≡ shapes_report rep u L R (view R)
-        by_left e = ap (left_report rep u L R) (sym e) ∙ shapes-left (view R) (λ z. h (er ∙ z))
+    module _ (h : shape_of (view R) ≢ Forall) where
+      by_left : {v : View} → view L ≡ v → left_report rep u L R v ≡ shapes_report rep u L R (view R)
+      by_left e = ap (left_report rep u L R) (sym e) ∙ shapes-left (view R) h
 
-        pub report-forall-left : sl ≡ 3 → opened_at rep 2 (get_or rep 1 0) (node 17 u) (nodes_at rep 2 (l - 1)) ≡ shapes_report rep u L R (view R)
-        report-forall-left e = by_left (forall-view rep 0 l (sym el ∙ e))
+      pub report-forall-left : shape_of (view L) ≡ Forall → opened_at rep 2 (get_or rep 1 0) (node 17 u) (nodes_at rep 2 (l - 1)) ≡ shapes_report rep u L R (view R)
+      report-forall-left e = by_left (forall-view rep 0 l e)
 
-        pub report-unknown-left : sl ≡ 4 → unknown_report rep (get_or rep 1 0) L R ≡ shapes_report rep u L R (view R)
-        report-unknown-left e = by_left (unknown-view rep 0 l (sym el ∙ e))
+      pub report-unknown-left : shape_of (view L) ≡ Unknown → unknown_report rep (get_or rep 1 0) L R ≡ shapes_report rep u L R (view R)
+      report-unknown-left e = by_left (unknown-view rep 0 l e)
 
-        pub report-right : sl ≢ 3 → sl ≢ 4 → right_report rep L (view R) ≡ shapes_report rep u L R (view R)
-        report-right f g = left-right (view L) (λ z. f (el ∙ z)) (λ z. g (el ∙ z)) ∙ by_left refl
+      pub report-right : shape_of (view L) ≢ Forall → shape_of (view L) ≢ Unknown → right_report rep L (view R) ≡ shapes_report rep u L R (view R)
+      report-right f g = left-right (view L) f g ∙ by_left refl
 
-        pub report-parts : sl ≢ 3 → sl ≢ 4 → sr ≢ 4 → rep ≡ shapes_report rep u L R (view R)
-        report-parts f g i = report-mismatch er i ∙ report-right f g
+      pub report-parts : shape_of (view L) ≢ Forall → shape_of (view L) ≢ Unknown → shape_of (view R) ≢ Unknown → rep ≡ shapes_report rep u L R (view R)
+      report-parts f g i = report-mismatch refl i ∙ report-right f g

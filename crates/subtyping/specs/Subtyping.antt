@@ -1,4 +1,5 @@
--- What the code of Sub cites: a type's view as a number, the words that it leaves in the report, and what a call asks. Assumes nothing: these are definitions.
+-- What the code of Sub cites: a type's shape, the words that it leaves in the report, and what a call asks.
+-- Assumes nothing: these are definitions.
 use Rattle.std.specs.Prelude.{◌≡◌, ◌≢◌, Bool, true, false, cond, List, ◌∷◌, ◌++◌, ℕ, suc, ◌+◌, ◌*◌, ◌≤◌, ◌<◌, length, take}
 use Rattle.std.proofs.lemmas.List.Edits.{sets}
 use Rattle.sizes.specs.Sizes.{most_nodes, most_numbers}
@@ -12,19 +13,27 @@ use Rattle.judgment.specs.Rules.{Side, left, right, on_side, mismatch, unknown_r
 use Rattle.judgment.specs.Good.{Free}
 use Rattle.book.specs.Book.{sols, Booked}
 use Rattle.operations.specs.declared.Run.{Run}
+use Rattle.subtyping.specs.declared.Shape.{Shape}
+use Rattle.subtyping.specs.declared.Shape.TheVariants.{Arrow, App, Forall, Unknown, Other}
+use Rattle.subtyping.specs.declared.Side.{Side as CodeSide}
+use Rattle.subtyping.specs.declared.Side.TheVariants.{Left, Right}
 use Rattle.operations.specs.State.{WellFormed, going, Made, Solves, zonk_run, zonk_words}
 
--- a view as a number: the constants of the code
-abbrev pub shape_of : View → ℕ
-shape_of (is_arrow a b) = 1
-shape_of (is_app a b) = 2
-shape_of (is_forall x b) = 3
-shape_of (is_unknown k) = 4
-shape_of is_other = 5
+-- a view without its parts
+abbrev pub shape_of : View → Shape
+shape_of (is_arrow a b) = Arrow
+shape_of (is_app a b) = App
+shape_of (is_forall x b) = Forall
+shape_of (is_unknown k) = Unknown
+shape_of is_other = Other
 
-abbrev pub side_of : Bool → Side
-side_of true = left
-side_of false = right
+abbrev pub side_of : CodeSide → Side
+side_of Left = left
+side_of Right = right
+
+abbrev pub other_side : Side → Side
+other_side left = right
+other_side right = left
 
 -- k split: solved by a pair of two fresh unknowns, and these compared with the two parts of t
 abbrev pub split_by : ℕ → ℕ → Side → Side → Ty → Rule
@@ -113,7 +122,8 @@ twice_report rep c l r w f =
 abbrev pub differ_report : List ℕ → Run → Ty → Ty → ℕ → List ℕ
 differ_report rep c l r w = twice_report rep c l r w (λ out. shapes_report out c.counters.fresh l r (view r))
 
--- Sub of types that are l and r when written out: where no node differs, up to one more than the limit, nothing is written
+-- Sub of types that are l and r when written out: where no node differs, up to one more than the limit, nothing is
+-- written
 abbrev pub subtype_report : List ℕ → Run → Ty → Ty → ℕ → List ℕ
 subtype_report rep c l r w = cond (eq_ty (take (suc w) l) (take (suc w) r)) rep (differ_report rep c l r w)
 
@@ -137,14 +147,15 @@ pub record MonoAsk (k rep : List ℕ) (c : Run) (x at n : ℕ) : Type 0 where
   pub few : n ≤ most_nodes
   pub solves : Solves k c x (nodes_at rep at n)
 
--- Instantiation of the unknown x with the n nodes at word `at` of the report, which have no quantifier in front: x is unsolved and does not occur.
+-- Instantiation of the unknown x with the n nodes at word `at` of the report, which have no quantifier in front: x is
+-- unsolved and does not occur.
 pub record InstAsk (b k rep : List ℕ) (c : Run) (x at n : ℕ) : Type 0 where
   pub formed : WellFormed b k c
   pub goes : going c.halt ≡ true
   pub within : at + 2 * n ≤ length rep
   pub some : 0 < n
   pub few : n ≤ most_nodes
-  pub flat : shape_of (view (nodes_at rep at n)) ≢ 3
+  pub flat : shape_of (view (nodes_at rep at n)) ≢ Forall
   pub solves : Solves k c x (nodes_at rep at n)
 
 -- A type of a comparison, written out.

@@ -1,5 +1,6 @@
--- Tables of references: row i is a name and a reference, in words 6 i to 6 i + 5. Assumes nothing: these are definitions.
-use Rattle.std.specs.Prelude.{◌≡◌, Bool, cond, ◌&&◌, List, [], ◌∷◌, ◌++◌, ℕ, zero, suc, ◌+◌, ◌*◌, ◌-◌, ◌≤◌, ◌<◌, eqb, leb, ltb, get_or, take, drop}
+-- Tables of references: row i is a name and a reference, in words 6 i to 6 i + 5. Assumes nothing: these are
+-- definitions.
+use Rattle.std.specs.Prelude.{◌≡◌, Bool, cond, ◌&&◌, List, [], ◌∷◌, ◌++◌, ℕ, zero, suc, ◌+◌, ◌*◌, ◌-◌, ◌≤◌, ◌<◌, eqb, leb, ltb, get_or, take, drop, Result, Ok, Err}
 use Rattle.std.proofs.lemmas.List.Edits.{sets}
 use Rattle.nodes.specs.Nodes.{Ty}
 use Rattle.spelling.specs.declared.Triple.{Triple}
@@ -30,7 +31,8 @@ Frames ls w (suc i) = Frame ls (ref_at w i) × Frames ls w i
 abbrev pub top_of : List ℕ → ℕ → TypeRef
 top_of w n = ref_at w (n - 1)
 
--- The first pending type is taken off r, the top of n frames: the type that is wanted and how many frames are left, then every word of the stack.
+-- The first pending type is taken off r, the top of n frames: the type that is wanted and how many frames are left,
+-- then every word of the stack.
 -- An unknown is wanted itself, and none follow it.
 unfoldable pub next_of : List Triple → TypeRef → ℕ → Upcoming
 next_of ls r n =
@@ -69,12 +71,17 @@ place_from w x i (suc n) = cond (leb x (name_at w i)) i (place_from w x (i + 1) 
 abbrev pub named : List ℕ → ℕ → ℕ → ℕ → Bool
 named w j n x = ltb j n && eqb (name_at w j) x
 
+-- the row that a search answers, whether or not it is of the name
+abbrev pub row_of : Result ℕ ℕ → ℕ
+row_of (Ok j) = j
+row_of (Err j) = j
+
 -- the rows from j up to n, copied one row up: row j keeps its words
 unfoldable pub lifted : List ℕ → ℕ → ℕ → List ℕ
 lifted w j n = sets w (6 * j + 6) (take (6 * (n - j)) (drop (6 * j) w))
 
--- every word of the table after a name is bound among n bindings, and how many there are then: a row of that name is overwritten, otherwise the rows from its place on
--- make room
+-- every word of the table after a name is bound among n bindings, and how many there are then: a row of that name is
+-- overwritten, otherwise the rows from its place on make room
 unfoldable pub insert_words : List ℕ → ℕ → ℕ → TypeRef → List ℕ
 insert_words w n x r =
     let j = place_from w x 0 n in

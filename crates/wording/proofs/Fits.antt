@@ -1,20 +1,15 @@
 -- How long a text gets: a type has at most 23 bytes a node. Assumes nothing.
-use mathlib.Core.Path.{◌≡◌, refl}
-use mathlib.Core.Bool.{Bool, true, false, cond}
-use mathlib.Core.List.{List, [], ◌∷◌, ◌++◌}
-use Prim.Native.Nat.{ℕ, zero, suc, ◌+◌, ◌-◌, ◌*◌, ◌/◌, ◌≤◌}
-use native.Mathlib.Omega.{arith}
-use lib.Dec.{eqb}
-use lib.ListN.{length, length-append}
+use Rattle.std.proofs.Common.{◌≡◌, refl, Bool, true, false, cond, List, [], ◌∷◌, ◌++◌, ℕ, zero, suc, ◌+◌, ◌-◌, ◌*◌, ◌/◌, ◌≤◌, arith, eqb, length, length-append}
 use Rattle.spelling.specs.declared.Field.TheVariants.{Number}
 use Rattle.spelling.proofs.Texts.{length-field}
 use Rattle.nodes.specs.Nodes.{Node, node, Ty}
 use Rattle.nodes.proofs.Laws.{length-nodes_at}
 use Rattle.wording.specs.declared.Place.{Place}
 use Rattle.wording.specs.declared.Place.TheVariants.{Alone, Before, Result, Part, Applied, Argument}
-use Rattle.wording.specs.Texts.{bytes, digits, number_text, name_text, least}
+use Rattle.wording.specs.Texts.{bytes, number_text, name_text, least}
 use Rattle.wording.specs.Spelt.{Piece, text, type, separator, in_parentheses, parts, product, quantifier, leaf, bare, pieces, spelt, type_text, reported}
-use Rattle.wording.proofs.Laws.{digits-few}
+use Rattle.columns.specs.Columns.{digits}
+use Rattle.columns.proofs.Laws.{digits-few}
 
 pub cond-within : (b : Bool) (s t : List ℕ) (n : ℕ) → length s ≤ n → length t ≤ n → length (cond b s t) ≤ n
 cond-within true s t n h k = h

@@ -1,41 +1,48 @@
 -- Laws of texts written one after another. Assumes nothing.
-use mathlib.Core.Path.{◌≡◌, refl, sym, ap, ◌∙◌}
-use mathlib.Core.Bool.{Bool, true, false, cond, ◌||◌}
-use mathlib.Core.List.{List, [], ◌∷◌, ◌++◌}
-use Prim.Native.Nat.{ℕ, zero, suc, ◌+◌, ◌-◌, ◌^◌, ◌≤◌, ◌<◌}
-use native.Mathlib.Numerals.{add-one}
-use native.Mathlib.Omega.{arith}
-use lib.ListN.{length, get_or, set, take, drop, length-append}
-use lib.Seq.{sets, length-sets, sets-eq, set_out, take_at, drop-cons, drop-length}
-use lib.Dec.{ltb}
+use Rattle.std.proofs.Common.{min, take_all, length-take-le, take-append-drop, ◌≡◌, refl, sym, ap, ◌∙◌, false, List, [], ◌∷◌, ◌++◌, ℕ, zero, suc, ◌+◌, ◌-◌, ◌≤◌, arith, length, take, drop, length-append, take_at}
+use borrow.Rule.Slice.PartMut.{put_mid}
+use Rattle.std.proofs.lemmas.Slice.{put_mid-paste}
+use Rattle.std.proofs.lemmas.List.{drop_all}
+use Rattle.std.proofs.lemmas.List.Edits.{sets, sets-eq}
+use Rattle.std.proofs.Math.Seq.{length-sets, set_out}
 use Rattle.spelling.specs.declared.Field.TheVariants.{Number}
 use Rattle.spelling.specs.Text.{field_text}
 use Rattle.spelling.proofs.Texts.{length-field}
 use Rattle.nodes.proofs.Laws.{sets-append}
-use Rattle.wording.specs.Texts.{least, digits, number_text, Wrote, Left}
-
-pub or_left : {a : Bool} (b : Bool) → a ≡ true → true ≡ a || b
-or_left b e = rw e
-
-pub or_right : {a b : Bool} → a ≡ false → b ≡ a || b
-or_right e = rw e
+use Rattle.columns.specs.Columns.{digits}
+use Rattle.columns.proofs.Laws.{digits-few}
+use Rattle.wording.specs.declared.Text.{Text}
+use Rattle.wording.specs.Texts.{least, number_text, Wrote, Left}
+use Rattle.wording.specs.Put.{Put}
 
 -- nothing is written past the end
 pub sets-out : (l : List ℕ) (i : ℕ) (vs : List ℕ) → length l ≤ i → sets l i vs ≡ l
 sets-out l i [] h = refl
 sets-out l i (v ∷ vs) h = rw (set_out l i v h) (sets-out l (suc i) vs (omega arith))
 
--- one turn of the copy: the next byte is written, the rest is still to come
-pub put-turn : (l m t : List ℕ) (at e i : ℕ) → i < length t → sets m e (drop i t) ≡ sets l at t
-    → sets (set m e (get_or t i 0)) (e + 1) (drop (i + 1) t) ≡ sets l at t
-put-turn l m t at e i h p =
-    rw (add-one i, add-one e) (ap (λ (x : List ℕ). sets m e x) (sym (drop-cons t i 0 h)) ∙ p)
+-- what the cut text leaves out is not written
+rest-out : (l t : List ℕ) (i n : ℕ) → n ≡ min (length t) (length l - i) → sets l (i + n) (drop n t) ≡ l
+rest-out l t i n e = go (length t - n) refl
+  where
+    go : (d : ℕ) → length t - n ≡ d → sets l (i + n) (drop n t) ≡ l
+    go zero z = let h : length t ≤ n = omega arith in rw (drop_all n t h)
+    go (suc d) z = sets-out l (i + n) (drop n t) (omega arith)
 
-pub put_full : (l m t : List ℕ) (at e i : ℕ) → length m ≤ e → sets m e (drop i t) ≡ sets l at t → m ≡ sets l at t
-put_full l m t at e i h p = sym (sets-out m e (drop i t) h) ∙ p
-
-pub put-end : (l m t : List ℕ) (at e i : ℕ) → i ≡ length t → sets m e (drop i t) ≡ sets l at t → m ≡ sets l at t
-put-end l m t at e i h p = ap (λ (x : List ℕ). sets m e x) (sym (drop-length t) ∙ ap (λ (k : ℕ). drop k t) (sym h)) ∙ p
+-- a copy of as much as there is room for
+pub put-cut : (l t m : List ℕ) (i n k : ℕ) → i ≤ length l → n ≡ min (length t) (length l - i) → k ≡ n → m ≡ take n t
+    → put_mid i k l m ≡ sets l i t
+put-cut l t m i n k h e f g =
+    let v = take n t in
+    let c : length v ≡ n = length-take-le n t (omega arith) in
+    let s : length (sets l i v) ≡ length l = length-sets l i v in
+    put_mid-paste i k l m v n g (sym f) (sym c)
+    ∙ ap (λ (w : List ℕ). take i l ++ w ++ drop (i + n) l) (take_all n v (omega arith))
+    ∙ ap (λ (j : ℕ). take i l ++ v ++ drop (i + j) l) (sym c)
+    ∙ sym (sets-eq v l i (omega arith))
+    ∙ sym (rest-out (sets l i v) t i n (omega arith))
+    ∙ ap (λ (j : ℕ). sets (sets l i v) (i + j) (drop n t)) (sym c)
+    ∙ sym (sets-append l i v (drop n t))
+    ∙ ap (sets l i) (take-append-drop n t)
 
 -- a text, then another
 module _ {l s m : List ℕ} {i j : ℕ} (w : Wrote l i s m j) where
@@ -65,12 +72,6 @@ module _ {l s m : List ℕ} {i j : ℕ} (w : Wrote l i s m j) where
         next = rw (length-append s t) (omega arith);
       }
 
-  pub near : j ≤ length m
-  near =
-      let b : length m ≡ length l = same in
-      let n : j ≡ least (length l) (i + length s) = w.next in
-      omega arith
-
   pub then : {t n : List ℕ} {k : ℕ} → Wrote m j t n k → Wrote l i (s ++ t) n k
   then {t} v =
       let p = left-put t in
@@ -87,22 +88,8 @@ left_end {l} {s} {m} {i} {j} h p =
     let n : least (length l) (i + length s) ≡ least (length m) (j + 0) = p.next in
     record { text = sym p.text; next = omega arith }
 
-pub wrote_none : {l : List ℕ} {i : ℕ} → i ≤ length l → Wrote l i [] l i
-wrote_none h = record { text = refl; next = omega arith }
-
--- ten digits are enough for 32 bits
-pub digits-few : (n : ℕ) → digits n ≤ 10
-digits-few n =
-    go (ltb n 10) (ltb n 100) (ltb n 1000) (ltb n 10000) (ltb n 100000) (ltb n (10 ^ 6)) (ltb n (10 ^ 7)) (ltb n (10 ^ 8)) (ltb n (10 ^ 9))
-  where
-    test : (b : Bool) (x y : ℕ) → x ≤ 10 → y ≤ 10 → cond b x y ≤ 10
-    test true x y h k = h
-    test false x y h k = k
-
-    go : (a b c d e f g h i : Bool) → cond a 1 (cond b 2 (cond c 3 (cond d 4 (cond e 5 (cond f 6 (cond g 7 (cond h 8 (cond i 9 10)))))))) ≤ 10
-    go a b c d e f g h i =
-        test a _ _ (omega arith) (test b _ _ (omega arith) (test c _ _ (omega arith) (test d _ _ (omega arith) (test e _ _ (omega arith)
-        (test f _ _ (omega arith) (test g _ _ (omega arith) (test h _ _ (omega arith) (test i _ _ (omega arith) (omega arith)))))))))
+pub then_put : {a b c : Text} {s t : List ℕ} → Put a s b → Put b t c → Put a (s ++ t) c
+then_put p q = record { same = q.same ∙ p.same; wrote = then p.wrote q.wrote }
 
 -- a text written at the front is read back from there
 pub front-back : (l t : List ℕ) (n : ℕ) → length t ≡ n → n ≤ length l → take n (sets l 0 t) ≡ t

@@ -1,17 +1,14 @@
 -- Laws of pieces written one after another. Assumes nothing.
-use mathlib.Core.Path.{◌≡◌, refl, ◌∙◌}
-use mathlib.Core.Bool.{Bool}
-use mathlib.Core.List.{List, [], ◌∷◌, ◌++◌, append_assoc}
-use Prim.Native.Nat.{ℕ, zero, suc, ◌+◌, ◌-◌, ◌*◌, ◌/◌, ◌≤◌, ◌<◌}
-use native.Mathlib.Omega.{arith}
-use lib.ListN.{length, get_or}
+use Rattle.std.proofs.Common.{◌≡◌, refl, ◌∙◌, Bool, List, [], ◌∷◌, ◌++◌, append_assoc, ℕ, zero, suc, ◌+◌, ◌-◌, ◌*◌, ◌/◌, ◌≤◌, ◌<◌, arith, length, get_or, drop, take, min, take_all, length-drop, length-take, sym, ap, get_or-drop, get_or-take}
 use Rattle.nodes.specs.Nodes.{node, Ty, nodes_at}
-use Rattle.nodes.proofs.Laws.{nodes_at-cons}
+use Rattle.nodes.proofs.Laws.{nodes_at-agree, nodes_at-cons}
 use Rattle.wording.specs.declared.Place.{Place}
-use Rattle.wording.specs.declared.Place.TheVariants.{Alone, Part}
-use Rattle.wording.specs.Texts.{bytes, least, Wrote}
-use Rattle.wording.specs.Spelt.{Piece, text, type, separator, in_parentheses, bare, enclosed, pieces, parts, spelt, type_text, between, reported, Reached}
-use Rattle.wording.proofs.Laws.{near, left-none, left-put, left-then, left_end}
+use Rattle.wording.specs.declared.Place.TheVariants.{Alone, Before, Part}
+use Rattle.wording.specs.Texts.{bytes, least}
+use Rattle.wording.specs.Spelt.{Piece, text, type, separator, in_parentheses, bare, enclosed, pieces, parts, spelt, type_text, nodes_in, reported}
+use Rattle.wording.specs.declared.Text.{Text}
+use Rattle.wording.specs.Put.{Put, Reached}
+use Rattle.wording.proofs.Laws.{left-none, left-put, left-then, left_end}
 
 pub spelt-text : (ns : Ty) (b : List ℕ) (qs : List Piece) → spelt ns (text b ∷ qs) ≡ b ++ spelt ns qs
 unfolding spelt
@@ -29,79 +26,124 @@ unfolding spelt
 lacking-parts p zero qs = refl
 lacking-parts p (suc n) qs = lacking-parts Part n qs
 
--- the nodes from n on
-pub between_none : (ws : List ℕ) (n e : ℕ) → e ≤ n → between ws n e ≡ []
+-- the nodes of words
+pub nodes_none : (ws : List ℕ) → length ws < 2 → nodes_in ws ≡ []
 unfolding nodes_at
-between_none ws n e h = let z : e - n ≡ 0 = omega arith in rw z
+nodes_none ws h = let z : length ws / 2 ≡ 0 = omega arith in rw z
 
-pub between_cons : (ws : List ℕ) (n e : ℕ) → n < e
-    → between ws n e ≡ node (get_or ws (2 * n) 0) (get_or ws (2 * n + 1) 0) ∷ between ws (n + 1) e
-between_cons ws n e h =
-    let a : 2 * n + 2 ≡ 2 * (n + 1) = omega arith in
-    let b : e - n - 1 ≡ e - (n + 1) = omega arith in
-    nodes_at-cons ws (2 * n) (e - n) (omega arith) ∙ rw (a, b)
+-- the nodes of words that follow others
+nodes-shift : (ws : List ℕ) (p q n : ℕ) → nodes_at ws (q + p) n ≡ nodes_at (drop q ws) p n
+unfolding nodes_at
+nodes-shift ws p q zero = refl
+nodes-shift ws p q (suc n) =
+    let a : q + (p + 1) ≡ q + p + 1 = omega arith in
+    let b : q + (p + 2) ≡ q + p + 2 = omega arith in
+    rw (get_or-drop q ws p 0, get_or-drop q ws (p + 1) 0, a, ← nodes-shift ws (p + 2) q n, b)
 
-module _ {ws : List ℕ} {e : ℕ} where
-  pub none : {l : List ℕ} {i n : ℕ} → i ≤ length l → Reached [] l ws e i n l i n
-  none h = record { left = λ rest. left-none; near = h; on = omega arith }
-
-  pub texts : {l b m : List ℕ} {i j n : ℕ} → Wrote l i b m j → Reached (text b ∷ []) l ws e i n m j n
-  texts {l} {b} {m} {i} {j} {n} w = record {
-    left = λ rest. rw (spelt-text (between ws n e) b rest) (left-put w (spelt (between ws n e) rest));
-    near = near w;
-    on = omega arith;
-  }
-
-  pub both : {qs rs : List Piece} {l m k : List ℕ} {i j h n n' n'' : ℕ}
-      → Reached qs l ws e i n m j n' → Reached rs m ws e j n' k h n'' → Reached (qs ++ rs) l ws e i n k h n''
-  both {qs} {rs} r s = record {
-    left = λ rest. rw (append_assoc qs rs rest) (left-then (r.left (rs ++ rest)) (s.left rest));
-    near = s.near;
-    on = let a = r.on in let b = s.on in omega arith;
-  }
-
-  pub lacking : {l : List ℕ} {i n : ℕ} (p : Place) → i ≤ length l → e ≤ n → Reached (type p ∷ []) l ws e i n l i n
-  unfolding spelt
-  lacking {l} {i} {n} p h k = record {
-    left = λ rest. rw (between_none ws n e k) left-none;
-    near = h;
-    on = omega arith;
-  }
-
-  pub lacking-all : {l : List ℕ} {i n : ℕ} (p : Place) (c : ℕ) → i ≤ length l → e ≤ n → Reached (parts p c) l ws e i n l i n
-  lacking-all {l} {i} {n} p c h k = record {
-    left = λ rest. rw (between_none ws n e k, lacking-parts p c rest) left-none;
-    near = h;
-    on = omega arith;
-  }
-
-  -- a node is its pieces
-  pub opened : {l m : List ℕ} {i j n n' : ℕ} (p : Place) (b : Bool) → b ≡ in_parentheses (get_or ws (2 * n) 0) p → n < e
-      → Reached (text (bytes (separator p)) ∷ enclosed b (bare (get_or ws (2 * n) 0) (get_or ws (2 * n + 1) 0))) l ws e i (n + 1) m j n'
-      → Reached (type p ∷ []) l ws e i n m j n'
-  unfolding spelt pieces
-  opened {l} {m} {i} {j} {n} {n'} p b q h r =
-      let s = rw q at r in
-      record {
-        left = λ rest. rw (between_cons ws n e h) (s.left rest);
-        near = r.near;
-        on = let a = r.on in omega arith;
-      }
-
-  pub parts_none : {l : List ℕ} {i n : ℕ} (p : Place) (c : ℕ) → c ≡ 0 → i ≤ length l → Reached (parts p c) l ws e i n l i n
-  parts_none p c z h = rw z (none h)
-
-  pub parts-turn : {l m k : List ℕ} {i j h n n' n'' : ℕ} (p : Place) (c : ℕ) → (c ≡ 0 → ⊥)
-      → Reached (type p ∷ []) l ws e i n m j n' → Reached (parts Part (c - 1)) m ws e j n' k h n'' → Reached (parts p c) l ws e i n k h n''
-  parts-turn p c z r s =
-      let a : c ≡ suc (c - 1) = omega arith in
-      rw a (both r s)
-
-  -- one type is written
-  pub whole : {l m : List ℕ} {i j n n' : ℕ} → Reached (type Alone ∷ []) l ws e i n m j n' → Wrote l i (type_text (between ws n e)) m j
-  unfolding type_text
-  whole {l} {m} {i} {j} {n} {n'} r = left_end r.near (rw (spelt-end (between ws n' e)) at (r.left []))
+pub nodes_cons : (ws : List ℕ) → 2 ≤ length ws → nodes_in ws ≡ node (get_or ws 0 0) (get_or ws 1 0) ∷ nodes_in (drop 2 ws)
+nodes_cons ws h =
+    let a : length ws / 2 - 1 ≡ length (drop 2 ws) / 2 = omega (arith, length-drop 2 ws) in
+    nodes_at-cons ws 0 (length ws / 2) (omega arith) ∙ rw (a, nodes-shift ws 0 2 (length (drop 2 ws) / 2))
 
 -- nodes of a report
-pub reported-is : (ws : List ℕ) (from n s w e : ℕ) → s ≡ from → w ≡ n → e ≡ least (s + w) (length ws / 2) → between ws s e ≡ reported ws from n
-reported-is ws from n s w e p q r = rw (r, p, q)
+pub reported-is : (ws : List ℕ) (from n s e : ℕ) → s ≡ min (2 * from) (length ws) → e ≡ min (2 * (from + n)) (length ws)
+    → nodes_in (take (e - s) (drop s ws)) ≡ reported ws from n
+unfolding nodes_at
+reported-is ws from n s e p q = go (2 * from - length ws) refl
+  where
+    us : List ℕ
+    us = take (e - s) (drop s ws)
+
+    m : length us ≡ e - s
+    m = simp (length-take, length-drop) (omega arith)
+
+    go : (d : ℕ) → 2 * from - length ws ≡ d → nodes_in us ≡ reported ws from n
+    go zero z =
+        let f : length us / 2 ≡ least (from + n) (length ws / 2) - from = omega (arith, m) in
+        let g : s + 0 ≡ 2 * from = omega arith in
+        nodes_at-agree (drop s ws) us 0 (length us / 2) (λ i _ h. get_or-take (e - s) (drop s ws) i 0 (omega (arith, m)))
+        ∙ sym (nodes-shift ws 0 s (length us / 2))
+        ∙ rw (f, g)
+    go (suc d) z =
+        let f : length us / 2 ≡ 0 = omega (arith, m) in
+        let g : least (from + n) (length ws / 2) - from ≡ 0 = omega arith in
+        rw (f, g)
+
+module _ {ws : List ℕ} {a : Text} where
+  pub texts : {b : Text} {s : List ℕ} → Put a s b → Reached (text s ∷ []) a ws b ws
+  texts {b} {s} w = record {
+    same = w.same;
+    left = λ rest. rw (spelt-text (nodes_in ws) s rest) (left-put w.wrote (spelt (nodes_in ws) rest));
+    fewer = omega arith;
+  }
+
+  pub both : {b c : Text} {vs us : List ℕ} {ps qs : List Piece} → Reached ps a ws b vs → Reached qs b vs c us → Reached (ps ++ qs) a ws c us
+  both {ps = ps} {qs = qs} r s = record {
+    same = s.same ∙ r.same;
+    left = λ rest. rw (append_assoc ps qs rest) (left-then (r.left (qs ++ rest)) (s.left rest));
+    fewer = let x = r.fewer in let y = s.fewer in omega arith;
+  }
+
+  pub lacking : (p : Place) → length ws < 2 → Reached (type p ∷ []) a ws a ws
+  unfolding spelt
+  lacking p h = record { same = refl; left = λ rest. rw (nodes_none ws h) left-none; fewer = omega arith }
+
+  lacking-all : (p : Place) (c : ℕ) → length ws < 2 → Reached (parts p c) a ws a ws
+  lacking-all p c h = record { same = refl; left = λ rest. rw (nodes_none ws h, lacking-parts p c rest) left-none; fewer = omega arith }
+
+  -- a node is its pieces
+  pub opened : {b : Text} {vs us : List ℕ} {k v : ℕ} {e : Bool} (p : Place) → 2 ≤ length ws → k ≡ get_or ws 0 0 → v ≡ get_or ws 1 0
+      → us ≡ take (length ws - 2) (drop 2 ws) → e ≡ in_parentheses k p
+      → Reached (text (bytes (separator p)) ∷ enclosed e (bare k v)) a us b vs → Reached (type p ∷ []) a ws b vs
+  unfolding spelt pieces
+  opened p h x y z q r =
+      let d = take_all (length ws - 2) (drop 2 ws) (simp length-drop (omega arith)) in
+      let s = rw (q, x, y, z, d) at r in
+      record {
+        same = s.same;
+        left = λ rest. rw (nodes_cons ws h) (s.left rest);
+        fewer = let f = simp length-drop at s.fewer in omega arith;
+      }
+
+  -- one type is written
+  pub whole : {b : Text} {vs : List ℕ} → Reached (type Alone ∷ []) a ws b vs → Put a (type_text (nodes_in ws)) b
+  unfolding type_text
+  whole {b} {vs} r = record { same = r.same; wrote = left_end b.in_range (rw (spelt-end (nodes_in vs)) at (r.left [])) }
+
+-- the place of part k of a Product
+abbrev pub place_of : ℕ → Place
+place_of zero = Before
+place_of (suc k) = Part
+
+pub place-first : (k : ℕ) → k ≡ 0 → Before ≡ place_of k
+place-first k e = rw e
+
+pub place-other : (k : ℕ) → (k ≡ 0 → ⊥) → Part ≡ place_of k
+place-other zero h = absurd (h refl)
+place-other (suc k) h = refl
+
+part-split : (k n : ℕ) → k ≤ n → parts Part n ≡ parts Part k ++ parts Part (n - k)
+part-split zero n h = let e : n - 0 ≡ n = omega arith in rw e
+part-split (suc k) zero h = absurd (omega arith)
+part-split (suc k) (suc n) h =
+    let e : suc n - suc k ≡ n - k = omega arith in
+    rw e (ap (λ (qs : List Piece). type Part ∷ qs) (part-split k n (omega arith)))
+
+parts-split : (k n : ℕ) → k ≤ n → parts Before n ≡ parts Before k ++ parts (place_of k) (n - k)
+parts-split zero n h = let e : n - 0 ≡ n = omega arith in rw e
+parts-split (suc k) zero h = absurd (omega arith)
+parts-split (suc k) (suc n) h =
+    let e : suc n - suc k ≡ n - k = omega arith in
+    rw e (ap (λ (qs : List Piece). type Before ∷ qs) (part-split k n (omega arith)))
+
+-- one part more
+pub parts-more : {a b c : Text} {ws vs us : List ℕ} (k : ℕ) → Reached (parts Before k) a ws b vs → Reached (type (place_of k) ∷ []) b vs c us
+    → Reached (parts Before (k + 1)) a ws c us
+parts-more k r s =
+    let e : k + 1 - k ≡ 1 = omega arith in
+    rw (parts-split k (k + 1) (omega arith), e) (both r s)
+
+-- no node for the other parts
+pub parts-lacking : {a b : Text} {ws vs : List ℕ} (k n : ℕ) → k ≤ n → length vs < 2 → Reached (parts Before k) a ws b vs
+    → Reached (parts Before n) a ws b vs
+parts-lacking k n h l r = rw (parts-split k n h) (both r (lacking-all (place_of k) (n - k) l))

@@ -1,6 +1,5 @@
 -- Types and numbers and their texts, by computation. Assumes nothing.
-use mathlib.Core.Path.{◌≡◌, refl}
-use mathlib.Core.List.{List, [], ◌∷◌, map}
+use Rattle.std.proofs.Common.{◌≡◌, refl, List, [], ◌∷◌, map}
 use Prim.Native.String.{String}
 use Rattle.nodes.specs.Nodes.{node, Ty}
 use Rattle.nodes.specs.Lists.{All}

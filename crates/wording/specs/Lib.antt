@@ -1,2 +1,3 @@
 pub mod Texts
 pub mod Spelt
+pub mod Put

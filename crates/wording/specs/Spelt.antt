@@ -1,11 +1,12 @@
--- Types as text, as in the papers: n10 → Int, ∀n10. n10, a product (A × B), a type application F A, an unknown ^3; a fresh
--- universal is !3, and a product of one part is (A ×), which tells it from parentheses. Assumes nothing: these are definitions.
-use Rattle.std.specs.Prelude.{Bool, false, cond, ◌||◌, List, [], ◌∷◌, ◌++◌, ℕ, zero, suc, ◌+◌, ◌-◌, ◌*◌, ◌/◌, ◌≤◌, eqb, length}
+-- Types as text, as in the papers: n10 → Int, ∀n10. n10, a product (A × B), a type application F A, an unknown ^3; a
+-- fresh universal is !3, and a product of one part is (A ×), which tells it from parentheses. Assumes nothing: these are
+-- definitions.
+use Rattle.std.specs.Prelude.{Bool, false, cond, ◌||◌, List, [], ◌∷◌, ◌++◌, ℕ, zero, suc, ◌+◌, ◌-◌, ◌*◌, ◌/◌, eqb, length}
 use Prim.Native.String.{String}
 use Rattle.nodes.specs.Nodes.{Node, node, Ty, nodes_at}
 use Rattle.wording.specs.declared.Place.{Place}
 use Rattle.wording.specs.declared.Place.TheVariants.{Alone, Before, Result, Part, Applied, Argument}
-use Rattle.wording.specs.Texts.{bytes, number_text, name_text, least, Left}
+use Rattle.wording.specs.Texts.{bytes, number_text, name_text, least}
 
 -- what is still to be written: a text, or the next type with what goes before it at its place
 pub data Piece : Type 0 where
@@ -80,13 +81,10 @@ type_text ns = spelt ns (type Alone ∷ [])
 abbrev pub between : List ℕ → ℕ → ℕ → Ty
 between ws i e = nodes_at ws (2 * i) (e - i)
 
+-- the nodes that words hold, two words each
+abbrev pub nodes_in : List ℕ → Ty
+nodes_in ws = nodes_at ws 0 (length ws / 2)
+
 -- n nodes of a report, from node `from` on, as far as its words go
 abbrev pub reported : List ℕ → ℕ → ℕ → Ty
 reported ws from n = between ws from (least (from + n) (length ws / 2))
-
--- pieces were written, from byte i of l and node n of ws on, up to byte j of what is now m and node n': what is left to write
--- is then what was left, whatever comes after them
-pub record Reached (qs : List Piece) (l ws : List ℕ) (e i n : ℕ) (m : List ℕ) (j n' : ℕ) : Type 0 where
-  pub left : (rest : List Piece) → Left l i (spelt (between ws n e) (qs ++ rest)) m j (spelt (between ws n' e) rest)
-  pub near : j ≤ length m
-  pub on : n ≤ n'

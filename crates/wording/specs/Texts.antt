@@ -1,10 +1,12 @@
--- Texts as bytes, the texts of numbers and names, and a text as it is written into a buffer. Assumes nothing: these are definitions.
-use Rattle.std.specs.Prelude.{◌≡◌, false, cond, List, [], ◌∷◌, ◌++◌, ℕ, ◌+◌, ◌-◌, ◌/◌, ◌%◌, ◌^◌, eqb, ltb, length}
+-- Texts as bytes, the texts of numbers and names, and a text as it is written into a buffer. Assumes nothing: these are
+-- definitions.
+use Rattle.std.specs.Prelude.{◌≡◌, false, cond, List, [], ◌∷◌, ◌++◌, ℕ, ◌+◌, ◌-◌, ◌/◌, ◌%◌, eqb, ltb, length}
 use Prim.Native.Char.{code}
 use Prim.Native.String.{String, [] as none, ◌∷◌ as ◌then◌}
 use Rattle.std.proofs.lemmas.List.Edits.{sets}
 use Rattle.spelling.specs.declared.Field.TheVariants.{Number}
 use Rattle.spelling.specs.Text.{field_text}
+use Rattle.columns.specs.Columns.{digits}
 
 -- the UTF-8 bytes of a character by its number; no text here has one above 65535
 abbrev pub utf8 : ℕ → List ℕ
@@ -16,16 +18,6 @@ utf8 n =
 abbrev pub bytes : String → List ℕ
 bytes none = []
 bytes (c then s) = utf8 (code c) ++ bytes s
-
--- how many digits a number of 32 bits has
-abbrev pub digits : ℕ → ℕ
-digits n =
-    cond (ltb n 10) 1
-    (cond (ltb n 100) 2
-    (cond (ltb n 1000) 3
-    (cond (ltb n 10000) 4
-    (cond (ltb n 100000) 5
-    (cond (ltb n (10 ^ 6)) 6 (cond (ltb n (10 ^ 7)) 7 (cond (ltb n (10 ^ 8)) 8 (cond (ltb n (10 ^ 9)) 9 10))))))))
 
 unfoldable pub number_text : ℕ → List ℕ
 number_text n = field_text (digits n) (Number false n)

@@ -1,13 +1,30 @@
 // Names, numbers and types as text, written into a buffer one after another.
 #![tactic(auto)]
 
-ghost use Rattle.std.specs.Prelude.{◌≡◌, cond, [], ◌∷◌, ◌+◌, ◌*◌, ◌≤◌, ◌<◌, length};
-ghost use Rattle.wording.specs.Texts.{bytes, digits, least, number_text, name_text, Wrote};
-ghost use Rattle.wording.specs.Spelt.{separator, weak, in_parentheses, quantifier, leaf, product, parts, bare, type, type_text, reported, Reached};
+ghost use Rattle.std.specs.Prelude.{◌≡◌, ◌≤◌, length};
+ghost use Rattle.wording.specs.Texts.{bytes};
+ghost use Rattle.wording.specs.Spelt.{separator, weak, in_parentheses};
 
-use columns::write_field;
+use columns::{digit_count, write_field};
 use nodes::wide;
 use spelling::Field;
+
+// The kinds of nodes.
+const VARIABLE: u32 = 11;
+
+const CONSTRUCTOR: u32 = 12;
+
+const ARROW: u32 = 13;
+
+const FORALL: u32 = 14;
+
+const APPLICATION: u32 = 15;
+
+const PRODUCT: u32 = 16;
+
+const UNKNOWN: u32 = 17;
+
+const UNIVERSAL: u32 = 18;
 
 // Where a type stands in another one.
 #[derive(Clone, Copy)]
@@ -25,105 +42,14 @@ pub enum Place {
     Argument,
 }
 
-// The next byte to write, and the next node to read.
-#[derive(Clone, Copy)]
-pub struct Spot {
-    pub at: usize,
-    pub node: usize,
-}
-
-// Copies a text to `at` and answers where the next one goes. What would pass the end is left out.
-pub fn put(out: &mut [u8], at: usize, text: &[u8]) -> usize
-    requires { at ≤ length out.old }
-    ensures { Wrote out.old at text.now out.new result }
-{
-    let mut end = at;
-    let mut i = 0;
-    while i < text.len() {
-        if out.len() <= end {
-            return end;
-        }
-        out[end] = text[i];
-        end += 1;
-        i += 1;
-    }
-    end
-}
-
-fn digit_count(n: u32) -> usize
-    ensures { result ≡ digits n }
-{
-    if n < 10 {
-        return 1;
-    }
-    if n < 100 {
-        return 2;
-    }
-    if n < 1000 {
-        return 3;
-    }
-    if n < 10000 {
-        return 4;
-    }
-    if n < 100000 {
-        return 5;
-    }
-    if n < 1000000 {
-        return 6;
-    }
-    if n < 10000000 {
-        return 7;
-    }
-    if n < 100000000 {
-        return 8;
-    }
-    if n < 1000000000 {
-        return 9;
-    }
-    10
-}
-
-pub fn put_number(out: &mut [u8], at: usize, n: u32) -> usize
-    requires { at ≤ length out.old }
-    ensures { Wrote out.old at (number_text n) out.new result }
-{
-    let mut room = [0u8; 10];
-    let w = digit_count(n);
-    write_field(&mut room, 0, w, Field::Number(false, n as u64));
-    put(out, at, &room[..w])
-}
-
-pub fn put_name(out: &mut [u8], at: usize, n: u32) -> usize
-    requires { at ≤ length out.old }
-    ensures { Wrote out.old at (name_text n) out.new result }
-{
-    if n == 1 {
-        return put(out, at, b"Int");
-    }
-    if n == 2 {
-        return put(out, at, b"Bool");
-    }
-    if n == 3 {
-        return put(out, at, b"Unit");
-    }
-    if n == 4 {
-        return put(out, at, b"printInt");
-    }
-    let next = put(out, at, b"n");
-    put_number(out, next, n)
-}
-
-fn put_separator(out: &mut [u8], at: usize, p: Place) -> usize
-    requires { at ≤ length out.old }
-    ensures { Wrote out.old at (bytes (separator p)) out.new result }
+fn separator(p: Place) -> &'static [u8]
+    ensures { result.now ≡ bytes (separator p) }
 {
     match p {
-        Place::Alone => at,
-        Place::Before => at,
-        Place::Result => put(out, at, b" \xe2\x86\x92 "),
-        Place::Part => put(out, at, b" \xc3\x97 "),
-        Place::Applied => at,
-        Place::Argument => put(out, at, b" "),
+        Place::Alone | Place::Before | Place::Applied => b"",
+        Place::Result => " → ".as_bytes(),
+        Place::Part => " × ".as_bytes(),
+        Place::Argument => b" ",
     }
 }
 
@@ -131,197 +57,187 @@ fn put_separator(out: &mut [u8], at: usize, p: Place) -> usize
 fn is_weak(kind: u32) -> bool
     ensures { result ≡ weak kind }
 {
-    if kind == 13 {
-        return true;
-    }
-    kind == 14
+    matches!(kind, ARROW | FORALL)
 }
 
 fn in_parentheses(kind: u32, p: Place) -> bool
     ensures { result ≡ in_parentheses kind p }
 {
     match p {
-        Place::Alone => false,
-        Place::Before => is_weak(kind),
-        Place::Result => false,
-        Place::Part => is_weak(kind),
-        Place::Applied => is_weak(kind),
-        Place::Argument => {
-            if is_weak(kind) {
-                return true;
+        Place::Alone | Place::Result => false,
+        Place::Before | Place::Part | Place::Applied => is_weak(kind),
+        Place::Argument => is_weak(kind) || kind == APPLICATION,
+    }
+}
+
+// A buffer, and where the next text goes. What would pass its end is left out.
+#[derive(Drop)]
+pub struct Text<'a> {
+    pub out: &'a mut [u8],
+    pub at: usize,
+    ghost in_range: { at ≤ length out.now },
+}
+
+impl<'a> Text<'a> {
+    ghost use Rattle.std.specs.Prelude.{◌≡◌, cond, [], ◌∷◌, ◌≤◌, ◌<◌, length};
+    ghost use Rattle.wording.specs.Texts.{number_text, name_text};
+    ghost use Rattle.wording.specs.Spelt.{quantifier, leaf, product, parts, bare, type, type_text, reported};
+    ghost use Rattle.wording.specs.declared.Place.TheVariants.{Before};
+    ghost use Rattle.wording.specs.Put.{Put, Reached};
+
+    // At the front of a buffer.
+    pub fn new(out: &'a mut [u8]) -> Text<'a>
+        ensures same_reference { result.out.ghost_name ≡ out.entry.ghost_name }
+        ensures front { (result.out.now ≡ out.old) × (result.at ≡ 0) }
+    {
+        Text { out, at: 0 }
+    }
+
+    pub fn put(&mut self, text: &[u8])
+        ensures { Put self.old text.now self.new }
+    {
+        let n = text.len().min(self.out.len() - self.at);
+        self.out[self.at..self.at + n].copy_from_slice(&text[..n]);
+        self.at += n;
+    }
+
+    // One of two texts.
+    pub fn put_either(&mut self, first: bool, one: &[u8], other: &[u8])
+        ensures { Put self.old (cond first one.now other.now) self.new }
+    {
+        self.put(if first { one } else { other });
+    }
+
+    pub fn put_number(&mut self, n: u32)
+        ensures { Put self.old (number_text n) self.new }
+    {
+        let mut room = [0u8; 10];
+        let w = digit_count(n);
+        write_field(&mut room, 0, w, Field::Number(false, n as u64));
+        self.put(&room[..w]);
+    }
+
+    #[tactic(auto, unfolding(crate::specs::Texts::name_text))]
+    pub fn put_name(&mut self, n: u32)
+        ensures { Put self.old (name_text n) self.new }
+    {
+        match n {
+            1 => self.put(b"Int"),
+            2 => self.put(b"Bool"),
+            3 => self.put(b"Unit"),
+            4 => self.put(b"printInt"),
+            _ => {
+                self.put(b"n");
+                self.put_number(n);
             }
-            kind == 15
         }
     }
-}
 
-// One of two texts.
-pub fn put_either(out: &mut [u8], at: usize, first: bool, one: &[u8], other: &[u8]) -> usize
-    requires { at ≤ length out.old }
-    ensures { Wrote out.old at (cond first one.now other.now) out.new result }
-{
-    if first {
-        return put(out, at, one);
+    fn put_quantifier(&mut self, name: u32)
+        ensures { Put self.old (quantifier name) self.new }
+    {
+        self.put("∀".as_bytes());
+        self.put_name(name);
+        self.put(b". ");
     }
-    put(out, at, other)
-}
 
-fn put_quantifier(out: &mut [u8], at: usize, name: u32) -> usize
-    requires { at ≤ length out.old }
-    ensures { Wrote out.old at (quantifier name) out.new result }
-{
-    let named = put(out, at, b"\xe2\x88\x80");
-    let next = put_name(out, named, name);
-    put(out, next, b". ")
-}
+    // A node without parts.
+    #[tactic(auto, unfolding(crate::specs::Spelt::leaf))]
+    fn put_leaf(&mut self, kind: u32, value: u32)
+        ensures { Put self.old (leaf kind value) self.new }
+    {
+        match kind {
+            VARIABLE | CONSTRUCTOR => self.put_name(value),
+            UNKNOWN => {
+                self.put(b"^");
+                self.put_number(value);
+            }
+            UNIVERSAL => {
+                self.put(b"!");
+                self.put_number(value);
+            }
+            _ => {}
+        }
+    }
 
-// A node without parts.
-fn put_leaf(out: &mut [u8], at: usize, kind: u32, value: u32) -> usize
-    requires { at ≤ length out.old }
-    ensures { Wrote out.old at (leaf kind value) out.new result }
-{
-    if kind == 11 {
-        return put_name(out, at, value);
+    // The type at a place that the first of the nodes begin, two words each. Answers the words after it.
+    #[cycle(write_type)]
+    fn write_type<'r>(&mut self, nodes: &'r [u32], p: Place) -> &'r [u32]
+        ensures reached { Reached (type p ∷ []) self.old nodes.now self.new result.now }
+        ensures on { 2 ≤ length nodes.now → length result.now < length nodes.now }
+    {
+        let [kind, value, rest @ ..] = nodes else {
+            return nodes;
+        };
+        let parentheses = in_parentheses(*kind, p);
+        self.put(separator(p));
+        self.put_either(parentheses, b"(", b"");
+        let after = self.write_node(rest, *kind, *value);
+        self.put_either(parentheses, b")", b"");
+        after
     }
-    if kind == 12 {
-        return put_name(out, at, value);
-    }
-    if kind == 17 {
-        let next = put(out, at, b"^");
-        return put_number(out, next, value);
-    }
-    if kind == 18 {
-        let next = put(out, at, b"!");
-        return put_number(out, next, value);
-    }
-    at
-}
 
-// A type at a place, of the nodes from i on and before `end`.
-#[cycle(write_node_write_pair_write_parts_write_product_write_type)]
-fn write_type(out: &mut [u8], at: usize, t: &[u32], i: usize, end: usize, p: Place) -> Spot
-    requires { (at ≤ length out.old) × (2 * end ≤ length t.now) }
-    ensures { Reached (type p ∷ []) out.old t.now end at i out.new result.at result.node × (i < end → i < result.node) }
-{
-    if end <= i {
-        return Spot { at, node: i };
+    // A node without parentheses, with the types that follow it.
+    #[cycle(write_type)]
+    fn write_node<'r>(&mut self, nodes: &'r [u32], kind: u32, value: u32) -> &'r [u32]
+        ensures { Reached (bare kind value) self.old nodes.now self.new result.now }
+    {
+        match kind {
+            ARROW => self.write_pair(nodes, Place::Before, Place::Result),
+            FORALL => {
+                self.put_quantifier(value);
+                self.write_type(nodes, Place::Alone)
+            }
+            APPLICATION => self.write_pair(nodes, Place::Applied, Place::Argument),
+            PRODUCT => self.write_product(nodes, value),
+            _ => {
+                self.put_leaf(kind, value);
+                nodes
+            }
+        }
     }
-    let kind = t[2 * i];
-    let value = t[2 * i + 1];
-    let parentheses = in_parentheses(kind, p);
-    let start = put_separator(out, at, p);
-    let opened = put_either(out, start, parentheses, b"(", b"");
-    let s = write_node(out, opened, t, i + 1, end, kind, value);
-    let closed = put_either(out, s.at, parentheses, b")", b"");
-    Spot {
-        at: closed,
-        node: s.node,
-    }
-}
 
-// A node without parentheses, with the types that follow it.
-#[cycle(write_node_write_pair_write_parts_write_product_write_type)]
-fn write_node(
-    out: &mut [u8],
-    at: usize,
-    t: &[u32],
-    i: usize,
-    end: usize,
-    kind: u32,
-    value: u32,
-) -> Spot
-    requires { (at ≤ length out.old) × (2 * end ≤ length t.now) }
-    ensures { Reached (bare kind value) out.old t.now end at i out.new result.at result.node }
-{
-    if kind == 13 {
-        return write_pair(out, at, t, i, end, Place::Before, Place::Result);
+    #[cycle(write_type)]
+    fn write_pair<'r>(&mut self, nodes: &'r [u32], p: Place, q: Place) -> &'r [u32]
+        ensures { Reached (type p ∷ type q ∷ []) self.old nodes.now self.new result.now }
+    {
+        let rest = self.write_type(nodes, p);
+        self.write_type(rest, q)
     }
-    if kind == 14 {
-        let next = put_quantifier(out, at, value);
-        return write_type(out, next, t, i, end, Place::Alone);
-    }
-    if kind == 15 {
-        return write_pair(out, at, t, i, end, Place::Applied, Place::Argument);
-    }
-    if kind == 16 {
-        return write_product(out, at, t, i, end, value);
-    }
-    let next = put_leaf(out, at, kind, value);
-    Spot { at: next, node: i }
-}
 
-#[cycle(write_node_write_pair_write_parts_write_product_write_type)]
-fn write_pair(
-    out: &mut [u8],
-    at: usize,
-    t: &[u32],
-    i: usize,
-    end: usize,
-    p: Place,
-    q: Place,
-) -> Spot
-    requires { (at ≤ length out.old) × (2 * end ≤ length t.now) }
-    ensures { Reached (type p ∷ type q ∷ []) out.old t.now end at i out.new result.at result.node }
-{
-    let s = write_type(out, at, t, i, end, p);
-    write_type(out, s.at, t, s.node, end, q)
-}
-
-#[cycle(write_node_write_pair_write_parts_write_product_write_type)]
-fn write_product(out: &mut [u8], at: usize, t: &[u32], i: usize, end: usize, count: u32) -> Spot
-    requires { (at ≤ length out.old) × (2 * end ≤ length t.now) }
-    ensures { Reached (product count) out.old t.now end at i out.new result.at result.node }
-{
-    let opened = put(out, at, b"(");
-    let s = write_parts(out, opened, t, i, end, count, Place::Before);
-    let one = put_either(out, s.at, count == 1, b" \xc3\x97", b"");
-    let closed = put(out, one, b")");
-    Spot {
-        at: closed,
-        node: s.node,
+    #[cycle(write_type)]
+    fn write_product<'r>(&mut self, nodes: &'r [u32], count: u32) -> &'r [u32]
+        ensures { Reached (product count) self.old nodes.now self.new result.now }
+    {
+        self.put(b"(");
+        let rest = self.write_parts(nodes, count);
+        self.put_either(count == 1, " ×".as_bytes(), b"");
+        self.put(b")");
+        rest
     }
-}
 
-// As many parts as count says, the first one at place p.
-#[cycle(write_node_write_pair_write_parts_write_product_write_type)]
-fn write_parts(
-    out: &mut [u8],
-    at: usize,
-    t: &[u32],
-    i: usize,
-    end: usize,
-    count: u32,
-    p: Place,
-) -> Spot
-    requires { (at ≤ length out.old) × (2 * end ≤ length t.now) }
-    ensures { Reached (parts p count) out.old t.now end at i out.new result.at result.node }
-{
-    if count == 0 {
-        return Spot { at, node: i };
+    // As many parts as count says.
+    #[cycle(write_type)]
+    fn write_parts<'r>(&mut self, nodes: &'r [u32], count: u32) -> &'r [u32]
+        ensures { Reached (parts Before count) self.old nodes.now self.new result.now }
+    {
+        let mut rest = nodes;
+        for k in 0..count {
+            if rest.len() < 2 {
+                return rest;
+            }
+            let p = if k == 0 { Place::Before } else { Place::Part };
+            rest = self.write_type(rest, p);
+        }
+        rest
     }
-    if end <= i {
-        return Spot { at, node: i };
-    }
-    let s = write_type(out, at, t, i, end, p);
-    write_parts(out, s.at, t, s.node, end, count - 1, Place::Part)
-}
 
-fn lesser(a: usize, b: usize) -> usize
-    ensures { result ≡ least a b }
-{
-    if a < b {
-        return a;
+    // The type that n nodes of a report are, from node `from` on.
+    pub fn put_type(&mut self, report: &[u32], from: u32, n: u32)
+        ensures { Put self.old (type_text (reported report.now from n)) self.new }
+    {
+        let start = (2 * wide(from)).min(report.len());
+        let end = (2 * (wide(from) + wide(n))).min(report.len());
+        let _rest = self.write_type(&report[start..end], Place::Alone);
     }
-    b
-}
-
-// The type that n nodes of a report are, from node `from` on.
-pub fn put_type(out: &mut [u8], at: usize, report: &[u32], from: u32, n: u32) -> usize
-    requires { at ≤ length out.old }
-    ensures { Wrote out.old at (type_text (reported report.now from n)) out.new result }
-{
-    let start = wide(from);
-    let end = lesser(start + wide(n), report.len() / 2);
-    let s = write_type(out, at, report, start, end, Place::Alone);
-    s.at
 }

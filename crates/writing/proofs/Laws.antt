@@ -1,4 +1,8 @@
 -- Sayable triples, the text of triples, and what is read of it. Assumes nothing.
+use Rattle.kinds.specs.declared.Parts.{Parts}
+use Rattle.grammar.specs.declared.SheetError.TheVariants.{Unfit}
+use Rattle.grammar.specs.declared.SheetError.{SheetError}
+use Rattle.std.specs.Prelude.{Some, None, Result, Ok, Err, Option, is_some}
 use mathlib.Core.Path.{◌≡◌, refl, sym, ap, ◌∙◌}
 use mathlib.Core.Bool.{Bool, true, false, cond, ◌&&◌, and-eq-true_iff}
 use mathlib.Core.List.{List, [], ◌∷◌, ◌++◌, map, append_assoc}
@@ -13,16 +17,11 @@ use borrow.Author.Tests.{lt-ltb, ltb-true, le-leb, lt-leb, leb-true, eq-eqb, eqb
 use Rattle.sizes.specs.Sizes.{line_length, triple_words}
 use Rattle.nodes.proofs.Laws.{sets-append}
 use Rattle.spelling.specs.declared.Triple.{Triple}
-use Rattle.spelling.specs.declared.Line.TheVariants.{Spelt, Misspelt}
 use Rattle.spelling.specs.Spelling.{line_at, lines_from, first_misspelt}
 use Rattle.spelling.specs.Text.{line_text, line_bytes, Fair}
 use Rattle.spelling.proofs.Texts.{length-text, reads-back}
-use Rattle.kinds.specs.declared.Head.{Head}
-use Rattle.kinds.specs.declared.Head.TheVariants.{Parts, No}
 use Rattle.kinds.specs.Kinds.{find, table, row_of, begins, head_of}
-use Rattle.grammar.specs.declared.Got.{Got}
-use Rattle.grammar.specs.declared.Got.TheVariants.{Next, Refused}
-use Rattle.grammar.specs.Grammar.{Item, part, entries, declared_by, fits, ok, due, read, read_at}
+use Rattle.grammar.specs.Grammar.{Item, part, entries, declared_by, ok, due, read, read_at}
 use Rattle.grammar.specs.Check.{end_of, read_sheet}
 use Rattle.grammar.proofs.Laws.{all-spelt}
 use Rattle.writing.specs.Writing.{triple_of, triple_at, triples_from, triples_of, sayable, said, nowhere, tame, read_triples, sheet_text}
@@ -73,7 +72,7 @@ length-sheet [] = refl
 length-sheet (t ∷ ts) = length-append (line_text t) (sheet_text ts) ∙ omega (arith, length-text t, length-sheet ts)
 
 text-lines : (ts : List Triple) (before : List ℕ) (i : ℕ) → length before ≡ line_length * i
-    → lines_from (before ++ sheet_text (map tame ts)) i (length ts) ≡ map Spelt (map tame ts)
+    → lines_from (before ++ sheet_text (map tame ts)) i (length ts) ≡ map Some (map tame ts)
 unfolding lines_from sheet_text
 text-lines [] before i h = refl
 text-lines (t ∷ ts) before i h =
@@ -81,10 +80,10 @@ text-lines (t ∷ ts) before i h =
     let rest = sheet_text (map tame ts) in
     let s = before ++ (l ++ rest) in
     let bytes : line_bytes s i ≡ l = rw (drop_at before (l ++ rest) (line_length * i) h) (take_at l rest line_length (length-text (tame t))) in
-    let here : line_at s i ≡ Spelt (tame t) = reads-back s i (tame t) (tame-fair t) bytes in
-    let next : lines_from ((before ++ l) ++ rest) (i + 1) (length ts) ≡ map Spelt (map tame ts) =
+    let here : line_at s i ≡ Some (tame t) = reads-back s i (tame t) (tame-fair t) bytes in
+    let next : lines_from ((before ++ l) ++ rest) (i + 1) (length ts) ≡ map Some (map tame ts) =
     text-lines ts (before ++ l) (i + 1) (length-append before l ∙ omega (arith, length-text (tame t))) in
-    let moved : lines_from s (i + 1) (length ts) ≡ map Spelt (map tame ts) = ap (λ (x : List ℕ). lines_from x (i + 1) (length ts)) (sym (append_assoc before l rest)) ∙ next in
+    let moved : lines_from s (i + 1) (length ts) ≡ map Some (map tame ts) = ap (λ (x : List ℕ). lines_from x (i + 1) (length ts)) (sym (append_assoc before l rest)) ∙ next in
     rw (here, moved)
 
 pub length-map : {A B : Type 0} (f : A → B) (l : List A) → length (map f l) ≡ length l
@@ -97,34 +96,34 @@ length-tame ts = length-sheet (map tame ts) ∙ ap (λ (n : ℕ). line_length * 
 pub lines-count : (ts : List Triple) → length (sheet_text (map tame ts)) / line_length ≡ length ts
 lines-count ts = let h = length-tame ts in omega arith
 
-pub lines-tame : (ts : List Triple) → lines_from (sheet_text (map tame ts)) 0 (length ts) ≡ map Spelt (map tame ts)
+pub lines-tame : (ts : List Triple) → lines_from (sheet_text (map tame ts)) 0 (length ts) ≡ map Some (map tame ts)
 lines-tame ts = text-lines ts [] 0 refl
 
 -- ---- the reader's verdict on the text is that on the triples
-no-misspelt : (x : Item) → ok x Misspelt ≡ false
+no-misspelt : (x : Item) → ok x None ≡ false
 no-misspelt (part k) = refl
 no-misspelt (entries k n) = refl
 
-never : (b : Bool) (h : Head) → fits (cond (b && false) h No) ≡ false
+never : (b : Bool) (h : Option Parts) → is_some (cond (b && false) h None) ≡ false
 never true h = refl
 never false h = refl
 
-no-nowhere : (x : Item) → ok x (Spelt nowhere) ≡ false
+no-nowhere : (x : Item) → ok x (Some nowhere) ≡ false
 unfolding head_of begins row_of find table declared_by
-no-nowhere (part k) = never (eqb 5 k) (Parts 1 0 0 0)
+no-nowhere (part k) = never (eqb 5 k) (Some (record { types = 1; terms = 0; each = 0; count = 0 }))
 no-nowhere (entries k n) = refl
 
-read-tame : (ts : List Triple) (ahead : List Item) (at : ℕ) → read (map Spelt (map tame ts)) ahead at ≡ read (map said ts) ahead at
+read-tame : (ts : List Triple) (ahead : List Item) (at : ℕ) → read (map Some (map tame ts)) ahead at ≡ read (map said ts) ahead at
 unfolding read
 read-tame [] [] at = refl
 read-tame [] (x ∷ ahead) at = refl
 read-tame (t ∷ ts) [] at = refl
 read-tame (t ∷ ts) (x ∷ ahead) at = go (sayable t) (λ a. read-tame ts a (at + 1))
   where
-    go : (b : Bool) → ((a : List Item) → read (map Spelt (map tame ts)) a (at + 1) ≡ read (map said ts) a (at + 1))
-        → cond (ok x (Spelt (cond b t nowhere))) (read (map Spelt (map tame ts)) (due x (Spelt (cond b t nowhere)) ++ ahead) (at + 1)) (Refused (at + 1))
-        ≡ cond (ok x (cond b (Spelt t) Misspelt)) (read (map said ts) (due x (cond b (Spelt t) Misspelt) ++ ahead) (at + 1)) (Refused (at + 1))
-    go true again = rw (again (due x (Spelt t) ++ ahead))
+    go : (b : Bool) → ((a : List Item) → read (map Some (map tame ts)) a (at + 1) ≡ read (map said ts) a (at + 1))
+        → cond (ok x (Some (cond b t nowhere))) (read (map Some (map tame ts)) (due x (Some (cond b t nowhere)) ++ ahead) (at + 1)) (Err (Unfit (at + 1)))
+        ≡ cond (ok x (cond b (Some t) None)) (read (map said ts) (due x (cond b (Some t) None) ++ ahead) (at + 1)) (Err (Unfit (at + 1)))
+    go true again = rw (again (due x (Some t) ++ ahead))
     go false again = rw (no-nowhere x, no-misspelt x)
 
 pub reads-tame : (ts : List Triple) → read_sheet (sheet_text (map tame ts)) ≡ read_triples ts
@@ -139,19 +138,19 @@ said_all [] e = refl
 said_all (t ∷ ts) e = go (sayable t) (λ q. said_all ts q) e
   where
     go : (b : Bool) → (first_misspelt (map said ts) ≡ length (map said ts) → map tame ts ≡ ts)
-        → first_misspelt (cond b (Spelt t) Misspelt ∷ map said ts) ≡ suc (length (map said ts)) → cond b t nowhere ∷ map tame ts ≡ t ∷ ts
+        → first_misspelt (cond b (Some t) None ∷ map said ts) ≡ suc (length (map said ts)) → cond b t nowhere ∷ map tame ts ≡ t ∷ ts
     go true again e = ap (λ (x : List Triple). t ∷ x) (again (omega arith))
     go false again e = absurd (omega arith)
 
-pub end-next : (n : ℕ) (g : Got) (k : ℕ) → end_of n g ≡ Next k → g ≡ Next n
-end-next n (Next j) k e = go (eqb j n) refl e
+pub end-next : (n : ℕ) (g : Result ℕ SheetError) (k : ℕ) → end_of n g ≡ Ok k → g ≡ Ok n
+end-next n (Ok j) k e = go (eqb j n) refl e
   where
-    go : (b : Bool) → eqb j n ≡ b → cond b (Next j) (Refused (j + 1)) ≡ Next k → Next j ≡ Next n
-    go true q e = ap Next (eqb-true j n q)
+    go : (b : Bool) → eqb j n ≡ b → cond b (Ok j) (Err (Unfit (j + 1))) ≡ Ok k → ◌≡◌ {A = Result ℕ SheetError} (Ok j) (Ok n)
+    go true q e = ap Ok (eqb-true j n q)
     go false q e = absurd (let z : ◌≡◌ {A = ℕ} 0 1 = cc in omega arith)
-end-next n (Refused l) k e = absurd (let z : ◌≡◌ {A = ℕ} 0 1 = cc in omega arith)
+end-next n (Err l) k e = absurd (let z : ◌≡◌ {A = ℕ} 0 1 = cc in omega arith)
 
-pub taken-tame : (ts : List Triple) (k : ℕ) → read_triples ts ≡ Next k → map tame ts ≡ ts
+pub taken-tame : (ts : List Triple) (k : ℕ) → read_triples ts ≡ Ok k → map tame ts ≡ ts
 unfolding read_triples
 taken-tame ts k e =
     let r = end-next (length ts) (read (map said ts) (entries 1 0 ∷ []) 0) k e in
@@ -190,20 +189,6 @@ line-again ws l m i n h e =
 pub line-done : (ws l : List ℕ) (j i n : ℕ) → n ≤ i → sets l j (left ws i n) ≡ l
 unfolding sheet_text
 line-done ws l j i n h = rw (triples_done ws i n h)
-
--- ---- bytes as they are copied
-pub copy-again : (text out : List ℕ) (i : ℕ) → i < length text → sets (set out i (get_or text i 0)) (i + 1) (drop (i + 1) text) ≡ sets out i (drop i text)
-copy-again text out i h = rw (drop-cons text i 0 h, add-one i)
-
-past : (l : List ℕ) (i : ℕ) → length l ≤ i → drop i l ≡ []
-past l i h = none (drop i l) (length-drop i l)
-  where
-    none : (d : List ℕ) → length d ≡ length l - i → d ≡ []
-    none [] e = refl
-    none (a ∷ d) e = absurd (omega arith)
-
-pub copy_done : (text out : List ℕ) (i : ℕ) → length text ≤ i → sets out i (drop i text) ≡ out
-copy_done text out i h = rw (past text i h)
 
 pub line-start : (ws l : List ℕ) → sets l (line_length * 0) (left ws 0 (length ws / triple_words)) ≡ sets l 0 (sheet_text (map tame (triples_of ws)))
 unfolding triples_of

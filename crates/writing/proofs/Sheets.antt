@@ -1,4 +1,7 @@
 -- The sheet of triples that are taken reads as them, and no other does; triples that are not taken are those of no sheet. Assumes nothing.
+use Rattle.grammar.specs.declared.SheetError.{SheetError}
+use Rattle.grammar.specs.declared.SheetError.TheVariants.{Length, Unfit}
+use Rattle.std.specs.Prelude.{Ok, Err, Option, Some, None, Result}
 use mathlib.Core.Path.{◌≡◌, refl, sym, ap, ◌∙◌}
 use mathlib.Core.Bool.{Bool, true, false, cond, ◌&&◌, and-eq-true_iff}
 use mathlib.Core.List.{List, [], ◌∷◌, map}
@@ -11,16 +14,11 @@ use lib.Seq.{sets, sets-eq, length-sets, take_at, drop-drop, drop-length}
 use borrow.Author.Tests.{lt-ltb, ltb-true, ltb-false, le-ltb, le-leb, leb-true, eq-eqb, eqb-true}
 use Rattle.sizes.specs.Sizes.{line_length, triple_words, most_lines, sheet_bytes, plan_words}
 use Rattle.spelling.specs.declared.Triple.{Triple}
-use Rattle.spelling.specs.declared.Line.{Line}
-use Rattle.spelling.specs.declared.Line.TheVariants.{Spelt, Misspelt}
 use Rattle.spelling.specs.Spelling.{line_at, lines_from, lines_of, first_misspelt}
 use Rattle.spelling.proofs.Laws.{length-lines}
 use Rattle.spelling.proofs.Texts.{only, fair}
-use Rattle.grammar.specs.declared.Got.{Got}
-use Rattle.grammar.specs.declared.Got.TheVariants.{Next, Refused}
-use Rattle.grammar.specs.declared.Check.TheVariants.{Plan, Length, Unfit}
 use Rattle.grammar.specs.Grammar.{entries, read, read_at}
-use Rattle.grammar.specs.Check.{length_ok, end_of, read_sheet, fitting, check}
+use Rattle.grammar.specs.Check.{length_ok, end_of, read_sheet, fitting, check, refusal_line}
 use Rattle.grammar.proofs.Laws.{all-spelt}
 use Rattle.grammar.proofs.Lines.{line_small}
 use Rattle.sheet.specs.Plan.{triple_of, triples}
@@ -31,7 +29,7 @@ use Rattle.writing.specs.Writing.{said, tame, triples_from, triples_of, read_tri
 use Rattle.writing.proofs.Laws.{fair-sayable, length-sheet, length-map, length-tame, lines-count, lines-tame, reads-tame, taken-tame}
 
 -- ---- the text of triples is well spelt, so the reader's verdict is its check
-first-spelt : (ts : List Triple) → first_misspelt (map Spelt ts) ≡ length ts
+first-spelt : (ts : List Triple) → first_misspelt (map Some ts) ≡ length ts
 unfolding first_misspelt
 first-spelt [] = refl
 first-spelt (t ∷ ts) = ap suc (first-spelt ts)
@@ -40,7 +38,7 @@ module _ (ts : List Triple) where
   abbrev text : List ℕ
   text = sheet_text (map tame ts)
 
-  all_lines : lines_of text ≡ map Spelt (map tame ts)
+  all_lines : lines_of text ≡ map Some (map tame ts)
   unfolding lines_of
   all_lines = rw (lines-count ts) (lines-tame ts)
 
@@ -52,23 +50,23 @@ module _ (ts : List Triple) where
       rw (length-tame ts, h, m, reads-tame ts) (rw (le-ltb (length ts) (line_length * length ts / line_length) (omega arith)))
 
   -- so a refused line has a small number
-  pub place-small : (l : ℕ) → length_ok (line_length * length ts) ≡ true → read_triples ts ≡ Refused l → l ≤ most_lines + 1
-  place-small l h e = let z : check text ≡ Unfit l = check-text h ∙ ap fitting e in rw z at (line_small text)
+  pub place-small : (x : SheetError) → length_ok (line_length * length ts) ≡ true → read_triples ts ≡ Err x → refusal_line x ≤ most_lines + 1
+  place-small x h e = let z : check text ≡ Err x = check-text h ∙ ap fitting e in rw z at (line_small text)
 
   pub same_length : line_length * length ts ≡ length text
   same_length = sym (length-tame ts)
 
 -- ---- a plan's sheet is the text of its triples
-spelt-all : (ls : List Line) → first_misspelt ls ≡ length ls → ls ≡ map Spelt (map triple_of ls)
+spelt-all : (ls : List (Option Triple)) → first_misspelt ls ≡ length ls → ls ≡ map Some (map triple_of ls)
 unfolding first_misspelt
 spelt-all [] e = refl
-spelt-all (Spelt t ∷ ls) e = ap (λ (x : List Line). Spelt t ∷ x) (spelt-all ls (omega arith))
-spelt-all (Misspelt ∷ ls) e = absurd (omega arith)
+spelt-all (Some t ∷ ls) e = ap (λ (x : List (Option Triple)). Some t ∷ x) (spelt-all ls (omega arith))
+spelt-all (None ∷ ls) e = absurd (omega arith)
 
 record Whole (s : List ℕ) : Type 0 where
   bytes : length s ≡ line_length * (length s / line_length)
-  reads : read (lines_of s) (entries 1 0 ∷ []) 0 ≡ Next (length s / line_length)
-  lines : lines_of s ≡ map Spelt (triples s)
+  reads : read (lines_of s) (entries 1 0 ∷ []) 0 ≡ Ok (length s / line_length)
+  lines : lines_of s ≡ map Some (triples s)
 
 length_whole : (n : ℕ) → length_ok n ≡ true → n ≡ line_length * (n / line_length)
 length_whole n e =
@@ -77,40 +75,40 @@ length_whole n e =
     let z = eqb-true (n % line_length) 0 b.1 in
     omega arith
 
-whole : (s : List ℕ) → check s ≡ Plan → Whole s
+whole : (s : List ℕ) → check s ≡ Ok tt → Whole s
 unfolding check read_at lines_of triples
 whole s e =
     let n = length s / line_length in
-    let a = cond-plan (length_ok (length s)) _ Length e (λ z. (let y : ◌≡◌ {A = ℕ} 0 1 = cc in omega arith)) in
-    let r : read (lines_from s 0 n) (entries 1 0 ∷ []) 0 ≡ Next n = rw (sub-zero n) at (whole-read s e) in
+    let a = cond-plan (length_ok (length s)) _ (Err Length) e (λ z. (let y : ◌≡◌ {A = ℕ} 0 1 = cc in omega arith)) in
+    let r : read (lines_from s 0 n) (entries 1 0 ∷ []) 0 ≡ Ok n = rw (sub-zero n) at (whole-read s e) in
     let k = length-lines s 0 n in
     record { bytes = length_whole (length s) a.0; reads = r; lines = spelt-all (lines_from s 0 n) (all-spelt (lines_from s 0 n) (entries 1 0 ∷ []) 0 n r (omega arith)) }
 
 module _ (s : List ℕ) where
-  text-from : (n i : ℕ) (ts : List Triple) → lines_from s i n ≡ map Spelt ts → length s ≡ line_length * (i + n) → drop (line_length * i) s ≡ sheet_text ts
+  text-from : (n i : ℕ) (ts : List Triple) → lines_from s i n ≡ map Some ts → length s ≡ line_length * (i + n) → drop (line_length * i) s ≡ sheet_text ts
   unfolding lines_from sheet_text
   text-from zero i [] e h = ap (λ (k : ℕ). drop k s) (let z : line_length * i ≡ length s = omega arith in z) ∙ drop-length s
   text-from zero i (t ∷ ts) e h = absurd (let z : ◌≡◌ {A = ℕ} 0 1 = cc in omega arith)
   text-from (suc n) i [] e h = absurd (let z : ◌≡◌ {A = ℕ} 0 1 = cc in omega arith)
   text-from (suc n) i (t ∷ ts) e h =
-      let z : line_at s i ≡ Spelt t = cc in
-      let y : lines_from s (i + 1) n ≡ map Spelt ts = cc in
+      let z : line_at s i ≡ Some t = cc in
+      let y : lines_from s (i + 1) n ≡ map Some ts = cc in
       let k : line_length * i + line_length ≡ line_length * (i + 1) = omega arith in
       sym (lib.ListN.take-append-drop line_length (drop (line_length * i) s))
       ∙ rw (only s i t z, drop-drop line_length (line_length * i) s, k, text-from n (i + 1) ts y (omega arith))
 
-  said-from : (n i : ℕ) (ts : List Triple) → lines_from s i n ≡ map Spelt ts → map said ts ≡ map Spelt ts
+  said-from : (n i : ℕ) (ts : List Triple) → lines_from s i n ≡ map Some ts → map said ts ≡ map Some ts
   unfolding lines_from
   said-from zero i [] e = refl
   said-from zero i (t ∷ ts) e = absurd (let z : ◌≡◌ {A = ℕ} 0 1 = cc in omega arith)
   said-from (suc n) i [] e = absurd (let z : ◌≡◌ {A = ℕ} 0 1 = cc in omega arith)
   said-from (suc n) i (t ∷ ts) e =
-      let z : line_at s i ≡ Spelt t = cc in
-      let y : lines_from s (i + 1) n ≡ map Spelt ts = cc in
+      let z : line_at s i ≡ Some t = cc in
+      let y : lines_from s (i + 1) n ≡ map Some ts = cc in
       rw (fair-sayable t (fair s i t z), said-from n (i + 1) ts y)
 
 -- ONLY: a sheet that is taken is the text of what is read of it
-pub only-text : (s : List ℕ) → check s ≡ Plan → s ≡ sheet_text (triples s)
+pub only-text : (s : List ℕ) → check s ≡ Ok tt → s ≡ sheet_text (triples s)
 unfolding lines_of
 only-text s e =
     let w = whole s e in
@@ -118,21 +116,21 @@ only-text s e =
     text-from s (length s / line_length) 0 (triples s) w.lines (omega arith)
 
 -- and its triples are taken
-pub plan-taken : (s : List ℕ) → check s ≡ Plan → read_triples (triples s) ≡ Next (length s / line_length)
+pub plan-taken : (s : List ℕ) → check s ≡ Ok tt → read_triples (triples s) ≡ Ok (length s / line_length)
 unfolding lines_of read_triples triples
 plan-taken s e =
     let n = length s / line_length in
     let w = whole s e in
     let h : length (triples s) ≡ n = length-map triple_of (lines_of s) ∙ length-lines s 0 n in
     let l : map said (triples s) ≡ lines_of s = said-from s n 0 (triples s) w.lines ∙ sym w.lines in
-    ap (λ (ls : List Line). end_of (length (triples s)) (read ls (entries 1 0 ∷ []) 0)) l ∙ rw (w.reads, h, eq-eqb n n refl)
+    ap (λ (ls : List (Option Triple)). end_of (length (triples s)) (read ls (entries 1 0 ∷ []) 0)) l ∙ rw (w.reads, h, eq-eqb n n refl)
 
 -- BACK: the text of triples that are taken is a sheet that reads as them
-module _ (ts : List Triple) (k : ℕ) (h : length_ok (line_length * length ts) ≡ true) (e : read_triples ts ≡ Next k) where
-  taken-plan : check (sheet_text ts) ≡ Plan
+module _ (ts : List Triple) (k : ℕ) (h : length_ok (line_length * length ts) ≡ true) (e : read_triples ts ≡ Ok k) where
+  taken-plan : check (sheet_text ts) ≡ Ok tt
   taken-plan = ap (λ (x : List Triple). check (sheet_text x)) (sym (taken-tame ts k e)) ∙ check-text ts h ∙ ap fitting e
 
-  triples-spelt : (us : List Triple) → map triple_of (map Spelt us) ≡ us
+  triples-spelt : (us : List Triple) → map triple_of (map Some us) ≡ us
   triples-spelt [] = refl
   triples-spelt (u ∷ us) = ap (λ (x : List Triple). u ∷ x) (triples-spelt us)
 
@@ -149,8 +147,8 @@ module _ (ts : List Triple) (k : ℕ) (h : length_ok (line_length * length ts) �
   }
 
 -- NONE: no sheet that is taken reads as triples that are not
-pub unfit-none : (ts : List Triple) (l : ℕ) → read_triples ts ≡ Refused l → (s : List ℕ) → Reads ts s → ⊥
-unfit-none ts l e s p =
+pub unfit-none : (ts : List Triple) (x : SheetError) → read_triples ts ≡ Err x → (s : List ℕ) → Reads ts s → ⊥
+unfit-none ts x e s p =
     let z = sym (plan-taken s p.plan) ∙ ap read_triples p.back ∙ e in
     let y : ◌≡◌ {A = ℕ} 0 1 = cc in
     omega arith
@@ -192,7 +190,7 @@ written-by ws before answer after e =
     zero_number : {m : ℕ} {x : Wrote} → w ≡ x → x.answer.number ≡ suc m → answer.number ≡ 0 → ⊥
     zero_number p y q = let z = ap (λ (v : Wrote). v.answer.number) p in omega arith
 
-    laid : length_ok (line_length * length ts) ≡ true → (k : ℕ) → read_triples ts ≡ Next k → (b : Bool) → ltb (length before) (line_length * length ts) ≡ b
+    laid : length_ok (line_length * length ts) ≡ true → (k : ℕ) → read_triples ts ≡ Ok k → (b : Bool) → ltb (length before) (line_length * length ts) ≡ b
         → w ≡ cond b (unwritten 31 0 before) (record { answer = refused_at 0 0; out = sets before 0 (sheet_text ts) }) → answer.number ≡ 0
         → Only ts (take (line_length * length ts) after)
     laid h k r true b p q = absurd (zero_number p refl q)
@@ -201,10 +199,10 @@ written-by ws before answer after e =
         let y : take (line_length * length ts) after ≡ sheet_text ts = ap (take (line_length * length ts)) z ∙ front before (sheet_text ts) _ (length-sheet ts) (ltb-false _ _ b) in
         rw y (taken-only ts k h r)
 
-    taken : (b : Bool) → words_ok (length ws) ≡ b → (g : Got) → read_triples ts ≡ g → w ≡ cond b (by_verdict ts before g) (unwritten 3 0 before) → answer.number ≡ 0
+    taken : (b : Bool) → words_ok (length ws) ≡ b → (g : Result ℕ SheetError) → read_triples ts ≡ g → w ≡ cond b (by_verdict ts before g) (unwritten 3 0 before) → answer.number ≡ 0
         → Only ts (take (line_length * length ts) after)
-    taken true o (Next k) r p q = laid (lines_ok ws o) k r (ltb (length before) (line_length * length ts)) refl p q
-    taken true o (Refused l) r p q = absurd (zero_number p refl q)
+    taken true o (Ok k) r p q = laid (lines_ok ws o) k r (ltb (length before) (line_length * length ts)) refl p q
+    taken true o (Err x) r p q = absurd (zero_number p refl q)
     taken false o g r p q = absurd (zero_number p refl q)
 
     five-number : {x : Wrote} → w ≡ x → (x.answer.number ≡ 5 → ⊥) → answer.number ≡ 5 → ⊥
@@ -214,10 +212,10 @@ written-by ws before answer after e =
     short true p q = five-number p (λ z. omega arith) q
     short false p q = five-number p (λ z. omega arith) q
 
-    unfit : (b : Bool) (g : Got) → read_triples ts ≡ g → w ≡ cond b (by_verdict ts before g) (unwritten 3 0 before) → answer.number ≡ 5
+    unfit : (b : Bool) (g : Result ℕ SheetError) → read_triples ts ≡ g → w ≡ cond b (by_verdict ts before g) (unwritten 3 0 before) → answer.number ≡ 5
         → (s : List ℕ) → Reads ts s → ⊥
-    unfit true (Next k) r p q s d = short (ltb (length before) (line_length * length ts)) p q
-    unfit true (Refused l) r p q s d = unfit-none ts l r s d
+    unfit true (Ok k) r p q s d = short (ltb (length before) (line_length * length ts)) p q
+    unfit true (Err x) r p q s d = unfit-none ts x r s d
     unfit false g r p q s d = five-number p (λ z. omega arith) q
 
 -- ---- what the code finds, and what it then answers
@@ -251,20 +249,20 @@ module _ (ws : List ℕ) (w : words_ok (length ws) ≡ true) where
       → read_sheet (take (line_length * (length ws / triple_words)) text) ≡ read_triples (triples_of ws)
   front_reads room text h e = ap read_sheet (front-text room text h e) ∙ reads-tame (triples_of ws)
 
-  pub place-fits : (l : ℕ) → read_triples (triples_of ws) ≡ Refused l → l < 2 ^ 32
-  place-fits l e = let z = place-small (triples_of ws) l (lines_ok ws w) e in omega arith
+  pub place-fits : (x : SheetError) → read_triples (triples_of ws) ≡ Err x → refusal_line x < 2 ^ 32
+  place-fits x e = let z = place-small (triples_of ws) x (lines_ok ws w) e in omega arith
 
   module _ (out : List ℕ) (a : Answer) where
-    pub gives-5 : (l : ℕ) → read_triples (triples_of ws) ≡ Refused l → a ≡ refused_at 5 l → Written ws out a out
+    pub gives-5 : (x : SheetError) → read_triples (triples_of ws) ≡ Err x → a ≡ refused_at 5 (refusal_line x) → Written ws out a out
     unfolding write_call
-    gives-5 l r e = written-by ws out a out (rw (e, w, r))
+    gives-5 x r e = written-by ws out a out (rw (e, w, r))
 
-    pub gives-31 : (k : ℕ) → read_triples (triples_of ws) ≡ Next k → length out < line_length * (length ws / triple_words) → a ≡ refused_at 31 0 → Written ws out a out
+    pub gives-31 : (k : ℕ) → read_triples (triples_of ws) ≡ Ok k → length out < line_length * (length ws / triple_words) → a ≡ refused_at 31 0 → Written ws out a out
     unfolding write_call
     gives-31 k r h e = written-by ws out a out (rw (e, w, r, lt-ltb (length out) (line_length * length (triples_of ws)) (rw bytes-are at h)))
 
     pub gives-0 : (k : ℕ) (room text after : List ℕ) → length room ≡ sheet_bytes → text ≡ sets room 0 (sheet_text (map tame (triples_of ws)))
-        → read_triples (triples_of ws) ≡ Next k → line_length * (length ws / triple_words) ≤ length out
+        → read_triples (triples_of ws) ≡ Ok k → line_length * (length ws / triple_words) ≤ length out
         → after ≡ sets out 0 (take (line_length * (length ws / triple_words)) text) → a ≡ refused_at 0 0 → Written ws out a after
     unfolding write_call
     gives-0 k room text after h t r f x e =

@@ -1,16 +1,13 @@
 -- A plan held as triples, written as a sheet (W1). Assumes nothing: these are definitions.
-use Rattle.std.specs.Prelude.{◌≡◌, Bool, false, cond, ◌&&◌, List, [], ◌∷◌, ◌++◌, map, ℕ, zero, suc, ◌+◌, ◌*◌, ◌-◌, ◌/◌, ◌%◌, ◌^◌, ltb, leb, eqb, length, get_or, take}
+use Rattle.grammar.specs.declared.SheetError.TheVariants.{Unfit}
+use Rattle.grammar.specs.declared.SheetError.{SheetError}
+use Rattle.std.specs.Prelude.{◌≡◌, Bool, false, cond, ◌&&◌, List, [], ◌∷◌, ◌++◌, map, ℕ, zero, suc, ◌+◌, ◌*◌, ◌-◌, ◌/◌, ◌%◌, ◌^◌, ltb, leb, eqb, length, get_or, take, Ok, Option, Some, None, Result, Err}
 use Rattle.std.proofs.lemmas.List.Edits.{sets}
 use Rattle.sizes.specs.Sizes.{line_length, triple_words, plan_words}
 use Rattle.spelling.specs.declared.Triple.{Triple}
-use Rattle.spelling.specs.declared.Line.{Line}
-use Rattle.spelling.specs.declared.Line.TheVariants.{Spelt, Misspelt}
 use Rattle.spelling.specs.Text.{line_text}
-use Rattle.grammar.specs.declared.Got.{Got}
-use Rattle.grammar.specs.declared.Got.TheVariants.{Next, Refused}
-use Rattle.grammar.specs.declared.Check.TheVariants.{Plan}
 use Rattle.grammar.specs.Grammar.{entries, read}
-use Rattle.grammar.specs.Check.{end_of, check}
+use Rattle.grammar.specs.Check.{end_of, check, refusal_line}
 use Rattle.sheet.specs.Plan.{triples}
 use Rattle.judgment.specs.declared.Answer.{Answer}
 use Rattle.judgment.specs.Result.{refused_at}
@@ -51,8 +48,8 @@ sayable t =
     && cond t.negative (eqb t.kind 22 && (ltb 0 t.value && leb t.value (2 ^ 63))) (ltb t.value (2 ^ 63)))
 
 -- what the line of a triple says; no line says what is not sayable
-abbrev pub said : Triple → Line
-said t = cond (sayable t) (Spelt t) Misspelt
+abbrev pub said : Triple → Option Triple
+said t = cond (sayable t) (Some t) None
 
 -- in place of a triple that is not sayable: an entry without a name, which stands nowhere in a plan
 abbrev pub nowhere : Triple
@@ -62,7 +59,7 @@ abbrev pub tame : Triple → Triple
 tame t = cond (sayable t) t nowhere
 
 -- the reader's verdict on these lines: Refused, counted from 1, is the first that can't continue a plan, or the first that is lacking
-unfoldable pub read_triples : List Triple → Got
+unfoldable pub read_triples : List Triple → Result ℕ SheetError
 read_triples ts = end_of (length ts) (read (map said ts) (entries 1 0 ∷ []) 0)
 
 -- the sheet of triples
@@ -84,9 +81,9 @@ abbrev pub laid_out : List Triple → List ℕ → Wrote
 laid_out ts out =
     cond (ltb (length out) (line_length * length ts)) (unwritten 31 0 out) (record { answer = refused_at 0 0; out = sets out 0 (sheet_text ts) })
 
-abbrev pub by_verdict : List Triple → List ℕ → Got → Wrote
-by_verdict ts out (Next k) = laid_out ts out
-by_verdict ts out (Refused l) = unwritten 5 l out
+abbrev pub by_verdict : List Triple → List ℕ → Result ℕ SheetError → Wrote
+by_verdict ts out (Ok k) = laid_out ts out
+by_verdict ts out (Err e) = unwritten 5 (refusal_line e) out
 
 -- 3: no word, more than those of 2,000 triples, or a part of a triple
 abbrev pub words_ok : ℕ → Bool
@@ -99,7 +96,7 @@ write_call ws out = cond (words_ok (length ws)) (by_verdict (triples_of ws) out 
 -- ---- what the sheet is
 -- s is a plan's sheet that reads as ts
 pub record Reads (ts : List Triple) (s : List ℕ) : Type 0 where
-  pub plan : check s ≡ Plan
+  pub plan : check s ≡ Ok tt
   pub back : triples s ≡ ts
 
 -- s is the one sheet that reads as ts

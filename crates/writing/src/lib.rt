@@ -4,11 +4,10 @@
 ghost use Rattle.std.specs.Prelude.{◌≡◌, true, map, ◌+◌, ◌*◌, ◌/◌, ◌≤◌, length};
 ghost use Rattle.std.proofs.lemmas.List.Edits.{sets};
 ghost use Rattle.sizes.specs.Sizes.{line_length, sheet_bytes, triple_words};
-ghost use Rattle.judgment.specs.Result.{refused_at};
 ghost use Rattle.writing.specs.Writing.{triple_of, triple_at, triples_of, sayable, tame, sheet_text, words_ok, Written};
 
 use columns::write_line;
-use grammar::{Got, read_sheet};
+use grammar::read_sheet;
 use judgment::Answer;
 use sizes::{LINE_LENGTH, PLAN_WORDS, SHEET_BYTES, TRIPLE_WORDS};
 use spelling::Triple;
@@ -47,20 +46,11 @@ pub fn triple_at(triples: &[u64], i: usize) -> Triple
 pub fn is_sayable(t: Triple) -> bool
     ensures { result ≡ sayable t }
 {
-    if 1000 <= t.kind {
-        return false;
-    }
-    if 100000 <= t.count {
+    if 1000 <= t.kind || 100000 <= t.count {
         return false;
     }
     if t.negative {
-        if t.kind != 22 {
-            return false;
-        }
-        if t.value == 0 {
-            return false;
-        }
-        return t.value <= 9223372036854775808;
+        return t.kind == 22 && 0 < t.value && t.value <= 9223372036854775808;
     }
     t.value < 9223372036854775808
 }
@@ -85,10 +75,8 @@ fn write_lines(triples: &[u64], text: &mut [u8])
     requires { line_length * (length triples.now / triple_words) ≤ length text.old }
     ensures { text.new ≡ sets text.old 0 (sheet_text (map tame (triples_of triples.now))) }
 {
-    let mut i = 0;
-    while i < triples.len() / TRIPLE_WORDS {
+    for i in 0..triples.len() / TRIPLE_WORDS {
         write_line(text, LINE_LENGTH * i, tamed(triple_at(triples, i)));
-        i += 1;
     }
 }
 
@@ -97,38 +85,13 @@ fn copy_front(text: &[u8], out: &mut [u8])
     requires { length text.now ≤ length out.old }
     ensures { out.new ≡ sets out.old 0 text.now }
 {
-    let mut i = 0;
-    while i < text.len() {
-        out[i] = text[i];
-        i += 1;
-    }
-}
-
-// An answer with a number and a line, else 0.
-fn told(number: u32, line: u32) -> Answer
-    ensures { result ≡ refused_at number line }
-{
-    Answer {
-        number,
-        line,
-        taken: 0,
-        fresh: 0,
-        detail1: 0,
-        detail2: 0,
-        plain: 0,
-    }
+    out[..text.len()].copy_from_slice(text);
 }
 
 fn are_words(n: usize) -> bool
     ensures { result ≡ words_ok n }
 {
-    if n == 0 {
-        return false;
-    }
-    if PLAN_WORDS < n {
-        return false;
-    }
-    n % TRIPLE_WORDS == 0
+    0 < n && n <= PLAN_WORDS && n % TRIPLE_WORDS == 0
 }
 
 // With room for the longest sheet in `text`: `out` is written only once the verdict is known.
@@ -139,14 +102,14 @@ fn write_plan(triples: &[u64], text: &mut [u8], out: &mut [u8]) -> Answer
     let bytes = LINE_LENGTH * (triples.len() / TRIPLE_WORDS);
     write_lines(triples, text);
     match read_sheet(&text[..bytes]) {
-        Got::Next(_) => {
+        Ok(_) => {
             if out.len() < bytes {
-                return told(31, 0);
+                return Answer::refused(31, 0);
             }
             copy_front(&text[..bytes], out);
-            told(0, 0)
+            Answer::refused(0, 0)
         }
-        Got::Refused(l) => told(5, l as u32),
+        Err(e) => Answer::refused(5, e.line() as u32),
     }
 }
 
@@ -154,9 +117,9 @@ fn write_plan(triples: &[u64], text: &mut [u8], out: &mut [u8]) -> Answer
 pub fn write_sheet(triples: &[u64], out: &mut [u8]) -> Answer
     ensures { Written triples.now out.old result out.new }
 {
-    if are_words(triples.len()) {
-        let mut text = [0u8; SHEET_BYTES];
-        return write_plan(triples, &mut text, out);
+    if !are_words(triples.len()) {
+        return Answer::refused(3, 0);
     }
-    told(3, 0)
+    let mut text = [0u8; SHEET_BYTES];
+    write_plan(triples, &mut text, out)
 }

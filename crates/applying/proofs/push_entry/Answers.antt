@@ -1,5 +1,4 @@
-use mathlib.Core.Path.{◌≡◌}
-use lib.ListN.{length}
+use Rattle.std.proofs.Common.{◌≡◌, length}
 use Rattle.nodes.specs.Nodes.{Ty}
 use Rattle.sheet.specs.Rows.{rows}
 use Rattle.operations.proofs.Then.{does-as}

@@ -1,7 +1,5 @@
-use mathlib.Core.Path.{ap, ◌∙◌, subst⁻¹}
-use Prim.Native.Nat.{ℕ, ◌≤◌}
-use native.Mathlib.Omega.{arith}
-use lib.ListN.{length}
+use Rattle.std.proofs.Common.{ap, ◌∙◌, ℕ, ◌≤◌, arith, length}
+use mathlib.Core.Path.{subst⁻¹}
 use Rattle.sizes.specs.Sizes.{most_nodes}
 use Rattle.nodes.specs.Nodes.{Ty, nodes_at}
 use Rattle.nodes.specs.Lists.{All}
@@ -20,8 +18,8 @@ overflow_sub-lines c = let a = c.args in
     let few : length ls ≤ most_nodes = p.lent.sheet.few in
     omega arith
 
-pub check_pattern-o-requires : goal.check_pattern-o-requires
-check_pattern-o-requires c = let a = c.args in
+pub check_pattern-bound-requires : goal.check_pattern-bound-requires
+check_pattern-bound-requires c = let a = c.args in
     let p = c.requires.0 in
     let ls = rows a.s.now in
     let body : ℕ = c.part_line-body.result in
@@ -44,19 +42,19 @@ check_pattern-o-requires c = let a = c.args in
       p.formed,
     )
 
-pub push_vars-bound-requires : goal.push_vars-bound-requires
-push_vars-bound-requires c = let a = c.args in
+pub push_vars-named-requires : goal.push_vars-named-requires
+push_vars-named-requires c = let a = c.args in
     let p = c.requires.0 in
     let ls = rows a.s.now in
     let body : ℕ = c.part_line-body.result in
     let B : (a.first ≤ body) × (body ≤ length ls) = body-within ls a.first p.within body c.part_line-body.ensures in
     let few : length ls ≤ most_nodes = p.lent.sheet.few in
-    let C = c.check_pattern-o.ensures.0 in
+    let C = c.check_pattern-bound.ensures.0 in
     let m = C.few in
     let g = p.lent.rows in
     let h = p.lent.left in
-    let v = c.check_pattern-o.auto.v in
-    let l = c.check_pattern-o.auto.l in
+    let v = c.check_pattern-bound.auto.v in
+    let l = c.check_pattern-bound.auto.l in
     (record { ready = C.turn.ready; sound = C.sound; few = omega arith; rows = omega arith; left = omega arith }, c.requires.1)
 
 pub overflow_cast-body : goal.overflow_cast-body
@@ -68,12 +66,6 @@ overflow_cast-body c = let a = c.args in
     let few : length ls ≤ most_nodes = p.lent.sheet.few in
     omega arith
 
-pub push_chk-run-requires : goal.push_chk-run-requires
-push_chk-run-requires c = (c.push_vars-bound.ensures.0.ready.board, c.requires.0.lent.type)
-
-pub part_line-next-requires : goal.part_line-next-requires
-part_line-next-requires c = c.requires.1
-
 pub returns : goal.returns
 returns c = let a = c.args in
     let p = c.requires.0 in
@@ -83,8 +75,8 @@ returns c = let a = c.args in
     let few : length ls ≤ most_nodes = p.lent.sheet.few in
     let next : ℕ = c.part_line-next.result in
     let b = c.part_line-body.ensures in
-    let C = c.check_pattern-o.ensures in
-    let W = c.push_vars-bound.ensures in
+    let C = c.check_pattern-bound.ensures in
+    let W = c.push_vars-named.ensures in
     let P = c.push_chk-run.ensures in
     let T : Ty = nodes_at a.t.now a.ta a.tn in
     (armed ls a.first p.within body b a.u T next c.part_line-next.ensures (body-within ls body B.1 next c.part_line-next.ensures).1 C.0 W.0 P, c.part_line-next.ensures ∙ ap (λ (i : ℕ). part_line ls i 1) b, room-arm ls a.u T a.first a.c a.w.now a.v.now a.l.now a.r.now b C.1 W.1 W.2 P.0)

@@ -1,11 +1,9 @@
-use native.Mathlib.Omega.{arith}
+use Rattle.std.proofs.Common.{arith, ◌∙◌, rules}
 use Rattle.nodes.specs.Nodes.{nodes_at}
 use Rattle.sheet.specs.Rows.{rows}
 use Rattle.operations.proofs.Then.{kept, kept-board, fresh-then, push-then}
 use Rattle.arms.proofs.Cases.{fresh-ready, tvar-ready, chk-ready}
-use mathlib.Core.Path.{◌∙◌}
 use Rattle.arms.proofs.Rooms.{room-case}
-use borrow.Author.Rules.{rules}
 use Rattle.arms.proofs.infer_case.Goals as goal
 
 pub push_tvar-c2-requires : goal.push_tvar-c2-requires

@@ -1,6 +1,4 @@
-use mathlib.Core.Path.{◌≡◌}
-use Prim.Native.Nat.{ℕ, ◌-◌}
-use lib.ListN.{length}
+use Rattle.std.proofs.Common.{ℕ}
 use Rattle.sheet.specs.Rows.{rows}
 use Rattle.judgment.specs.Rules.{push_vars}
 use Rattle.tables.specs.Rows.{bindings_at}
@@ -10,7 +8,4 @@ use Rattle.arms.proofs.Rooms.{Vars}
 use Rattle.arms.proofs.push_vars.Given as goal
 
 abbrev pub invariant-loop-i : goal.invariant-loop-i
-invariant-loop-i l = Turn {A = ℕ} (rows l.s) l.initial.board l.initial.run (λ f. push_vars (bindings_at (rows l.s) l.v 0 l.n) (f 0)) l.board l.run (Left (rows l.s) l.v l.n l.i) × (length l.board ≡ length l.initial.board) × (length l.l ≡ length l.initial.l) × Vars (rows l.s) l.v l.n l.initial.run l.initial.l l.run l.l l.i
-
-abbrev pub decreases-loop-i : goal.decreases-loop-i
-decreases-loop-i l = l.n - l.i
+invariant-loop-i l = Turn {A = ℕ} (rows l.s) l.initial.board l.initial.run (λ f. push_vars (bindings_at (rows l.s) l.v 0 l.n) (f 0)) l.board l.run (Left (rows l.s) l.v l.n l.i) × Vars (rows l.s) l.v l.n l.initial.run l.initial.l l.run l.l l.i

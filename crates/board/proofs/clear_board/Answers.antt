@@ -1,6 +1,4 @@
-use mathlib.Core.Path.{sym, ap, ◌∙◌}
-use mathlib.Core.List.{List}
-use Prim.Native.Nat.{ℕ}
+use Rattle.std.proofs.Common.{sym, ap, ◌∙◌, List, ℕ}
 use lib.Seq.{sets}
 use Rattle.board.proofs.Stacks.{cleared-words}
 use Rattle.board.proofs.clear_board.Goals as goal

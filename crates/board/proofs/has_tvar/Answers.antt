@@ -1,26 +1,18 @@
-use mathlib.Core.Path.{◌≡◌, refl, sym, ◌∙◌}
-use native.Mathlib.Omega.{arith}
-use borrow.Author.Rules.{rules}
+use Rattle.std.proofs.Common.{◌≡◌, sym, ◌∙◌, arith}
 use Rattle.board.specs.Board.{entries_of}
 use Rattle.board.proofs.Finds.{has-turn}
 use Rattle.board.proofs.has_tvar.Goals as goal
 
-pub loop-i-init : goal.loop-i-init
-loop-i-init c = (search rules, λ ls. refl)
-
 pub returns-then-is_node : goal.returns-then-is_node
 returns-then-is_node c = λ ls.
-    sym (c.loop-i.invariant.1 ls
+    sym (c.loop-i.invariant ls
     ∙ has-turn _ _ c.loop-i-test.true _ (sym c.is_node.ensures ∙ c.if-is_node.true) ls)
 
 pub loop-i-preserved : goal.loop-i-preserved
-loop-i-preserved c = (
-  search rules,
-  λ ls.
-      c.loop-i.invariant.1 ls
-      ∙ has-turn _ _ c.loop-i-test.true _ (sym c.is_node.ensures ∙ c.if-is_node.false) ls,
-)
+loop-i-preserved c = λ ls.
+    c.loop-i.invariant ls
+    ∙ has-turn _ _ c.loop-i-test.true _ (sym c.is_node.ensures ∙ c.if-is_node.false) ls
 
 pub returns : goal.returns
 unfolding entries_of
-returns c = λ ls. let z : c.loop-i.i ≡ 0 = omega arith in sym (rw z at (c.loop-i.invariant.1 ls))
+returns c = λ ls. let z : c.loop-i.i ≡ 0 = omega arith in sym (rw z at (c.loop-i.invariant ls))

@@ -1,18 +1,11 @@
-use mathlib.Core.Path.{refl}
-use native.Mathlib.Omega.{arith}
-use lib.ListN.{length-set}
-use Rattle.board.proofs.Stacks.{headed-by}
+use Rattle.std.proofs.Common.{◌+◌, ◌*◌, ◌-◌, [], ◌∷◌, refl, arith}
+use Rattle.sizes.specs.Sizes.{board_stride}
+use Rattle.nodes.proofs.Laws.{put-sets}
 use Rattle.board.proofs.lay.Goals as goal
-
-pub bounds-board-slot-2 : goal.bounds-board-slot-2
-bounds-board-slot-2 c = simp length-set (omega arith)
-
-pub bounds-board-slot-3 : goal.bounds-board-slot-3
-bounds-board-slot-3 c = simp length-set (omega arith)
-
-pub bounds-board-slot-4 : goal.bounds-board-slot-4
-bounds-board-slot-4 c = simp length-set (omega arith)
 
 pub returns : goal.returns
 returns c = let a = c.args in
-    (headed-by a.board.now a.b a.kind a.number a.ln a.rn, refl)
+    let at = board_stride * a.b.entries in
+    let room = c.requires.room in
+    let few = c.requires.few in
+    (put-sets a.board.now (a.kind ∷ a.number ∷ a.ln ∷ a.rn ∷ []) c.copy_from_slice.new.self at (at + 4 - at) (omega arith) (omega arith) c.copy_from_slice.ensures.after, refl)

@@ -1,4 +1,4 @@
-use Prim.Native.Nat.{◌+◌, ◌*◌}
+use Rattle.std.proofs.Common.{◌+◌, ◌*◌}
 use Rattle.book.proofs.Comparing.{visits_of, Going}
 use Rattle.book.proofs.+same_first_same_parts.Given as goal
 

@@ -1,4 +1,4 @@
-use mathlib.Core.Path.{sym, ◌∙◌}
+use Rattle.std.proofs.Common.{sym, ◌∙◌}
 use Rattle.book.proofs.Comparing.{first-going, apart-rooms, apart-differs, compare-is}
 use Rattle.book.proofs.compare.Goals as goal
 

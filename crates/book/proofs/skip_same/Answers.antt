@@ -1,4 +1,4 @@
-use mathlib.Core.Path.{sym, ◌∙◌}
+use Rattle.std.proofs.Common.{sym, ◌∙◌}
 use Rattle.book.proofs.Comparing.{alike-rooms, next-asks, first-skip, last-skip, skip-less, next-skip}
 use Rattle.book.proofs.skip_same.Goals as goal
 

@@ -1,6 +1,4 @@
-use mathlib.Core.Path.{refl, ◌∙◌}
-use native.Mathlib.Omega.{arith}
-use lib.ListN.{length-set}
+use Rattle.std.proofs.Common.{refl, ◌∙◌, arith, length-set}
 use Rattle.book.proofs.Holdings.{solve-words}
 use Rattle.book.proofs.solve.Goals as goal
 

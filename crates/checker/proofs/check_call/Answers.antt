@@ -38,18 +38,18 @@ run_front-requires c = let a = c.args in
     let B : Buffers = record { board = a.board.now; book = a.book.now; report = a.report.now } in
     let l = c.if-ceiling-gt-HIGHEST_CEILING.false in
     let h : a.ceiling ≤ highest_ceiling = omega arith in
-    front-asks (mode_of a.strict) a.sheet.now a.ceiling a.limit B h c.limit_bad.ensures c.if-limit_bad.false c.too_short.ensures c.if-too_short.false (sym c.length_ok.ensures ∙ c.if-length_ok.true)
-
-pub returns-then-length_ok : goal.returns-then-length_ok
-returns-then-length_ok c = let a = c.args in
-    let B : Buffers = record { board = a.board.now; book = a.book.now; report = a.report.now } in
-    let l = c.if-ceiling-gt-HIGHEST_CEILING.false in
-    let h : a.ceiling ≤ highest_ceiling = omega arith in
-    answered (mode_of a.strict) a.sheet.now a.ceiling a.limit B h c.limit_bad.ensures c.if-limit_bad.false c.too_short.ensures c.if-too_short.false c.run_front.ensures
+    front-asks (mode_of a.strict) a.sheet.now a.ceiling a.limit B h c.limit_bad.ensures c.if-limit_bad.false c.too_short.ensures c.if-too_short.false (sym c.length_ok.ensures ∙ c.if-not-length_ok.false)
 
 pub returns : goal.returns
 returns c = let a = c.args in
     let B : Buffers = record { board = a.board.now; book = a.book.now; report = a.report.now } in
     let l = c.if-ceiling-gt-HIGHEST_CEILING.false in
     let h : a.ceiling ≤ highest_ceiling = omega arith in
-    bad-length (mode_of a.strict) a.sheet.now a.ceiling a.limit B h c.limit_bad.ensures c.if-limit_bad.false c.too_short.ensures c.if-too_short.false c.length_ok.ensures c.if-length_ok.false c.refused-2.ensures
+    answered (mode_of a.strict) a.sheet.now a.ceiling a.limit B h c.limit_bad.ensures c.if-limit_bad.false c.too_short.ensures c.if-too_short.false c.run_front.ensures
+
+pub returns-then-not-length_ok : goal.returns-then-not-length_ok
+returns-then-not-length_ok c = let a = c.args in
+    let B : Buffers = record { board = a.board.now; book = a.book.now; report = a.report.now } in
+    let l = c.if-ceiling-gt-HIGHEST_CEILING.false in
+    let h : a.ceiling ≤ highest_ceiling = omega arith in
+    bad-length (mode_of a.strict) a.sheet.now a.ceiling a.limit B h c.limit_bad.ensures c.if-limit_bad.false c.too_short.ensures c.if-too_short.false c.length_ok.ensures c.if-not-length_ok.true c.refused-then-not-length_ok.ensures

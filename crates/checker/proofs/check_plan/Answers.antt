@@ -48,4 +48,4 @@ returns c = let p = c.requires in
     let lk = c.solve-o.auto.book ∙ c.start-c.auto.book ∙ p.book in
     let lr = c.solve-o.auto.report ∙ p.report in
     let so = c.solve-o.ensures in
-    ran (mode_of a.strict) a.s.now a.ceiling a.limit _ c.solve-o.result (so.0, start-told (limits_for (mode_of a.strict) a.limit) a.s.now _ _ _ a.ceiling c.start-c.ensures ∙ so.1) lk c.write_levels.ensures lr (whole-board _ _ lb c.clear_board.ensures) refl c.report_end-end.ensures c.clear_words.ensures c.is_plain.ensures c.answer.ensures
+    ran (mode_of a.call.strict) a.s.now a.call.ceiling a.call.limit _ c.solve-o.result (so.0, start-told (limits_for (mode_of a.call.strict) a.call.limit) a.s.now _ _ _ a.call.ceiling c.start-c.ensures ∙ so.1) lk c.write_levels.ensures lr (whole-board _ _ lb c.clear_board.ensures) refl c.report_end-end.ensures c.clear_words.ensures c.is_plain.ensures c.answer.ensures

@@ -21,20 +21,20 @@ slice_bounds-run_plan-end-3 c = c.requires.book
 pub slice_bounds-run_plan-end-4 : goal.slice_bounds-run_plan-end-4
 slice_bounds-run_plan-end-4 c = sym (length-take-le book_size c.args.book.now c.requires.book)
 
-pub overflow_mul-limit : goal.overflow_mul-limit
-overflow_mul-limit c = let x = c.requires.limited in search rules
+pub overflow_mul-call : goal.overflow_mul-call
+overflow_mul-call c = let x = c.requires.limited in search rules
 
 pub slice_bounds-run_plan-end-5 : goal.slice_bounds-run_plan-end-5
 slice_bounds-run_plan-end-5 c = c.requires.report
 
 pub slice_bounds-run_plan-end-6 : goal.slice_bounds-run_plan-end-6
-slice_bounds-run_plan-end-6 c = sym (length-take-le (report_stride * c.args.limit) c.args.report.now c.requires.report)
+slice_bounds-run_plan-end-6 c = sym (length-take-le (report_stride * c.args.call.limit) c.args.report.now c.requires.report)
 
 pub run_plan-requires : goal.run_plan-requires
 run_plan-requires c = let p = c.requires in
-    record { sized = p.sized; limited = p.limited; board = length-take-le board_size c.args.board.now p.board; book = length-take-le book_size c.args.book.now p.book; report = length-take-le (report_stride * c.args.limit) c.args.report.now p.report }
+    record { sized = p.sized; limited = p.limited; board = length-take-le board_size c.args.board.now p.board; book = length-take-le book_size c.args.book.now p.book; report = length-take-le (report_stride * c.args.call.limit) c.args.report.now p.report }
 
 pub returns : goal.returns
 returns c = let a = c.args in
     let q = c.run_plan in
-    fronts c.requires (judge (limits_for (mode_of a.strict) a.limit) a.ceiling (triples a.s.now)) q.new.board q.new.book q.new.report q.result q.ensures
+    fronts c.requires (judge (limits_for (mode_of a.call.strict) a.call.limit) a.call.ceiling (triples a.s.now)) q.new.board q.new.book q.new.report q.result q.ensures

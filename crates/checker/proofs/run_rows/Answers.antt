@@ -12,7 +12,7 @@ read_plan-requires c = (c.requires.rows, c.requires.run.sized)
 
 pub returns-then-not-read_plan : goal.returns-then-not-read_plan
 returns-then-not-read_plan c = let a = c.args in
-    not-run a.limit (judge (limits_for (mode_of a.strict) a.limit) a.ceiling (triples a.s.now)) a.s.now a.board.now a.book.now a.report.now c.read_plan.ensures.0 (c.if-not-read_plan.true) c.no_plan.ensures
+    not-run a.call.limit (judge (limits_for (mode_of a.call.strict) a.call.limit) a.call.ceiling (triples a.s.now)) a.s.now a.board.now a.book.now a.report.now c.read_plan.ensures.0 (c.if-not-read_plan.true) c.no_plan.ensures
 
 pub run_read-requires : goal.run_read-requires
 run_read-requires c = let s = c.args.s.now in
@@ -24,4 +24,4 @@ pub returns : goal.returns
 returns c = let a = c.args in
     let q = c.read_plan.ensures in
     let e = c.if-not-read_plan.false in
-    was-run a.limit (judge (limits_for (mode_of a.strict) a.limit) a.ceiling (triples a.s.now)) a.s.now a.board.now a.book.now a.report.now q.0 e (ran-as (mode_of a.strict) a.ceiling a.limit (q.2 e).0 c.run_read.ensures)
+    was-run a.call.limit (judge (limits_for (mode_of a.call.strict) a.call.limit) a.call.ceiling (triples a.s.now)) a.s.now a.board.now a.book.now a.report.now q.0 e (ran-as (mode_of a.call.strict) a.call.ceiling a.call.limit (q.2 e).0 c.run_read.ensures)

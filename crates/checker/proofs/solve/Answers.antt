@@ -3,14 +3,14 @@ use native.Mathlib.Omega.{arith}
 use Rattle.checker.proofs.Ending.{loop-start, more-facts, loop-turn, loop-end}
 use Rattle.checker.proofs.solve.Goals as goal
 
-pub loop-board-init : goal.loop-board-init
-loop-board-init c = (loop-start c.args.ceiling c.requires.0 c.requires.1, refl, refl, refl, refl, refl, refl, refl, refl)
+pub loop-call-init : goal.loop-call-init
+loop-call-init c = (loop-start c.args.call.ceiling c.requires.0 c.requires.1, refl, refl, refl, refl, refl, refl, refl, refl)
 
 pub solve_step-run-requires : goal.solve_step-run-requires
-solve_step-run-requires c = let L = c.loop-board in
+solve_step-run-requires c = let L = c.loop-call in
     let h = L.invariant in
     let p = c.requires in
-    let f = more-facts L.run c.args.ceiling (sym c.takes_more.ensures ∙ c.loop-board-test.true) in
+    let f = more-facts L.run c.args.call.ceiling (sym c.takes_more.ensures ∙ c.loop-call-test.true) in
     let x = p.3 in
     let q = p.4 in
     let y = q.type in
@@ -21,7 +21,7 @@ solve_step-run-requires c = let L = c.loop-board in
       standing = h.0.standing;
       goes = f.0;
       more = f.1;
-      counts = let u = c.ranges.ceiling in omega arith;
+      counts = let u = c.args.call.ceiling_fits in omega arith;
       limit = p.2;
       report = omega arith;
       lent = record {
@@ -36,23 +36,23 @@ solve_step-run-requires c = let L = c.loop-board in
       };
     }
 
-pub loop-board-smaller : goal.loop-board-smaller
-loop-board-smaller c = let L = c.loop-board in
+pub loop-call-smaller : goal.loop-call-smaller
+loop-call-smaller c = let L = c.loop-call in
     let h = L.invariant in
     let p = c.requires in
-    let f = more-facts L.run c.args.ceiling (sym c.takes_more.ensures ∙ c.loop-board-test.true) in
+    let f = more-facts L.run c.args.call.ceiling (sym c.takes_more.ensures ∙ c.loop-call-test.true) in
     let m = f.2 in
     let e = c.solve_step-run.ensures.taken in
     omega arith
 
-pub loop-board-preserved : goal.loop-board-preserved
-loop-board-preserved c = let L = c.loop-board in
+pub loop-call-preserved : goal.loop-call-preserved
+loop-call-preserved c = let L = c.loop-call in
     let h = L.invariant in
     let p = c.requires in
-    let f = more-facts L.run c.args.ceiling (sym c.takes_more.ensures ∙ c.loop-board-test.true) in
+    let f = more-facts L.run c.args.call.ceiling (sym c.takes_more.ensures ∙ c.loop-call-test.true) in
     let K = c.solve_step-run.auto in
     (loop-turn f h.0 c.solve_step-run.ensures, K.board ∙ h.1, K.book ∙ h.2, K.report ∙ h.3, K.t ∙ h.4, K.l ∙ h.5, K.r ∙ h.6, K.w ∙ h.7, K.v ∙ h.8)
 
 pub returns : goal.returns
-returns c = let L = c.loop-board in
-    (L.invariant.0.standing.formed, loop-end L.invariant.0 (sym c.takes_more.ensures ∙ c.loop-board-test.false))
+returns c = let L = c.loop-call in
+    (L.invariant.0.standing.formed, loop-end L.invariant.0 (sym c.takes_more.ensures ∙ c.loop-call-test.false))

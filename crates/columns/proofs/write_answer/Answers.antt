@@ -1,38 +1,28 @@
-use Rattle.columns.proofs.Laws.{answer-length, answer-written}
-use borrow.Author.Rules.{rules}
+use Rattle.std.proofs.Common.{◌∙◌, ap, arith, rules, length}
+use Rattle.columns.specs.Columns.{answer_text}
+use Rattle.columns.proofs.Laws.{columns_done, columns-length, columns-turn}
 use Rattle.columns.proofs.write_answer.Goals as goal
 
-pub write_column-line-requires : goal.write_column-line-requires
-write_column-line-requires c = let h = answer-length c.args.a in
-    search rules
-
-pub write_column-taken-requires : goal.write_column-taken-requires
-write_column-taken-requires c = let h = answer-length c.args.a in
-    search rules
-
-pub write_column-fresh-requires : goal.write_column-fresh-requires
-write_column-fresh-requires c = let h = answer-length c.args.a in
-    search rules
-
-pub write_column-detail1-requires : goal.write_column-detail1-requires
-write_column-detail1-requires c = let h = answer-length c.args.a in
-    search rules
-
-pub write_column-detail2-requires : goal.write_column-detail2-requires
-write_column-detail2-requires c = let h = answer-length c.args.a in
-    search rules
-
-pub write_column-plain-requires : goal.write_column-plain-requires
-write_column-plain-requires c = let h = answer-length c.args.a in
-    search rules
+pub loop-n-init : goal.loop-n-init
+unfolding answer_text
+loop-n-init c = rw c.numbers-n-items.ensures (search rules)
 
 pub write_column-end-requires : goal.write_column-end-requires
-write_column-end-requires c = let h = answer-length c.args.a in
-    search rules
+write_column-end-requires c = let h = columns-length c.numbers-n-items.result c.loop-n.n-index (search rules) in
+    omega arith
+
+pub loop-n-preserved : goal.loop-n-preserved
+loop-n-preserved c =
+    let h = columns-length c.numbers-n-items.result c.loop-n.n-index (search rules) in
+    record {
+      text = columns-turn c.numbers-n-items.result c.loop-n.n-index (search rules) c.write_column-end.ensures ∙ c.loop-n.invariant.text;
+      bytes = let e = c.write_column-end.ensures.next in omega arith;
+    }
 
 pub bounds-out-end : goal.bounds-out-end
-bounds-out-end c = let h = answer-length c.args.a in
-    search rules
+bounds-out-end c = let h = ap length (columns_done c.numbers-n-items.result c.loop-n.n-index (search rules)) in
+    omega arith
 
 pub returns : goal.returns
-returns c = answer-written c.args.a c.write_column-line.ensures c.write_column-taken.ensures c.write_column-fresh.ensures c.write_column-detail1.ensures c.write_column-detail2.ensures c.write_column-plain.ensures c.write_column-end.ensures
+returns c = let e = columns_done c.numbers-n-items.result c.loop-n.n-index (search rules) in
+    (rw e at c.loop-n.invariant.text, rw e at c.loop-n.invariant.bytes)

@@ -1,12 +1,8 @@
-use mathlib.Core.Path.{◌≡◌}
-use Prim.Native.Nat.{◌≤◌}
-use lib.ListN.{length}
-use lib.Seq.{sets}
+use Rattle.std.proofs.Common.{◌≡◌}
+use Rattle.std.proofs.lemmas.List.Edits.{sets}
 use Rattle.spelling.specs.Text.{field_text}
 use Rattle.columns.proofs.write_field.Given as goal
 
+-- what is left to write is what was to be written
 abbrev pub invariant-loop-i : goal.invariant-loop-i
-invariant-loop-i l = (l.i ≤ l.w) × (length l.out ≡ length l.initial.out) × (sets l.out l.at (field_text l.i l.rest) ≡ sets l.initial.out l.at (field_text l.w l.initial.rest))
-
-abbrev pub decreases-loop-i : goal.decreases-loop-i
-decreases-loop-i l = l.i
+invariant-loop-i l = sets l.out l.at (field_text l.i l.rest) ≡ sets l.initial.out l.at (field_text l.w l.initial.rest)

@@ -1,8 +1,5 @@
-use mathlib.Core.Path.{◌≡◌, sym, ap, ◌∙◌}
-use Prim.Native.Nat.{◌+◌, ◌-◌}
-use native.Mathlib.Omega.{arith}
-use lib.ListN.{length, take, drop}
-use lib.Seq.{sets}
+use Rattle.std.proofs.Common.{sym, ap, ◌∙◌, arith, ◌≡◌, ◌+◌, ◌-◌, length, take, drop}
+use Rattle.std.proofs.lemmas.List.Edits.{sets}
 use Rattle.nodes.specs.Nodes.{Ty, words, nodes_at}
 use Rattle.sheet.specs.Plan.{nodes_of}
 use Rattle.sheet.specs.Rows.{rows}
@@ -13,11 +10,11 @@ use Rattle.constructors.proofs.Openings.{names-few, part-narrow, all-opened, len
 use Rattle.constructors.proofs.infer_constructor.Goals as goal
 
 pub overflow_sub-left : goal.overflow_sub-left
-overflow_sub-left c = let a = c.args in names-few a.s.now a.first a.n c.requires.0.lines c.instantiate_constructor_type-o.ensures.names
+overflow_sub-left c = let a = c.args in names-few a.s.now a.first a.n c.requires.0.lines c.instantiate_constructor_type-names.ensures.names
 
 pub overflow_add-first : goal.overflow_add-first
 overflow_add-first c = let a = c.args in
-    let f = names-few a.s.now a.first a.n c.requires.0.lines c.instantiate_constructor_type-o.ensures.names in
+    let f = names-few a.s.now a.first a.n c.requires.0.lines c.instantiate_constructor_type-names.ensures.names in
     let h = c.requires.0.lines in
     let m = length-rows a.s.now in
     omega arith
@@ -26,15 +23,15 @@ pub apply_type_substitutions-requires : goal.apply_type_substitutions-requires
 apply_type_substitutions-requires c = let a = c.args in
     let p = c.requires in
     let h = p.0.lines in
-    let f = names-few a.s.now a.first a.n h c.instantiate_constructor_type-o.ensures.names in
+    let f = names-few a.s.now a.first a.n h c.instantiate_constructor_type-names.ensures.names in
     let r = p.2 in
-    (omega arith, p.0.numbers, omega arith, part-narrow (rows a.s.now) a.first a.n p.0.narrow c.instantiate_constructor_type-o.result.names (a.n - c.instantiate_constructor_type-o.result.names) (omega arith))
+    (omega arith, p.0.numbers, omega arith, part-narrow (rows a.s.now) a.first a.n p.0.narrow c.instantiate_constructor_type-names.result.names (a.n - c.instantiate_constructor_type-names.result.names) (omega arith))
 
 pub returns : goal.returns
 returns c = let a = c.args in
     let p = c.requires in
-    let O = c.instantiate_constructor_type-o.ensures in
-    let q = c.instantiate_constructor_type-o.result.names in
+    let O = c.instantiate_constructor_type-names.ensures in
+    let q = c.instantiate_constructor_type-names.result.names in
     let d = a.s.now in
     let T : Ty = nodes_of (take a.n (drop a.first (rows d))) in
     let e : open_lines d a.c.counters.fresh (a.first + q) (a.n - q) ≡ opened_of T a.c.counters.fresh = all-opened d a.first a.n p.0.lines p.1 a.c.counters.fresh O.names in

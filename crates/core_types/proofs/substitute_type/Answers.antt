@@ -1,6 +1,4 @@
-use mathlib.Core.Path.{refl, sym, ◌∙◌}
-use Prim.Native.Nat.{◌+◌, ◌*◌, ◌-◌}
-use native.Mathlib.Omega.{arith}
+use Rattle.std.proofs.Common.{refl, sym, ◌∙◌, ◌+◌, ◌*◌, ◌-◌, arith}
 use Rattle.nodes.specs.Nodes.{node}
 use Rattle.core_types.specs.Walk.{substituting}
 use Rattle.judgment.specs.Types.{substitute}

@@ -1,6 +1,4 @@
-use mathlib.Core.Path.{◌≡◌}
-use Prim.Native.Nat.{◌-◌}
-use lib.ListN.{length}
+use Rattle.std.proofs.Common.{◌≡◌, ◌-◌, length}
 use Rattle.nodes.specs.Nodes.{node}
 use Rattle.core_types.proofs.Walks.{Walked}
 use Rattle.core_types.proofs.substitute_type.Given as goal

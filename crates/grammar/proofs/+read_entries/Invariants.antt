@@ -1,5 +1,4 @@
-use Prim.Native.Nat.{◌-◌, ◌/◌}
-use lib.ListN.{length}
+use Rattle.std.proofs.Common.{◌-◌, ◌/◌, length}
 use Rattle.sizes.specs.Sizes.{line_length}
 use Rattle.grammar.proofs.+read_entries.Given as goal
 

@@ -1,6 +1,6 @@
 use Rattle.operations.proofs.Then.{push-then}
 use Rattle.inference.proofs.Keeps.{sub-keeps}
-use borrow.Author.Rules.{rules}
+use Rattle.std.proofs.Common.{rules}
 use Rattle.inference.proofs.apply_arrow.Goals as goal
 
 pub push_chk-requires : goal.push_chk-requires

@@ -1,4 +1,4 @@
-use mathlib.Core.Path.{ap₂}
+use Rattle.std.proofs.Common.{ap₂}
 use Rattle.nodes.specs.Nodes.{Ty, node}
 use Rattle.judgment.specs.Board.{push, done, inf_app}
 use Rattle.board.specs.Board.{term_at}

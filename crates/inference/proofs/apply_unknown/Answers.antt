@@ -1,14 +1,7 @@
-use mathlib.Core.Path.{◌∙◌}
-use mathlib.Core.List.{[]}
-use native.Mathlib.Nat.{le_trans}
-use native.Mathlib.Omega.{arith}
+use Rattle.std.proofs.Common.{◌∙◌, [], le_trans, arith, rules}
 use Rattle.nodes.specs.Nodes.{nodes_at}
 use Rattle.operations.proofs.Then.{push-then, solve-then, fresh-then, any_way, kept-board, kept-book, kept-solved, alive, grows, fresh-made, fresh-sols, pair-solves, solve-asks}
-use borrow.Author.Rules.{rules}
 use Rattle.inference.proofs.apply_unknown.Goals as goal
-
-pub fresh_part-c1-requires : goal.fresh_part-c1-requires
-fresh_part-c1-requires c = (c.requires.0.book, le_trans c.requires.1.0 c.requires.0.numbers)
 
 pub fresh_part-c2-requires : goal.fresh_part-c2-requires
 fresh_part-c2-requires c = ((kept-book c.fresh_part-c1.ensures.2 c.requires.0).book, le_trans c.requires.1.0 c.requires.0.numbers)

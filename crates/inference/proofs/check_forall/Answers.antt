@@ -1,15 +1,10 @@
-use native.Mathlib.Omega.{arith}
-use mathlib.Core.Path.{ap}
+use Rattle.std.proofs.Common.{ap, rules}
 use Rattle.nodes.specs.Nodes.{Ty, node}
 use Rattle.judgment.specs.Board.{push, done, chk}
 use Rattle.board.specs.Board.{term_at}
 use Rattle.core_types.proofs.Walks.{substituted}
 use Rattle.operations.proofs.Then.{push-then, fresh-then, does-as, kept-board, kept-book}
-use borrow.Author.Rules.{rules}
 use Rattle.inference.proofs.check_forall.Goals as goal
-
-pub push_tvar-c2-requires : goal.push_tvar-c2-requires
-push_tvar-c2-requires c = ((kept-book c.fresh_universal-c1.ensures.2 c.requires.0).board, omega arith)
 
 pub push_chk-requires : goal.push_chk-requires
 push_chk-requires c = ((kept-board c.push_tvar-c2.ensures.2 (kept-book c.fresh_universal-c1.ensures.2 c.requires.0)).board, search rules)

@@ -1,12 +1,10 @@
-use lib.ListN.{length}
-use mathlib.Core.Path.{◌≡◌}
+use Rattle.std.proofs.Common.{length, ◌≡◌, rules}
 use Rattle.nodes.specs.Nodes.{Ty}
 use Rattle.sheet.specs.Rows.{rows}
 use Rattle.operations.proofs.Then.{push-then, does-as}
 use Rattle.inference.specs.Inference.{type_on}
 use Rattle.inference.proofs.Keeps.{sub-keeps, var-keeps}
 use Rattle.inference.proofs.Written.{length-type_on, copied}
-use borrow.Author.Rules.{rules}
 use Rattle.inference.proofs.check_lambda.Goals as goal
 
 pub push_var-c2-requires : goal.push_var-c2-requires

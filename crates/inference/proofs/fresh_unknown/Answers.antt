@@ -1,4 +1,4 @@
-use native.Mathlib.Omega.{arith}
+use Rattle.std.proofs.Common.{arith}
 use Rattle.operations.proofs.Then.{fresh-then}
 use Rattle.inference.proofs.Keeps.{fresh_keeps, tvar-keeps}
 use Rattle.inference.proofs.fresh_unknown.Goals as goal

@@ -1,7 +1,7 @@
 use Rattle.nodes.specs.Nodes.{nodes_at}
 use Rattle.operations.proofs.Then.{push-then}
 use Rattle.inference.proofs.Keeps.{unknown-then, app-keeps}
-use borrow.Author.Rules.{rules}
+use Rattle.std.proofs.Common.{rules}
 use Rattle.inference.proofs.infer_apply.Goals as goal
 
 pub push_inf-requires : goal.push_inf-requires

@@ -1,7 +1,7 @@
 use Rattle.nodes.specs.Nodes.{nodes_at}
 use Rattle.operations.proofs.Then.{push-then}
 use Rattle.inference.proofs.Keeps.{chk-keeps}
-use borrow.Author.Rules.{rules}
+use Rattle.std.proofs.Common.{rules}
 use Rattle.inference.proofs.infer_if.Goals as goal
 
 pub push_chk-c2-requires : goal.push_chk-c2-requires

@@ -1,9 +1,7 @@
-use mathlib.Core.Path.{refl}
-use borrow.Author.Tests.{eq-eqb, ne_eqb}
+use Rattle.std.proofs.Common.{refl, eq-eqb, ne_eqb, rules}
 use Rattle.nodes.specs.Nodes.{nodes_at}
 use Rattle.operations.proofs.Then.{push-then, does-as}
 use Rattle.inference.proofs.Keeps.{chk-keeps}
-use borrow.Author.Rules.{rules}
 use Rattle.inference.proofs.infer_intrinsic.Goals as goal
 
 pub returns-then-name-ne4 : goal.returns-then-name-ne4

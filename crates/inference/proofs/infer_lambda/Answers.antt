@@ -1,7 +1,4 @@
-use mathlib.Core.Path.{◌≡◌}
-use native.Mathlib.Omega.{arith}
-use Prim.Native.Nat.{ℕ, ◌+◌, ◌*◌, ◌≤◌}
-use lib.ListN.{length}
+use Rattle.std.proofs.Common.{◌≡◌, arith, ℕ, ◌+◌, ◌*◌, ◌≤◌, length}
 use Rattle.nodes.specs.Nodes.{Ty}
 use Rattle.sheet.specs.Rows.{rows}
 use Rattle.operations.proofs.Then.{push-then, does-as}

@@ -1,8 +1,7 @@
-use native.Mathlib.Omega.{arith}
+use Rattle.std.proofs.Common.{arith, rules}
 use Rattle.nodes.specs.Nodes.{nodes_at}
 use Rattle.operations.proofs.Then.{push-then}
 use Rattle.inference.proofs.Keeps.{unknown-then, sub-keeps, tvar-keeps}
-use borrow.Author.Rules.{rules}
 use Rattle.inference.proofs.infer_type_lambda.Goals as goal
 
 pub push_tvar-c3-requires : goal.push_tvar-c3-requires

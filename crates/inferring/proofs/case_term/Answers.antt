@@ -1,4 +1,4 @@
-use mathlib.Core.Path.{refl, ap, ◌∙◌}
+use Rattle.std.proofs.Common.{refl, ap, ◌∙◌}
 use Rattle.spelling.specs.declared.Triple.{Triple}
 use Rattle.inferring.proofs.Views.{ruled, case-rule, term_asks, case-asks}
 use Rattle.nodes.specs.Nodes.{nodes_at}

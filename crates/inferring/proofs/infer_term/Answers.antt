@@ -1,54 +1,76 @@
-use mathlib.Core.Path.{refl, ap}
-use native.Mathlib.Omega.{arith}
+use Rattle.std.proofs.Common.{refl, ap, ◌∙◌, arith}
 use Rattle.spelling.specs.declared.Triple.{Triple}
 use Rattle.sheet.specs.Rows.{rows}
 use Rattle.applying.specs.Applying.{env_on}
 use Rattle.inferring.proofs.Views.{viewed, lit-view, kinds, term_asks}
+use Rattle.inferring.proofs.Cases.{case-here}
 use Rattle.inferring.specs.Rooms.{scratch}
 use Rattle.inferring.proofs.Rooms.{of-kind, of_left}
 use Rattle.inferring.proofs.infer_term.Goals as goal
 
-pub variable_term-requires : goal.variable_term-requires
-variable_term-requires c = (term_asks c.requires.0 c.triple_at-kind.ensures c.if-kind-eq21.true, c.requires.0.left, c.requires.0.vars)
-
-pub infer_lit_int-requires : goal.infer_lit_int-requires
-infer_lit_int-requires c = (c.requires.0.ready.board, c.requires.0.within, c.requires.0.formed)
-
-pub returns-then-kind-eq22 : goal.returns-then-kind-eq22
-returns-then-kind-eq22 c = let p = term_asks c.requires.0 c.triple_at-kind.ensures c.if-kind-eq22.true in
+pub returns-in-22 : goal.returns-in-22
+returns-in-22 c = let p = term_asks c.requires.0 c.triple_at.ensures c.in-22.is in
     let s = c.args.s.now in
     let a = c.args in
     (viewed p (lit-view p refl) (λ m. c.infer_lit_int.ensures (env_on s) m (rows s)), of-kind p (scratch a.l.now a.r.now a.w.now a.v.now))
 
-pub lambda_term-requires : goal.lambda_term-requires
-lambda_term-requires c = (term_asks c.requires.0 c.triple_at-kind.ensures c.if-kind-eq23.true, c.requires.0.left)
-
-pub apply_term-requires : goal.apply_term-requires
-apply_term-requires c = term_asks c.requires.0 c.triple_at-kind.ensures c.if-kind-eq24.true
-
-pub infer_other-requires : goal.infer_other-requires
-infer_other-requires c = let k = (kinds c.requires.0).0 in
-    let e = ap (λ (t : Triple). t.kind) c.triple_at-kind.ensures in
-    let f1 = c.if-kind-eq21.false in
-    let f2 = c.if-kind-eq22.false in
-    let f3 = c.if-kind-eq23.false in
-    let f4 = c.if-kind-eq24.false in
-    (c.requires.0, c.requires.1, omega arith)
-
-pub returns-then-kind-eq21 : goal.returns-then-kind-eq21
-returns-then-kind-eq21 c = let a = c.args in
-    let p = term_asks c.requires.0 c.triple_at-kind.ensures c.if-kind-eq21.true in
+pub returns-in-21 : goal.returns-in-21
+returns-in-21 c = let a = c.args in
+    let p = term_asks c.requires.0 c.triple_at.ensures c.in-21.is in
     let I = c.variable_term.ensures in
     (I.0, of_left p a.l.now a.r.now a.w.now a.v.now I.1 refl)
 
-pub returns-then-kind-eq23 : goal.returns-then-kind-eq23
-returns-then-kind-eq23 c = let a = c.args in
-    let p = term_asks c.requires.0 c.triple_at-kind.ensures c.if-kind-eq23.true in
+pub returns-in-23 : goal.returns-in-23
+returns-in-23 c = let a = c.args in
+    let p = term_asks c.requires.0 c.triple_at.ensures c.in-23.is in
     let I = c.lambda_term.ensures in
     (I.0, of_left p a.l.now a.r.now a.w.now a.v.now I.1 refl)
 
-pub returns-then-kind-eq24 : goal.returns-then-kind-eq24
-returns-then-kind-eq24 c = let a = c.args in
-    let p = term_asks c.requires.0 c.triple_at-kind.ensures c.if-kind-eq24.true in
+pub returns-in-24 : goal.returns-in-24
+returns-in-24 c = let a = c.args in
+    let p = term_asks c.requires.0 c.triple_at.ensures c.in-24.is in
     let I = c.apply_term.ensures in
+    (I, of-kind p (scratch a.l.now a.r.now a.w.now a.v.now))
+
+pub case_term-requires : goal.case_term-requires
+case_term-requires c = let e = (term_asks c.requires.0 c.triple_at.ensures c.in-27.is).kind in
+    (c.requires.0, c.requires.1 (case-here (rows c.args.s.now) c.args.at e), e)
+
+pub intrinsic_term-requires : goal.intrinsic_term-requires
+intrinsic_term-requires c = term_asks c.requires.0 {K = 30} c.triple_at.ensures (let k = kinds c.requires.0 in let e = ap (λ (t : Triple). t.kind) c.triple_at.ensures in omega arith)
+
+pub returns-in-25 : goal.returns-in-25
+returns-in-25 c = let a = c.args in
+    let p = term_asks c.requires.0 c.triple_at.ensures c.in-25.is in
+    let I = c.type_lambda_term.ensures in
+    (I, of-kind p (scratch a.l.now a.r.now a.w.now a.v.now))
+
+pub returns-in-26 : goal.returns-in-26
+returns-in-26 c = let a = c.args in
+    let p = term_asks c.requires.0 c.triple_at.ensures c.in-26.is in
+    let I = c.constructor_term.ensures in
+    (I.0, of_left p a.l.now a.r.now a.w.now a.v.now I.1 refl)
+
+pub returns-in-27 : goal.returns-in-27
+returns-in-27 c = let a = c.args in
+    let p = term_asks c.requires.0 c.triple_at.ensures c.in-27.is in
+    let I = c.case_term.ensures in
+    (I.0, I.1 ∙ of-kind p (scratch a.l.now a.r.now a.w.now a.v.now))
+
+pub returns-in-28 : goal.returns-in-28
+returns-in-28 c = let a = c.args in
+    let p = term_asks c.requires.0 c.triple_at.ensures c.in-28.is in
+    let I = c.bin_op_term.ensures in
+    (I, of-kind p (scratch a.l.now a.r.now a.w.now a.v.now))
+
+pub returns-in-29 : goal.returns-in-29
+returns-in-29 c = let a = c.args in
+    let p = term_asks c.requires.0 c.triple_at.ensures c.in-29.is in
+    let I = c.if_term.ensures in
+    (I, of-kind p (scratch a.l.now a.r.now a.w.now a.v.now))
+
+pub returns-in_default : goal.returns-in_default
+returns-in_default c = let a = c.args in
+    let p = term_asks c.requires.0 {K = 30} c.triple_at.ensures (let k = kinds c.requires.0 in let e = ap (λ (t : Triple). t.kind) c.triple_at.ensures in omega arith) in
+    let I = c.intrinsic_term.ensures in
     (I, of-kind p (scratch a.l.now a.r.now a.w.now a.v.now))

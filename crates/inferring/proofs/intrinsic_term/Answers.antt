@@ -1,12 +1,9 @@
-use mathlib.Core.Path.{refl, ap}
-use Prim.Native.Nat.{◌<◌}
-use native.Mathlib.Omega.{arith}
+use Rattle.std.proofs.Common.{refl, ap, ◌<◌, arith, rules}
 use Rattle.spelling.specs.declared.Triple.{Triple}
 use Rattle.sheet.specs.Rows.{rows}
 use Rattle.sheet.proofs.RowLaws.{row_count}
 use Rattle.applying.specs.Applying.{env_on}
 use Rattle.inferring.proofs.Views.{ruled, value-fits, intrinsic-rule}
-use borrow.Author.Rules.{rules}
 use Rattle.inferring.proofs.intrinsic_term.Goals as goal
 
 pub value_at-name-requires : goal.value_at-name-requires

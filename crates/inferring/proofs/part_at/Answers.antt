@@ -1,8 +1,6 @@
-use native.Mathlib.Omega.{arith}
-use Prim.Native.Nat.{◌+◌, ◌<◌}
+use Rattle.std.proofs.Common.{arith, ◌+◌, ◌<◌, rules}
 use Rattle.sheet.specs.Rows.{rows}
 use Rattle.inference.proofs.Heads.{part-within}
-use borrow.Author.Rules.{rules}
 use Rattle.inferring.proofs.part_at.Goals as goal
 
 pub overflow_cast-result : goal.overflow_cast-result

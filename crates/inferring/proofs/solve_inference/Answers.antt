@@ -1,5 +1,4 @@
-use mathlib.Core.Path.{ap, ◌∙◌}
-use Prim.Native.Nat.{ℕ}
+use Rattle.std.proofs.Common.{ap, ◌∙◌, ℕ}
 use Rattle.nodes.specs.Nodes.{nodes_at}
 use Rattle.sheet.specs.Rows.{rows}
 use Rattle.judgment.specs.Terms.{term_view}
@@ -9,9 +8,6 @@ use Rattle.operations.proofs.Then.{does-as}
 use Rattle.applying.specs.Applying.{env_on}
 use Rattle.inferring.specs.Rooms.{Scratch, scratch, infer_scratch}
 use Rattle.inferring.proofs.solve_inference.Goals as goal
-
-pub infer_term-requires : goal.infer_term-requires
-infer_term-requires c = rw c.wide.ensures c.requires
 
 pub returns : goal.returns
 returns c = let a = c.args in

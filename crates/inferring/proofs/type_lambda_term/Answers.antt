@@ -1,4 +1,4 @@
-use mathlib.Core.Path.{refl}
+use Rattle.std.proofs.Common.{refl}
 use Rattle.sheet.specs.Rows.{rows}
 use Rattle.applying.specs.Applying.{env_on}
 use Rattle.inferring.proofs.Views.{viewed, value-fits, type-lambda-view}

@@ -1,11 +1,11 @@
-use mathlib.Core.Path.{sym}
-use Rattle.kinds.specs.Kinds.{row_of, table}
-use Rattle.kinds.proofs.Rows.{above}
+use Rattle.std.proofs.Common.{◌≡◌, get_or, arith, ap, ◌∙◌}
+use Rattle.std.proofs.lemmas.Grind.{common_steps}
+use Rattle.std.proofs.lemmas.Option.{gets}
+use Rattle.kinds.specs.Kinds.{row_in}
+use Rattle.kinds.proofs.Rows.{row-read}
 use Rattle.kinds.proofs.word_in.Goals as goal
 
-pub returns-then-kind-lt44 : goal.returns-then-kind-lt44
-returns-then-kind-lt44 c = c.requires c.args.kind c.if-kind-lt44.true
-
 pub returns : goal.returns
-unfolding row_of table
-returns c = sym (above c.args.kind table c.if-kind-lt44.false)
+returns c =
+    let e : c.unwrap_or.result ≡ get_or c.args.words.now c.args.kind 0 = grind (arith, common_steps, gets) in
+    ap row_in e ∙ row-read c.args.words.now c.args.kind c.told-words c.requires

@@ -1,4 +1,4 @@
-use mathlib.Core.Path.{refl}
+use Rattle.std.proofs.Common.{refl}
 use Rattle.nodes.specs.Nodes.{nodes_at}
 use Rattle.board.specs.Board.{entry_of, term_at}
 use Rattle.operations.proofs.Entries.{one_type}

@@ -1,4 +1,4 @@
-use mathlib.Core.Path.{refl}
+use Rattle.std.proofs.Common.{refl}
 use Rattle.board.specs.Board.{entry_of}
 use Rattle.operations.proofs.Entries.{two-types}
 use Rattle.operations.proofs.push_sub.Goals as goal

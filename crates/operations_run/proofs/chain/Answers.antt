@@ -1,5 +1,8 @@
-use mathlib.Core.Path.{refl, ap, ◌∙◌}
-use Prim.Native.Nat.{◌+◌}
+use mathlib.Core.Path.{◌≡◌, refl, ap, ◌∙◌, subst}
+use Prim.Native.Nat.{ℕ, ◌+◌}
+use Rattle.judgment.specs.Types.{con}
+use Rattle.judgment.specs.Links.{chained}
+use Rattle.book.specs.Book.{sols, Booked, given, grown}
 use native.Mathlib.Omega.{arith}
 use Rattle.operations_run.proofs.Chaining.{chain-starts, chain-turn, chain-ends}
 use Rattle.operations_run.proofs.chain.Goals as goal
@@ -19,12 +22,6 @@ solve_by-b-requires c = let i = c.loop-k.invariant in
     let e = ap (λ x. x.nodes) i.1 in
     (i.2.0.room, omega arith, omega arith)
 
-pub overflow_add-k-in-loop-k : goal.overflow_add-k-in-loop-k
-overflow_add-k-in-loop-k c = let l = c.loop-k.invariant.0 in record { fits = omega arith }
-
-pub loop-k-smaller : goal.loop-k-smaller
-loop-k-smaller c = let l = c.loop-k-test.true in omega arith
-
 pub loop-k-preserved : goal.loop-k-preserved
 loop-k-preserved c = let i = c.loop-k.invariant in
     let l = c.loop-k-test.true in
@@ -42,4 +39,5 @@ returns c = let i = c.loop-k.invariant in
     let l = i.0 in
     let n = c.loop-k-test.false in
     let s = c.solve_by in
-    rw (s.ensures.0, s.ensures.1) (chain-ends i.1 i.2 (omega arith))
+    let e : c.loop-k.k ≡ 999 = omega arith in
+    rw (s.ensures.0, s.ensures.1) (subst (λ (k : ℕ). Booked (given c.loop-k.book c.loop-k.b k (con 1)) (grown c.loop-k.b 1) × (sols (given c.loop-k.book c.loop-k.b k (con 1)) ≡ chained 999)) e (chain-ends i.1 i.2 e))

@@ -7,6 +7,3 @@ use Rattle.operations_run.proofs.chain.Given as goal
 
 abbrev pub invariant-loop-k : goal.invariant-loop-k
 invariant-loop-k l = (l.k ≤ 999) × (l.b ≡ record { nodes = l.k }) × Holding l.book l.k (risen l.k) × (length l.book ≡ length l.initial.book)
-
-abbrev pub decreases-loop-k : goal.decreases-loop-k
-decreases-loop-k l = 999 - l.k

@@ -1,11 +1,7 @@
-use mathlib.Core.Path.{◌≡◌}
-use Prim.Native.Nat.{◌-◌, ◌≤◌}
+use Rattle.std.proofs.Common.{◌≡◌}
 use Rattle.spelling.specs.Spelling.{lines_of, first_misspelt}
 use Rattle.spelling.proofs.Laws.{Left}
 use Rattle.reading.proofs.first_misspelt.Given as goal
 
 abbrev pub invariant-loop-i : goal.invariant-loop-i
-invariant-loop-i l = (l.i ≤ l.lines) × (Left l.s l.i l.lines ≡ first_misspelt (lines_of l.s))
-
-abbrev pub decreases-loop-i : goal.decreases-loop-i
-decreases-loop-i l = l.lines - l.i
+invariant-loop-i l = Left l.s l.i l.lines ≡ first_misspelt (lines_of l.s)

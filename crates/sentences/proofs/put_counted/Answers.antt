@@ -1,5 +1,5 @@
-use Rattle.wording.proofs.Laws.{then}
+use Rattle.wording.proofs.Laws.{then_put}
 use Rattle.sentences.proofs.put_counted.Goals as goal
 
 pub returns : goal.returns
-returns c = then c.put_number-next.ensures c.put_either.ensures
+returns c = then_put c.put_number.ensures c.put_either.ensures

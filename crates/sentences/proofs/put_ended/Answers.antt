@@ -1,5 +1,5 @@
-use Rattle.wording.proofs.Laws.{then}
+use Rattle.wording.proofs.Laws.{then_put}
 use Rattle.sentences.proofs.put_ended.Goals as goal
 
 pub returns : goal.returns
-returns c = then c.put-next.ensures c.put_counts.ensures
+returns c = then_put c.put.ensures (then_put c.put_counted.ensures c.put_counted-2.ensures)

@@ -1,5 +1,5 @@
-use Rattle.wording.proofs.Laws.{then}
+use Rattle.wording.proofs.Laws.{then_put}
 use Rattle.sentences.proofs.put_mismatch.Goals as goal
 
 pub returns : goal.returns
-returns c = then c.put-wanted.ensures (then c.put_counted-next.ensures (then c.put_number-had.ensures c.put.ensures))
+returns c = then_put c.put.ensures (then_put c.put_counted.ensures (then_put c.put_number.ensures c.put-2.ensures))

@@ -1,5 +1,5 @@
-use Rattle.wording.proofs.Laws.{then}
+use Rattle.wording.proofs.Laws.{then_put}
 use Rattle.sentences.proofs.put_named.Goals as goal
 
 pub returns : goal.returns
-returns c = then c.put-named.ensures (then c.put_name-next.ensures c.put.ensures)
+returns c = then_put c.put.ensures (then_put c.put_name.ensures c.put-2.ensures)

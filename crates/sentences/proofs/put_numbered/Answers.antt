@@ -1,5 +1,5 @@
-use Rattle.wording.proofs.Laws.{then}
+use Rattle.wording.proofs.Laws.{then_put}
 use Rattle.sentences.proofs.put_numbered.Goals as goal
 
 pub returns : goal.returns
-returns c = then c.put-numbered.ensures (then c.put_number-next.ensures c.put.ensures)
+returns c = then_put c.put.ensures (then_put c.put_number.ensures c.put-2.ensures)

@@ -1,77 +1,35 @@
-use mathlib.Core.Path.{refl, sym, ◌∙◌}
-use native.Mathlib.Omega.{arith}
-use Rattle.sheet.specs.Plan.{is_entry}
+use Rattle.std.proofs.Common.{refl, ◌∙◌, arith}
 use Rattle.sheet.specs.Rows.{rows}
-use Rattle.sheet.proofs.RowLaws.{length-rows}
-use Rattle.sheet.proofs.Declarations.{seen}
-use Rattle.sheet.proofs.Binding.{binding-start, binding-here, binding-asks, binding-next, binding-none, binding-past}
+use Rattle.sheet.proofs.RowLaws.{ends-held}
+use Rattle.sheet.proofs.Declarations.{entry-found, entry-lacking}
+use Rattle.sheet.proofs.Binding.{binding-start, binding-asks, binding-next, binding-done}
 use Rattle.sheet.proofs.bind_types.Goals as goal
 
-pub loop-at-init : goal.loop-at-init
-loop-at-init c = let p = c.requires in (binding-start p.0 p.1 p.2, refl, c.line_count-lines.ensures, refl, refl)
+pub loop-entry-init : goal.loop-entry-init
+loop-entry-init c = (binding-start c.requires.0 c.told-last c.requires.1, refl, refl)
 
-pub overflow_add-at : goal.overflow_add-at
-overflow_add-at c = let L = c.loop-at in
-    let n = L.invariant.2 in
-    let t = c.loop-at-test.true in
-    let m = length-rows c.args.d.now in
-    omega arith
-
-pub after_parts-end-requires : goal.after_parts-end-requires
-after_parts-end-requires c = let L = c.loop-at in
-    let n = L.invariant.2 in
-    let l = L.invariant.1 in
-    let m = length-rows c.args.d.now in
-    omega arith
-
-pub overflow_add-at-then-is_entry : goal.overflow_add-at-then-is_entry
-overflow_add-at-then-is_entry c = let L = c.loop-at in
-    let n = L.invariant.2 in
-    let t = c.loop-at-test.true in
-    let m = length-rows c.args.d.now in
-    omega arith
+pub entry_at-requires : goal.entry_at-requires
+entry_at-requires c = let B = c.loop-entry.invariant.0 in ends-held c.loop-entry.d B.same B.ends c.loop-entry.at
 
 pub bind_type-requires : goal.bind_type-requires
-bind_type-requires c = let L = c.loop-at in
-    let B = L.invariant.0 in
-    let n = L.invariant.2 in
-    let t = c.loop-at-test.true in
-    let r = c.after_parts-end.ensures (rows c.args.d.now) (sym n) (λ i l j. B.ends i (omega arith) j) in
-    let e = seen is_entry (binding-here B c.triple_at-t.ensures) c.is_entry.ensures c.if-is_entry.true in
-    binding-asks B (omega arith) e r
+bind_type-requires c = let B = c.loop-entry.invariant.0 in binding-asks B (entry-found (rows c.args.d.now) c.loop-entry.at B.same c.in-Some.ensures)
 
-pub loop-at-smaller : goal.loop-at-smaller
-loop-at-smaller c = let L = c.loop-at in
-    let B = L.invariant.0 in
-    let n = L.invariant.2 in
-    let t = c.loop-at-test.true in
-    let r = c.after_parts-end.ensures (rows c.args.d.now) (sym n) (λ i l j. B.ends i (omega arith) j) in
-    let e = seen is_entry (binding-here B c.triple_at-t.ensures) c.is_entry.ensures c.if-is_entry.true in
-    let x = binding-next B (omega arith) e r (binding-here B c.triple_at-t.ensures) c.bind_type.ensures.0 c.bind_type.ensures.1 in
-    let y = x.1 in
+pub loop-entry-smaller : goal.loop-entry-smaller
+loop-entry-smaller c =
+    let B = c.loop-entry.invariant.0 in
+    let E = entry-found (rows c.args.d.now) c.loop-entry.at B.same c.in-Some.ensures in
+    let h = E.within in
+    let x = (binding-next B E c.bind_type.ensures).1 in
     omega arith
 
-pub loop-at-preserved : goal.loop-at-preserved
-loop-at-preserved c = let L = c.loop-at in
-    let B = L.invariant.0 in
-    let n = L.invariant.2 in
-    let t = c.loop-at-test.true in
-    let r = c.after_parts-end.ensures (rows c.args.d.now) (sym n) (λ i l j. B.ends i (omega arith) j) in
-    let e = seen is_entry (binding-here B c.triple_at-t.ensures) c.is_entry.ensures c.if-is_entry.true in
-    let x = binding-next B (omega arith) e r (binding-here B c.triple_at-t.ensures) c.bind_type.ensures.0 c.bind_type.ensures.1 in
-    (x.0, c.bind_type.auto.d ∙ L.invariant.1, n, x.2 ∙ L.invariant.3, x.3 ∙ L.invariant.4)
-
-pub returns-else-is_entry : goal.returns-else-is_entry
-returns-else-is_entry c = let L = c.loop-at in
-    let B = L.invariant.0 in
-    let n = L.invariant.2 in
-    let t = c.loop-at-test.true in
-    let x = binding-none B (omega arith) (seen is_entry (binding-here B c.triple_at-t.ensures) c.is_entry.ensures c.if-is_entry.false) in
-    (x.0 ∙ L.invariant.3, x.1 ∙ L.invariant.4)
+pub loop-entry-preserved : goal.loop-entry-preserved
+loop-entry-preserved c =
+    let L = c.loop-entry.invariant in
+    let x = binding-next L.0 (entry-found (rows c.args.d.now) c.loop-entry.at L.0.same c.in-Some.ensures) c.bind_type.ensures in
+    (x.0, x.2 ∙ L.1, x.3 ∙ L.2)
 
 pub returns : goal.returns
-returns c = let L = c.loop-at in
-    let n = L.invariant.2 in
-    let t = c.loop-at-test.false in
-    let x = binding-past L.invariant.0 (omega arith) in
-    (x.0 ∙ L.invariant.3, x.1 ∙ L.invariant.4)
+returns c =
+    let L = c.loop-entry.invariant in
+    let x = binding-done L.0 (entry-lacking (rows c.args.d.now) c.loop-entry.at L.0.same c.in_default.ensures) in
+    (x.0 ∙ L.1, x.1 ∙ L.2)

@@ -1,49 +1,34 @@
-use mathlib.Core.Path.{refl, sym, ◌∙◌}
-use Prim.Native.Nat.{◌<◌}
-use native.Mathlib.Omega.{arith}
-use lib.ListN.{length, length-set, get_or}
+use Rattle.std.proofs.Common.{◌+◌, ◌*◌, length-set, get_or, sym, ◌∙◌, arith}
 use Rattle.sheet.specs.Plan.{no_triple}
 use Rattle.sheet.specs.Rows.{rows}
-use Rattle.sheet.proofs.RowLaws.{length-rows, row-kind, row_count}
-use Rattle.sheet.proofs.Copies.{copy-narrow, copy-turn, copy-end, number_small}
-use borrow.Author.Rules.{rules}
+use Rattle.sheet.proofs.RowLaws.{row-kind, row_count}
+use Rattle.sheet.proofs.Copies.{rest-narrow, copy-turn, copy-end, number_small}
 use Rattle.sheet.proofs.copy_type.Goals as goal
 
-pub loop-left-init : goal.loop-left-init
-loop-left-init c = (search rules, search rules, refl, c.requires.2, refl)
+pub overflow_cast-dst : goal.overflow_cast-dst
+overflow_cast-dst c = let k = row-kind c.args.s.now (c.args.first + c.loop-i.i) in rw c.triple_at-t.ensures (omega arith)
 
-pub overflow_cast-kind : goal.overflow_cast-kind
-overflow_cast-kind c = let k = row-kind c.args.s.now c.loop-left.line in
-    rw c.triple_at-t.ensures (omega arith)
+pub overflow_cast-dst-in-loop-i : goal.overflow_cast-dst-in-loop-i
+overflow_cast-dst-in-loop-i c =
+    let a = c.args in
+    let i = c.loop-i.i in
+    let ls = rows a.s.now in
+    let v = (rest-narrow ls a.first a.n i c.requires.1 c.loop-i-test.true c.loop-i.invariant.1).0 in
+    let k = number_small (get_or ls (a.first + i) no_triple) (row_count a.s.now (a.first + i)) v in
+    rw (c.node_number.ensures, c.triple_at-t.ensures) (omega arith)
 
-pub overflow_cast-number : goal.overflow_cast-number
-overflow_cast-number c = let s = c.args.s.now in
-    let L = c.loop-left in
-    let t = c.loop-left-test.true in
-    let v = (copy-narrow (rows s) L.line L.left (let h = L.invariant.1 in omega arith) t L.invariant.3).0 in
-    let k = number_small (get_or (rows s) L.line no_triple) (row_count s L.line) v in
-    rw (c.node_number-number.ensures, c.triple_at-t.ensures) (omega arith)
-
-pub bounds-dst-p-in-loop-left : goal.bounds-dst-p-in-loop-left
-bounds-dst-p-in-loop-left c = simp length-set (omega arith)
-
-pub overflow_add-line : goal.overflow_add-line
-overflow_add-line c = let m = length-rows c.args.s.now in
-    let h = c.loop-left.invariant.1 in
-    omega arith
-
-pub loop-left-preserved : goal.loop-left-preserved
-loop-left-preserved c = let s = c.args.s.now in
-    let L = c.loop-left in
-    let t = c.loop-left-test.true in
-    let h : L.line < length (rows s) = (let h = L.invariant.1 in omega arith) in (
-      search rules,
-      search rules,
-      simp length-set L.invariant.2,
-      (copy-narrow (rows s) L.line L.left h t L.invariant.3).1,
-      L.invariant.4 ∙ rw (c.node_number-number.ensures, c.triple_at-t.ensures) (copy-turn (rows s) L.line L.left h t L.dst L.p),
+pub loop-i-preserved : goal.loop-i-preserved
+loop-i-preserved c =
+    let a = c.args in
+    let L = c.loop-i in
+    let ls = rows a.s.now in (
+      simp length-set L.invariant.0,
+      (rest-narrow ls a.first a.n L.i c.requires.1 c.loop-i-test.true L.invariant.1).1,
+      L.invariant.2 ∙ rw (c.node_number.ensures, c.triple_at-t.ensures) (copy-turn ls a.first a.n L.i c.requires.1 c.loop-i-test.true L.dst a.at),
     )
 
 pub returns : goal.returns
-returns c = let L = c.loop-left in
-    sym (L.invariant.4 ∙ copy-end (rows c.args.s.now) L.line L.left L.dst L.p (let z = c.loop-left-test.false in omega arith))
+returns c =
+    let a = c.args in
+    let L = c.loop-i in
+    sym (L.invariant.2 ∙ copy-end (rows a.s.now) a.first a.n L.i c.requires.1 c.loop-i-test.false L.dst (a.at + 2 * L.i))

@@ -1,5 +1,4 @@
-use native.Mathlib.Omega.{arith}
-use Prim.Native.Nat.{◌+◌}
+use Rattle.std.proofs.Common.{arith, ◌+◌}
 use Rattle.sheet.specs.Plan.{places_of}
 use Rattle.sheet.specs.Rows.{rows}
 use Rattle.sheet.proofs.Lines.{line-within}

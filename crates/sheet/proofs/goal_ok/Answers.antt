@@ -1,38 +1,25 @@
-use mathlib.Core.Path.{◌≡◌, sym, ap, ap₂, ◌∙◌}
-use Prim.Native.Nat.{ℕ, ◌<◌}
-use native.Mathlib.Omega.{arith}
-use lib.ListN.{length}
-use lib.Dec.{eqb}
+use Rattle.std.proofs.Common.{ne_eqb, sym, ap, ap₂, ◌∙◌, arith, eqb}
 use Rattle.spelling.specs.declared.Triple.{Triple}
 use Rattle.sheet.specs.Rows.{rows}
 use Rattle.sheet.proofs.RowLaws.{length-rows}
-use Rattle.sheet.proofs.Fitting.{lacking, goal-whole, goal-none}
+use Rattle.sheet.proofs.Declarations.{stands}
+use Rattle.sheet.proofs.Fitting.{goal-on, goal-off}
 use Rattle.sheet.proofs.goal_ok.Goals as goal
 
 pub end_at-requires : goal.end_at-requires
-end_at-requires c = let e = c.line_count-lines.ensures in
+end_at-requires c =
+    let k = c.if-triple_at-eq4.true in
+    let h = stands (rows c.args.d.now) c.args.at c.triple_at.ensures (λ e. omega arith) in
     let n = length-rows c.args.d.now in
-    let h = c.if-at-lines.true in
     omega arith
 
-pub returns-then-t-eq4 : goal.returns-then-t-eq4
-returns-then-t-eq4 c = let d = c.args.d.now in
+pub returns-then-triple_at-eq4 : goal.returns-then-triple_at-eq4
+returns-then-triple_at-eq4 c =
+    let ls = rows c.args.d.now in
     let at = c.args.at in
-    let n = c.line_count-lines.ensures in
-    let h = c.if-at-lines.true in
-    let l : at < length (rows d) = omega arith in
-    let k : ◌≡◌ {A = ℕ} _ 4 = sym (ap (λ (t : Triple). t.kind) c.triple_at-t.ensures) ∙ c.if-t-eq4.true in
-    ap₂ eqb (c.end_at.ensures ∙ c.requires.0 at (omega arith) l) n ∙ sym (goal-whole (rows d) c.requires.1 at l k)
+    let k = c.if-triple_at-eq4.true in
+    let h = stands ls at c.triple_at.ensures (λ e. omega arith) in
+    ap₂ eqb (c.end_at.ensures ∙ c.requires.0 at (omega arith) h) c.line_count.ensures ∙ goal-on ls c.requires.1 at h (sym (ap (λ (t : Triple). t.kind) c.triple_at.ensures) ∙ k)
 
-pub returns-else-t-eq4 : goal.returns-else-t-eq4
-returns-else-t-eq4 c = let d = c.args.d.now in
-    let at = c.args.at in
-    let n = c.line_count-lines.ensures in
-    let h = c.if-at-lines.true in
-    let l : at < length (rows d) = omega arith in
-    sym (goal-none (rows d) c.requires.1 at l (λ q. c.if-t-eq4.false (ap (λ (t : Triple). t.kind) c.triple_at-t.ensures ∙ q)))
-
-pub returns-else-at-lines : goal.returns-else-at-lines
-returns-else-at-lines c = let n = c.line_count-lines.ensures in
-    let h = c.if-at-lines.false in
-    sym (lacking (rows c.args.d.now) c.args.at _ _ (omega arith))
+pub returns-else-triple_at-eq4 : goal.returns-else-triple_at-eq4
+returns-else-triple_at-eq4 c = ne_eqb c.triple_at.result.kind 4 c.if-triple_at-eq4.false ∙ goal-off (rows c.args.d.now) c.requires.1 c.args.at (λ q. c.if-triple_at-eq4.false (ap (λ (t : Triple). t.kind) c.triple_at.ensures ∙ q))

@@ -1,4 +1,4 @@
-use mathlib.Core.Path.{sym}
+use Rattle.std.proofs.Common.{sym}
 use Rattle.sheet.proofs.RowLaws.{length-rows}
 use Rattle.sheet.proofs.line_count.Goals as goal
 

@@ -1,5 +1,4 @@
-use mathlib.Core.Path.{refl}
-use native.Mathlib.Nat.{mod-lt}
+use Rattle.std.proofs.Common.{refl, mod-lt}
 use Rattle.sheet.proofs.slot_of.Goals as goal
 
 pub returns : goal.returns

@@ -1,11 +1,6 @@
-use mathlib.Core.Path.{◌≡◌}
-use Prim.Native.Nat.{◌+◌, ◌-◌, ◌≤◌}
-use lib.ListN.{length}
+use Rattle.std.proofs.Common.{◌≡◌, ◌+◌, ◌-◌, length}
 use Rattle.spelling.specs.Spelling.{spaces_from}
 use Rattle.spelling.proofs.spaces.Given as goal
 
 abbrev pub invariant-loop-i : goal.invariant-loop-i
-invariant-loop-i l = (l.i ≤ l.w) × (l.at + l.w ≤ length l.s) × (l.i + spaces_from l.s (l.at + l.i) (l.w - l.i) ≡ spaces_from l.s l.at l.w)
-
-abbrev pub decreases-loop-i : goal.decreases-loop-i
-decreases-loop-i l = l.w - l.i
+invariant-loop-i l = l.i + spaces_from l.bytes l.i (length l.bytes - l.i) ≡ spaces_from l.bytes 0 (length l.bytes)

@@ -1,9 +1,4 @@
-use mathlib.Core.Path.{ap₂}
-use mathlib.Core.Logic.{inr}
-use mathlib.Core.List.{List}
-use Prim.Native.Nat.{ℕ, ◌*◌, ◌-◌}
-use native.Mathlib.Omega.{arith}
-use lib.ListN.{get_or}
+use Rattle.std.proofs.Common.{ap₂, inr, List, ℕ, ◌*◌, ◌-◌, arith, get_or}
 use Rattle.nodes.specs.Nodes.{node, Ty}
 use Rattle.spelling.specs.declared.Triple.{Triple}
 use Rattle.judgment.specs.Board.{sub, push, done}
@@ -12,12 +7,6 @@ use Rattle.operations.specs.State.{WellFormed}
 use Rattle.operations.proofs.Then.{push-then, fresh-then, does-as, report-free, kept, kept-board}
 use Rattle.core_types.proofs.Substituted.{substituted-at, beside}
 use Rattle.subtyping.proofs.open_left.Goals as goal
-
-pub substitute_type-requires : goal.substitute_type-requires
-substitute_type-requires c = (omega arith, omega arith)
-
-pub push_tvar-c2-requires : goal.push_tvar-c2-requires
-push_tvar-c2-requires c = ((kept c.fresh_evar-c1.ensures.1 c.requires.0.formed.1).board, omega arith)
 
 pub push_tvar-c3-requires : goal.push_tvar-c3-requires
 push_tvar-c3-requires c = ((kept-board c.push_tvar-c2.ensures.2 (kept c.fresh_evar-c1.ensures.1 c.requires.0.formed.1)).board, omega arith)

@@ -1,9 +1,4 @@
-use mathlib.Core.Path.{ap₂}
-use mathlib.Core.Logic.{inl}
-use mathlib.Core.List.{List}
-use Prim.Native.Nat.{ℕ, ◌+◌, ◌*◌, ◌-◌}
-use native.Mathlib.Omega.{arith}
-use lib.ListN.{get_or}
+use Rattle.std.proofs.Common.{ap₂, inl, List, ℕ, ◌+◌, ◌*◌, ◌-◌, arith, get_or}
 use Rattle.nodes.specs.Nodes.{node, Ty}
 use Rattle.spelling.specs.declared.Triple.{Triple}
 use Rattle.judgment.specs.Board.{sub, push, done}
@@ -11,12 +6,6 @@ use Rattle.judgment.specs.Result.{Way}
 use Rattle.operations.proofs.Then.{push-then, fresh-then, does-as, report-free, kept-board, kept-book}
 use Rattle.core_types.proofs.Substituted.{substituted-at, beside}
 use Rattle.subtyping.proofs.open_right.Goals as goal
-
-pub substitute_type-requires : goal.substitute_type-requires
-substitute_type-requires c = (omega arith, omega arith)
-
-pub push_tvar-c2-requires : goal.push_tvar-c2-requires
-push_tvar-c2-requires c = ((kept-book c.fresh_universal-c1.ensures.2 c.requires.1).board, omega arith)
 
 pub push_sub-requires : goal.push_sub-requires
 push_sub-requires c = let p = c.requires in

@@ -1,34 +1,33 @@
-use mathlib.Core.Path.{ap, ◌∙◌}
-use mathlib.Core.List.{List, []}
-use Prim.Native.Nat.{ℕ}
-use native.Mathlib.Omega.{arith}
+use Rattle.std.proofs.Common.{ap, ◌∙◌, List, [], ℕ, ◌≤◌, arith, rules}
 use Rattle.nodes.specs.Nodes.{Ty, nodes_at}
 use Rattle.spelling.specs.declared.Triple.{Triple}
 use Rattle.judgment.specs.Types.{unknown}
 use Rattle.judgment.specs.Board.{push, done}
 use Rattle.judgment.specs.Rules.{on_side}
 use Rattle.judgment.specs.Result.{Way}
-use Rattle.operations.specs.State.{Scoped}
+use Rattle.operations.specs.State.{WellFormed, Scoped}
 use Rattle.core_types.proofs.Walks.{first-within, first-nodes, rest-nodes}
 use Rattle.operations.proofs.Then.{does-as, push-then, solve-then, fresh-then, any_way, kept-board, kept-book, kept-solved, grows, fresh-made, fresh-sols, pair-solves, pair-plain, solve-asks}
 use Rattle.subtyping.specs.Subtyping.{side_of}
-use borrow.Author.Rules.{rules}
+use Rattle.subtyping.proofs.split.Goals.{After-first_part-m, After-solve_evar-c3}
 use Rattle.subtyping.proofs.split.Goals as goal
 
-pub first_part-m-requires : goal.first_part-m-requires
-first_part-m-requires c = (c.requires.within, c.requires.few)
+-- the first part is within the type
+within : (c : After-first_part-m) → c.first_part-m.result ≤ c.args.n
+within c = first-within c.args.t.now c.args.at c.args.n c.first_part-m.result c.first_part-m.ensures
+
+-- what is left once x is solved
+solved : (c : After-solve_evar-c3) → WellFormed c.args.board.now c.solve_evar-c3.new.book c.solve_evar-c3.result
+solved c = kept-solved c.solve_evar-c3.ensures (kept-book c.fresh_part-c2.ensures.2 (kept-book c.fresh_part-c1.ensures.2 c.requires.formed))
 
 pub overflow_mul-next : goal.overflow_mul-next
-overflow_mul-next c = omega (arith, first-within c.args.t.now c.args.at c.args.n c.first_part-m.result c.first_part-m.ensures, c.requires.within)
+overflow_mul-next c = omega (arith, within (goal.at.overflow_mul-next c).After-first_part-m, c.requires.within)
 
 pub overflow_add-next : goal.overflow_add-next
-overflow_add-next c = omega (arith, first-within c.args.t.now c.args.at c.args.n c.first_part-m.result c.first_part-m.ensures, c.requires.within)
+overflow_add-next c = omega (arith, within (goal.at.overflow_add-next c).After-first_part-m, c.requires.within)
 
 pub overflow_sub-more : goal.overflow_sub-more
-overflow_sub-more c = first-within c.args.t.now c.args.at c.args.n c.first_part-m.result c.first_part-m.ensures
-
-pub fresh_part-c1-requires : goal.fresh_part-c1-requires
-fresh_part-c1-requires c = let p = c.requires in (p.formed.book, let x = p.known in let n = p.formed.numbers in omega arith)
+overflow_sub-more c = within (goal.at.overflow_sub-more c).After-first_part-m
 
 pub fresh_part-c2-requires : goal.fresh_part-c2-requires
 fresh_part-c2-requires c = let p = c.requires in ((kept-book c.fresh_part-c1.ensures.2 p.formed).book, let x = p.known in let n = p.formed.numbers in omega arith)
@@ -42,16 +41,16 @@ solve_evar-c3-requires c = let f = c.requires.formed in
     (λ g. pair-solves _ c.fresh_part-c2.result c.args.kind c.args.x c.fresh_part-c1.result.counters.fresh c.requires.pair.0 f (fresh-sols D2 ∙ fresh-sols D1) c.requires.known c.requires.unsolved (grows D1) (let z = fresh-made c.fresh_part-c1.result c.fresh_part-c2.result c.fresh_part-c2.ensures.0 g in omega arith))
 
 pub push_tvar-c4-requires : goal.push_tvar-c4-requires
-push_tvar-c4-requires c = ((kept-solved c.solve_evar-c3.ensures (kept-book c.fresh_part-c2.ensures.2 (kept-book c.fresh_part-c1.ensures.2 c.requires.formed))).board, omega arith)
+push_tvar-c4-requires c = ((solved (goal.at.push_tvar-c4-requires c).After-solve_evar-c3).board, omega arith)
 
 pub push_tvar-c5-requires : goal.push_tvar-c5-requires
-push_tvar-c5-requires c = ((kept-board c.push_tvar-c4.ensures.2 (kept-solved c.solve_evar-c3.ensures (kept-book c.fresh_part-c2.ensures.2 (kept-book c.fresh_part-c1.ensures.2 c.requires.formed)))).board, omega arith)
+push_tvar-c5-requires c = ((kept-board c.push_tvar-c4.ensures.2 (solved (goal.at.push_tvar-c5-requires c).After-solve_evar-c3)).board, omega arith)
 
 pub push_on-c6-requires : goal.push_on-c6-requires
-push_on-c6-requires c = ((kept-board c.push_tvar-c5.ensures.2 (kept-board c.push_tvar-c4.ensures.2 (kept-solved c.solve_evar-c3.ensures (kept-book c.fresh_part-c2.ensures.2 (kept-book c.fresh_part-c1.ensures.2 c.requires.formed))))).board, search rules, omega (arith, first-within c.args.t.now c.args.at c.args.n c.first_part-m.result c.first_part-m.ensures, c.requires.within))
+push_on-c6-requires c = ((kept-board c.push_tvar-c5.ensures.2 (kept-board c.push_tvar-c4.ensures.2 (solved (goal.at.push_on-c6-requires c).After-solve_evar-c3))).board, search rules, omega (arith, within (goal.at.push_on-c6-requires c).After-first_part-m, c.requires.within))
 
 pub push_on-requires : goal.push_on-requires
-push_on-requires c = ((kept-board c.push_on-c6.ensures (kept-board c.push_tvar-c5.ensures.2 (kept-board c.push_tvar-c4.ensures.2 (kept-solved c.solve_evar-c3.ensures (kept-book c.fresh_part-c2.ensures.2 (kept-book c.fresh_part-c1.ensures.2 c.requires.formed)))))).board, search rules, omega (arith, first-within c.args.t.now c.args.at c.args.n c.first_part-m.result c.first_part-m.ensures, c.requires.within))
+push_on-requires c = ((kept-board c.push_on-c6.ensures (kept-board c.push_tvar-c5.ensures.2 (kept-board c.push_tvar-c4.ensures.2 (solved (goal.at.push_on-requires c).After-solve_evar-c3)))).board, search rules, omega (arith, within (goal.at.push_on-requires c).After-first_part-m, c.requires.within))
 
 pub returns : goal.returns
 unfolding nodes_at

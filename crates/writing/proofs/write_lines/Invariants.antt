@@ -10,6 +10,3 @@ use Rattle.writing.proofs.write_lines.Given as goal
 
 abbrev pub invariant-loop-i : goal.invariant-loop-i
 invariant-loop-i l = (l.i ≤ length l.triples / triple_words) × (length l.text ≡ length l.initial.text) × (sets l.text (line_length * l.i) (left l.triples l.i (length l.triples / triple_words)) ≡ sets l.initial.text 0 (sheet_text (map tame (triples_of l.triples))))
-
-abbrev pub decreases-loop-i : goal.decreases-loop-i
-decreases-loop-i l = length l.triples / triple_words - l.i

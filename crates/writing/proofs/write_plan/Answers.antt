@@ -1,3 +1,6 @@
+use Rattle.std.proofs.Common.{ap}
+use Rattle.judgment.specs.Result.{refused_at}
+use Rattle.std.proofs.Common.{rules}
 use mathlib.Core.Path.{sym, ◌∙◌}
 use Prim.Native.Nat.{◌*◌, ◌/◌}
 use lib.ListN.{length}
@@ -17,25 +20,26 @@ slice_bounds-read_sheet-end-2 c = sym (length-take-le _ _ (fits-text _ c.require
 
 pub returns-then-out-bytes : goal.returns-then-out-bytes
 returns-then-out-bytes c = let w = c.requires.0 in
-    gives-31 _ w _ _ _ (sym (front_reads _ w _ _ c.requires.1 c.write_lines.ensures) ∙ sym c.read_sheet.ensures ∙ c.in-Next.is) c.if-out-bytes.true c.told.ensures
+    gives-31 _ w _ _ _ (sym (front_reads _ w _ _ c.requires.1 c.write_lines.ensures) ∙ sym c.read_sheet.ensures ∙ c.in-Ok.is) c.if-out-bytes.true c.refused.ensures
 
 pub slice_bounds-copy_front-end : goal.slice_bounds-copy_front-end
 slice_bounds-copy_front-end c = fits-text _ c.requires.0 _ _ c.requires.1 c.write_lines.ensures
 
-pub slice_bounds-copy_front-end-in-Next : goal.slice_bounds-copy_front-end-in-Next
-slice_bounds-copy_front-end-in-Next c = sym (length-take-le _ _ (fits-text _ c.requires.0 _ _ c.requires.1 c.write_lines.ensures))
+pub slice_bounds-copy_front-end-in-Ok : goal.slice_bounds-copy_front-end-in-Ok
+slice_bounds-copy_front-end-in-Ok c = sym (length-take-le _ _ (fits-text _ c.requires.0 _ _ c.requires.1 c.write_lines.ensures))
 
 pub copy_front-requires : goal.copy_front-requires
 copy_front-requires c = front_fits (line_length * (length c.args.triples.now / triple_words)) _ c.args.out.now c.if-out-bytes.false
 
-pub overflow_cast-l : goal.overflow_cast-l
-overflow_cast-l c = let w = c.requires.0 in
-    record { fits = place-fits _ w _ (sym (front_reads _ w _ _ c.requires.1 c.write_lines.ensures) ∙ sym c.read_sheet.ensures ∙ c.in-Refused.is) }
+pub overflow_cast-line : goal.overflow_cast-line
+overflow_cast-line c = let w = c.requires.0 in
+    let h = place-fits _ w _ (sym (front_reads _ w _ _ c.requires.1 c.write_lines.ensures) ∙ sym c.read_sheet.ensures ∙ c.in-Err.is) in
+    search rules
 
 pub returns-else-out-bytes : goal.returns-else-out-bytes
 returns-else-out-bytes c = let w = c.requires.0 in
-    gives-0 _ w _ _ _ _ _ _ c.requires.1 c.write_lines.ensures (sym (front_reads _ w _ _ c.requires.1 c.write_lines.ensures) ∙ sym c.read_sheet.ensures ∙ c.in-Next.is) c.if-out-bytes.false c.copy_front.ensures c.told-in-Next.ensures
+    gives-0 _ w _ _ _ _ _ _ c.requires.1 c.write_lines.ensures (sym (front_reads _ w _ _ c.requires.1 c.write_lines.ensures) ∙ sym c.read_sheet.ensures ∙ c.in-Ok.is) c.if-out-bytes.false c.copy_front.ensures c.refused-in-Ok.ensures
 
-pub returns-in-Refused : goal.returns-in-Refused
-returns-in-Refused c = let w = c.requires.0 in
-    gives-5 _ w _ _ _ (sym (front_reads _ w _ _ c.requires.1 c.write_lines.ensures) ∙ sym c.read_sheet.ensures ∙ c.in-Refused.is) c.told-in-Refused.ensures
+pub returns-in-Err : goal.returns-in-Err
+returns-in-Err c = let w = c.requires.0 in
+    gives-5 _ w _ _ _ (sym (front_reads _ w _ _ c.requires.1 c.write_lines.ensures) ∙ sym c.read_sheet.ensures ∙ c.in-Err.is) (c.refused-in-Err.ensures ∙ ap (refused_at 5) c.line.ensures)
