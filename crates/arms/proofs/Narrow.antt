@@ -6,7 +6,9 @@ use mathlib.Core.Bool.{and-eq-true_iff}
 use Rattle.nodes.specs.Lists.{All}
 use Rattle.spelling.specs.declared.Triple.{Triple}
 use Rattle.kinds.specs.declared.Row.{Row}
-use Rattle.kinds.specs.Kinds.{a_pattern, nothing, number, table, row_of}
+use Rattle.kinds.specs.declared.Sort.{Sort}
+use Rattle.kinds.proofs.Rows.{same-true, is_number}
+use Rattle.kinds.specs.Kinds.{a_pattern, nothing, same_sort, table, row_of}
 use Rattle.grammar.specs.Grammar.{Item, part as item, entries, ok, due, repeated, following}
 use Rattle.sheet.specs.Plan.{Narrow}
 use Rattle.sheet.specs.Form.{Forms, IsPart}
@@ -19,20 +21,20 @@ use Rattle.arms.specs.Arms.{NarrowArms}
 
 -- a pattern's row: patterns follow or nothing, and its value is a name or 0
 abbrev pattern_row : ℕ → Row → Bool
-pattern_row k r = not (eqb r.sort a_pattern) || ((eqb r.types 0 && eqb r.terms 0) && ((eqb r.each nothing || eqb r.each a_pattern) && not (eqb r.value number)))
+pattern_row k r = not (same_sort r.sort a_pattern) || ((eqb r.types 0 && eqb r.terms 0) && ((same_sort r.each nothing || same_sort r.each a_pattern) && not (is_number r.value)))
 
-row-patterns : (ty te e c : ℕ) → ((eqb ty 0 && eqb te 0) && (eqb e nothing || eqb e a_pattern)) ≡ true → Only a_pattern (following ty te e c)
+row-patterns : (ty te : ℕ) (e : Sort) (c : ℕ) → ((eqb ty 0 && eqb te 0) && (same_sort e nothing || same_sort e a_pattern)) ≡ true → Only a_pattern (following ty te e c)
 unfolding following
 row-patterns ty te e c h =
-    let a = (and-eq-true_iff (eqb ty 0 && eqb te 0) (eqb e nothing || eqb e a_pattern)).0 h in
+    let a = (and-eq-true_iff (eqb ty 0 && eqb te 0) (same_sort e nothing || same_sort e a_pattern)).0 h in
     let b = (and-eq-true_iff (eqb ty 0) (eqb te 0)).0 a.0 in
     let x = eqb-true ty 0 b.0 in
     let y = eqb-true te 0 b.1 in
-    rw (x, y) (by (eqb e nothing) refl a.1)
+    rw (x, y) (by (same_sort e nothing) refl a.1)
   where
-    by : (q : Bool) → eqb e nothing ≡ q → (q || eqb e a_pattern) ≡ true → Only a_pattern (repeated e c)
-    by true q z = let w = eqb-true e nothing q in rw w tt
-    by false q z = let w = eqb-true e a_pattern z in rw w (only-replicate a_pattern c)
+    by : (q : Bool) → same_sort e nothing ≡ q → (q || same_sort e a_pattern) ≡ true → Only a_pattern (repeated e c)
+    by true q z = let w = same-true e nothing q in rw w tt
+    by false q z = let w = same-true e a_pattern z in rw w (only-replicate a_pattern c)
 
 -- a line that begins a pattern
 line-pattern : (t : Triple) → ok (item a_pattern) (Some t) ≡ true → Only a_pattern (due (item a_pattern) (Some t)) × Narrow t
@@ -40,10 +42,10 @@ unfolding table
 line-pattern t e =
     let d = due-following a_pattern t e in
     let r : Row = row_of t.kind in
-    let k : ((eqb r.types 0 && eqb r.terms 0) && ((eqb r.each nothing || eqb r.each a_pattern) && not (eqb r.value number))) ≡ true =
-    rw (sort-is a_pattern t d.0) at (begun-row a_pattern t d.0 (omega arith) pattern_row refl) in
+    let k : ((eqb r.types 0 && eqb r.terms 0) && ((same_sort r.each nothing || same_sort r.each a_pattern) && not (is_number r.value))) ≡ true =
+    rw (sort-is a_pattern t d.0) at (begun-row a_pattern t d.0 refl pattern_row refl) in
     let a = (and-eq-true_iff (eqb r.types 0 && eqb r.terms 0) _).0 k in
-    let c = (and-eq-true_iff (eqb r.each nothing || eqb r.each a_pattern) _).0 a.1 in (
+    let c = (and-eq-true_iff (same_sort r.each nothing || same_sort r.each a_pattern) _).0 a.1 in (
       subst⁻¹ (Only a_pattern) d.1 (row-patterns r.types r.terms r.each t.count ((and-eq-true_iff (eqb r.types 0 && eqb r.terms 0) _).1 (a.0, c.0))),
       name-narrow r.value t.value c.1 (value-ok a_pattern t d.0),
     )

@@ -15,6 +15,7 @@ use Rattle.nodes.specs.Parts.{take_parts, drop_parts}
 use Rattle.nodes.proofs.Laws.{length-nodes_at}
 use Rattle.nodes.proofs.PartLaws.{take-drop}
 use Rattle.spelling.specs.declared.Triple.{Triple}
+use Rattle.kinds.specs.declared.Sort.{Sort}
 use Rattle.kinds.specs.Kinds.{a_type, a_term, parts_of}
 use Rattle.grammar.specs.Grammar.{part as item}
 use Rattle.sheet.specs.declared.Places.{Places}
@@ -55,7 +56,7 @@ no_lines : (ts : List Triple) → Forms ts [] → ts ≡ []
 no_lines [] f = refl
 no_lines (t ∷ ts) f = absurd f
 
-alone : (x : ℕ) (ts : List Triple) → IsPart x ts → take_parts parts_of ts 1 ≡ ts
+alone : (x : Sort) (ts : List Triple) → IsPart x ts → take_parts parts_of ts 1 ≡ ts
 alone x ts f =
     let q = no_lines (drop_parts parts_of ts 1) (split ts (item x ∷ []) [] tt f).1 in
     sym (append-nil (take_parts parts_of ts 1)) ∙ ap (λ (ys : List Triple). take_parts parts_of ts 1 ++ ys) (sym q) ∙ take-drop parts_of ts 1

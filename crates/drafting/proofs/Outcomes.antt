@@ -5,7 +5,7 @@ use Rattle.std.proofs.lemmas.Bool.{eqb-false}
 use Rattle.std.proofs.lemmas.List.{length-take-le}
 use Rattle.sizes.specs.Sizes.{line_length, sheet_bytes, triple_words, plan_words}
 use Rattle.spelling.specs.declared.Triple.{Triple}
-use Rattle.kinds.specs.Kinds.{nothing, row_of, fields_ok}
+use Rattle.kinds.specs.Kinds.{nothing, same_sort, row_of, fields_ok}
 use Rattle.grammar.specs.declared.SheetError.{SheetError}
 use Rattle.judgment.specs.declared.Answer.{Answer}
 use Rattle.listing.specs.declared.Fault.{Fault}
@@ -20,7 +20,7 @@ use Rattle.drafting.specs.Drafting.{below, diagnosis, tells_triple, whole, stopp
 
 -- no triple that is told is a lack
 told-no-lack : (t : Triple) → diagnosis t ≡ Lacking → ⊥
-told-no-lack t = go (eqb (row_of t.kind).sort nothing) (below t) (fields_ok (row_of t.kind) t)
+told-no-lack t = go (same_sort (row_of t.kind).sort nothing) (below t) (fields_ok (row_of t.kind) t)
   where
     go : (x y z : Bool) → cond x NoKind (cond y Negative (cond z Misplaced OutOfRange)) ≡ Lacking → ⊥
     go true y z e = cc

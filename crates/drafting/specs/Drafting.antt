@@ -4,7 +4,7 @@ use Rattle.std.specs.Prelude.{◌≡◌, Bool, not, cond, ◌&&◌, List, ℕ, �
 use Rattle.std.specs.declared.io.Error.{Error}
 use Rattle.sizes.specs.Sizes.{line_length, triple_words}
 use Rattle.spelling.specs.declared.Triple.{Triple}
-use Rattle.kinds.specs.Kinds.{nothing, row_of, fields_ok}
+use Rattle.kinds.specs.Kinds.{nothing, same_sort, row_of, fields_ok}
 use Rattle.judgment.specs.declared.Answer.{Answer}
 use Rattle.listing.specs.declared.Fault.{Fault}
 use Rattle.listing.specs.Listing.{State, state, started, Roomy, fed, ended}
@@ -23,7 +23,7 @@ below t = t.negative && not (eqb t.kind 22)
 abbrev pub diagnosis : Triple → Wrong
 diagnosis t =
     let r = row_of t.kind in
-    cond (eqb r.sort nothing) NoKind
+    cond (same_sort r.sort nothing) NoKind
     (cond (below t) Negative (cond (fields_ok r t) Misplaced OutOfRange))
 
 -- ---- what is said, by the scan and the answer on its triples

@@ -2,15 +2,27 @@
 use Rattle.spelling.specs.declared.Triple.{Triple}
 use Rattle.grammar.specs.declared.SheetError.TheVariants.{Unfit}
 use Rattle.grammar.specs.declared.SheetError.{SheetError}
-use Rattle.std.proofs.Common.{Option, Some, None, Result, Ok, Err, ◌≡◌, refl, ap, ◌∙◌, Bool, true, false, cond, List, [], ◌∷◌, ◌++◌, append_assoc, ℕ, zero, suc, ◌+◌, ◌-◌, ◌/◌, ◌≤◌, ◌<◌, arith, length}
+use Rattle.std.proofs.Common.{Option, Some, None, Result, Ok, Err, ◌≡◌, ◌≢◌, ◌⊎◌, inl, inr, refl, ap, ◌∙◌, Bool, true, false, cond, List, [], ◌∷◌, ◌++◌, append_assoc, ℕ, zero, suc, ◌+◌, ◌-◌, ◌/◌, ◌≤◌, ◌<◌, arith, length, replicate}
 use Rattle.sizes.specs.Sizes.{line_length}
 use Rattle.spelling.specs.Spelling.{line_at, lines_from, first_misspelt}
 use Rattle.spelling.proofs.Laws.{length-lines, lines_cons, lines-nil, past_end}
-use Rattle.grammar.specs.Grammar.{Item, part, entries, ok, due, read, read_at}
+use Rattle.kinds.specs.declared.Sort.{Sort}
+use Rattle.kinds.specs.Kinds.{a_type, a_term, a_pattern, an_arm}
+use Rattle.kinds.proofs.Rows.{ne_same}
+use Rattle.grammar.specs.Grammar.{Item, part, entries, repeated, ok, due, read, read_at}
 
 abbrev and_then : Result ℕ SheetError → (ℕ → Result ℕ SheetError) → Result ℕ SheetError
 and_then (Ok k) f = f k
 and_then (Err l) f = Err l
+
+-- ---- what is repeated, by its sort
+pub repeated-part : (e : Sort) (n : ℕ) → (e ≡ a_type) ⊎ ((e ≡ a_term) ⊎ (e ≡ a_pattern)) → replicate n (part e) ≡ repeated e n
+repeated-part e n (inl h) = rw h refl
+repeated-part e n (inr (inl h)) = rw h refl
+repeated-part e n (inr (inr h)) = rw h refl
+
+pub repeated-none : (e : Sort) (n : ℕ) → e ≢ a_type → e ≢ a_term → e ≢ a_pattern → e ≢ an_arm → [] ≡ repeated e n
+repeated-none e n a b c d = rw (ne_same e a_type a, ne_same e a_term b, ne_same e a_pattern c, ne_same e an_arm d) refl
 
 -- ---- a list of lines
 pub nothing : (ls : List (Option Triple)) (at : ℕ) → read ls [] at ≡ Ok at

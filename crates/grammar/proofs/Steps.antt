@@ -1,19 +1,20 @@
 -- What each way out of the readers shows, on values alone: r and its equations are what a call gave.
 -- Assumes nothing.
 use Rattle.kinds.specs.declared.Parts.{Parts}
+use Rattle.kinds.specs.declared.Sort.{Sort}
 use Rattle.grammar.specs.declared.SheetError.TheVariants.{Unfit}
 use Rattle.grammar.specs.declared.SheetError.{SheetError}
-use Rattle.std.proofs.Common.{Some, None, Ok, Err, is_some, ◌≡◌, refl, sym, ap, ◌∙◌, ltb, ne_eqb, ltb-true, List, [], ◌∷◌, ◌++◌, append-nil, ℕ, zero, suc, ◌+◌, ◌-◌, ◌/◌, ◌≤◌, ◌<◌, arith, length, replicate, Bool, true, false, cond}
+use Rattle.std.proofs.Common.{Some, None, Ok, Err, is_some, ◌≡◌, ◌≢◌, ◌⊎◌, refl, sym, ap, ◌∙◌, ltb, ltb-true, List, [], ◌∷◌, ◌++◌, append-nil, ℕ, suc, ◌+◌, ◌-◌, ◌/◌, ◌≤◌, ◌<◌, arith, length, replicate, Bool, true, false, cond}
 use Rattle.sizes.specs.Sizes.{line_length}
 use Rattle.spelling.specs.declared.Triple.{Triple}
 use Rattle.spelling.specs.Spelling.{line_at}
 use Rattle.grammar.specs.declared.Declared.TheVariants.{Named, Expected}
 use Rattle.grammar.specs.Grammar.{Item, part, entries, in_order, declared_by, arms, repeated, following, ok, due, read_at}
-use Rattle.kinds.specs.Kinds.{a_type, a_term, a_pattern, an_entry, an_expected, a_goal, begins, head_of}
+use Rattle.kinds.specs.Kinds.{a_type, a_term, a_pattern, an_arm, an_entry, an_expected, a_goal, begins, head_of}
 use Rattle.kinds.proofs.Rows.{begins-head}
 use Rattle.spelling.proofs.Laws.{past_end}
 use borrow.Author.Tests.{ltb-false}
-use Rattle.grammar.proofs.Laws.{done, refused, goes_on, follow, stops, within, beyond}
+use Rattle.grammar.proofs.Laws.{repeated-part, repeated-none, done, refused, goes_on, follow, stops, within, beyond}
 
 unroll : (x : Item) (n i : ℕ) → i < n → replicate (n - i) x ≡ x ∷ replicate (n - (i + 1)) x
 unroll x n i h = let e : n - i ≡ suc (n - (i + 1)) = omega arith in rw e
@@ -22,18 +23,8 @@ unroll-arms : (n i : ℕ) → i < n → arms (n - i) ≡ part a_pattern ∷ part
 unfolding arms
 unroll-arms n i h = let e : n - i ≡ suc (n - (i + 1)) = omega arith in rw e
 
-repeated-part : (e n : ℕ) → 0 < e → e < 4 → replicate n (part e) ≡ repeated e n
-repeated-part zero n h l = absurd (omega arith)
-repeated-part (suc zero) n h l = refl
-repeated-part (suc (suc zero)) n h l = refl
-repeated-part (suc (suc (suc zero))) n h l = refl
-repeated-part (suc (suc (suc (suc e)))) n h l = absurd (omega arith)
-
-repeated-none : (e n : ℕ) → (0 < e → 4 < e) → [] ≡ repeated e n
-repeated-none e n h = simp (ne_eqb e 1 (λ i. omega arith), ne_eqb e 2 (λ i. omega arith), ne_eqb e 3 (λ i. omega arith), ne_eqb e 4 (λ i. omega arith))
-
 -- ---- a line that is taken where entries are due begins a part
-fits-begins : (x : ℕ) (t : Triple) → begins x t ≡ is_some (head_of x t)
+fits-begins : (x : Sort) (t : Triple) → begins x t ≡ is_some (head_of x t)
 fits-begins = begins-head is_some (λ p. refl) refl
 
 entry-begun : (k last : ℕ) (t : Triple) (kd nm : ℕ) → declared_by k last t ≡ Some (Named kd nm) → begins an_entry t ≡ true
@@ -106,7 +97,7 @@ module _ (s : List ℕ) where
       go true h = ltb-true at _ h
       go false h = let z = past_end s at (ltb-false at _ h) in cc
 
-  module _ (x at : ℕ) (t : Triple) (l : line_at s at ≡ Some t) where
+  module _ (x : Sort) (at : ℕ) (t : Triple) (l : line_at s at ≡ Some t) where
     pub no_part : head_of x t ≡ None → Err (Unfit (at + 1)) ≡ read_at s (part x ∷ []) at
     no_part e = sym (refused s (part x) [] at (rw (l, e)))
 
@@ -114,7 +105,7 @@ module _ (s : List ℕ) where
     parted e = sym (goes_on s (part x) [] at (rw (l, e)) ∙ rw (append-nil, l, e))
 
   -- ---- types, then terms, then the others
-  module _ (at ty te e n : ℕ) where
+  module _ (at ty te : ℕ) (e : Sort) (n : ℕ) where
     pub types-stop : {d : SheetError} → Err d ≡ read_at s (replicate ty (part a_type)) at → Err d ≡ read_at s (following ty te e n) at
     unfolding following
     types-stop p = halt (replicate ty (part a_type)) _ at p
@@ -129,17 +120,17 @@ module _ (s : List ℕ) where
       unfolding following
       whole = then (replicate te (part a_term)) (repeated e n) _ q ∙ then (replicate ty (part a_type)) _ at p
 
-      pub whole-parts : 0 < e → e < 4 → read_at s (replicate n (part e)) j ≡ read_at s (following ty te e n) at
-      whole-parts h l = ap (λ a. read_at s a j) (repeated-part e n h l) ∙ whole
+      pub whole-parts : (e ≡ a_type) ⊎ ((e ≡ a_term) ⊎ (e ≡ a_pattern)) → read_at s (replicate n (part e)) j ≡ read_at s (following ty te e n) at
+      whole-parts h = ap (λ a. read_at s a j) (repeated-part e n h) ∙ whole
 
-      pub whole-arms : e ≡ 4 → read_at s (arms n) j ≡ read_at s (following ty te e n) at
-      whole-arms i = sym (ap (λ (x : ℕ). read_at s (repeated x n) j) i) ∙ whole
+      pub whole-arms : e ≡ an_arm → read_at s (arms n) j ≡ read_at s (following ty te e n) at
+      whole-arms i = sym (ap (λ (x : Sort). read_at s (repeated x n) j) i) ∙ whole
 
-      pub whole-none : (0 < e → 4 < e) → Ok j ≡ read_at s (following ty te e n) at
-      whole-none h = sym (done s j) ∙ ap (λ a. read_at s a j) (repeated-none e n h) ∙ whole
+      pub whole-none : e ≢ a_type → e ≢ a_term → e ≢ a_pattern → e ≢ an_arm → Ok j ≡ read_at s (following ty te e n) at
+      whole-none a b c d = sym (done s j) ∙ ap (λ x. read_at s x j) (repeated-none e n a b c d) ∙ whole
 
   -- what is due after the line is what is due after a part's first line, and then y
-  one-part : (k last at x : ℕ) (y : Item) → ok (entries k last) (line_at s at) ≡ true → due (entries k last) (line_at s at) ++ [] ≡ due (part x) (line_at s at) ++ (y ∷ []) → ok (part x) (line_at s at) ≡ true
+  one-part : (k last at : ℕ) (x : Sort) (y : Item) → ok (entries k last) (line_at s at) ≡ true → due (entries k last) (line_at s at) ++ [] ≡ due (part x) (line_at s at) ++ (y ∷ []) → ok (part x) (line_at s at) ≡ true
       → read_at s (entries k last ∷ []) at ≡ read_at s (part x ∷ y ∷ []) at
   one-part k last at x y o e f = goes_on s (entries k last) [] at o ∙ ap (λ (a : List Item). read_at s a (at + 1)) e ∙ sym (goes_on s (part x) (y ∷ []) at f)
 

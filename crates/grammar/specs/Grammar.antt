@@ -1,23 +1,24 @@
 -- The grammar of a plan, line by line. Assumes nothing: these are definitions.
 use Rattle.grammar.specs.declared.Declared.TheVariants.{Named, Expected}
 use Rattle.kinds.specs.declared.Parts.{Parts}
+use Rattle.kinds.specs.declared.Sort.{Sort}
 use Rattle.grammar.specs.declared.SheetError.TheVariants.{Unfit}
 use Rattle.grammar.specs.declared.SheetError.{SheetError}
 use Rattle.std.specs.Prelude.{Bool, cond, List, [], ◌∷◌, ◌++◌, ℕ, zero, suc, ◌+◌, ◌*◌, ◌-◌, ◌/◌, length, replicate, take, drop, ltb, eqb, Option, Some, None, Result, Ok, Err, is_some}
 use Rattle.sizes.specs.Sizes.{line_length}
 use Rattle.spelling.specs.declared.Triple.{Triple}
 use Rattle.spelling.specs.Spelling.{lines_from}
-use Rattle.kinds.specs.Kinds.{a_type, a_term, a_pattern, an_arm, an_entry, an_expected, a_goal, begins, head_of}
+use Rattle.kinds.specs.Kinds.{a_type, a_term, a_pattern, an_arm, an_entry, an_expected, a_goal, same_sort, begins, head_of}
 use Rattle.grammar.specs.declared.Declared.{Declared}
 
 -- What is due: a whole part of a sort, such as a type, or the line of kind 4 with the term; the rest of a plan, after
 -- an entry of kind k, 1 or 2, with the name last.
 pub data Item : Type 0 where
-  part : ℕ → Item
+  part : Sort → Item
   entries : ℕ → ℕ → Item
 
 -- ---- which lines may stand where an item is due
-abbrev pub head_in : ℕ → Option Triple → Option Parts
+abbrev pub head_in : Sort → Option Triple → Option Parts
 head_in x (Some t) = head_of x t
 head_in x None = None
 
@@ -40,13 +41,13 @@ unfoldable pub arms : ℕ → List Item
 arms zero = []
 arms (suc n) = part a_pattern ∷ part a_term ∷ arms n
 
-abbrev pub repeated : ℕ → ℕ → List Item
+abbrev pub repeated : Sort → ℕ → List Item
 repeated e n =
-    cond (eqb e a_type) (replicate n (part a_type)) (cond (eqb e a_term) (replicate n (part a_term))
-    (cond (eqb e a_pattern) (replicate n (part a_pattern)) (cond (eqb e an_arm) (arms n) [])))
+    cond (same_sort e a_type) (replicate n (part a_type)) (cond (same_sort e a_term) (replicate n (part a_term))
+    (cond (same_sort e a_pattern) (replicate n (part a_pattern)) (cond (same_sort e an_arm) (arms n) [])))
 
 -- types, then terms, then count times each
-unfoldable pub following : ℕ → ℕ → ℕ → ℕ → List Item
+unfoldable pub following : ℕ → ℕ → Sort → ℕ → List Item
 following ty te e n = replicate ty (part a_type) ++ (replicate te (part a_term) ++ repeated e n)
 
 abbrev pub parts_due : Option Parts → List Item

@@ -7,7 +7,7 @@ ghost use Rattle.spelling.specs.Spelling.{line_at};
 ghost use Rattle.grammar.specs.Grammar.{part, entries, in_order, declared_by, arms, following, read_at, sub_term};
 ghost use Rattle.grammar.specs.Check.{read_sheet, refusal_number, refusal_line};
 
-use kinds::{ARM, ENTRY, EXPECTED, GOAL, PATTERN, Parts, TERM, TYPE, begins, head_of};
+use kinds::{Parts, Sort, begins, head_of};
 use sizes::LINE_LENGTH;
 use spelling::{Triple, line_at};
 
@@ -47,7 +47,7 @@ impl SheetError {
 
 // One whole part of a sort.
 #[cycle(part)]
-fn read_part(s: &[u8], at: usize, sort: u64) -> Result<usize, SheetError>
+fn read_part(s: &[u8], at: usize, sort: Sort) -> Result<usize, SheetError>
     requires { at ≤ length s.now / line_length }
     ensures { result ≡ read_at s.now (part sort ∷ []) at }
 {
@@ -57,7 +57,7 @@ fn read_part(s: &[u8], at: usize, sort: u64) -> Result<usize, SheetError>
 
 // The part of a sort that begins with the line t, which stands at `at`.
 #[cycle(part)]
-fn read_begun(s: &[u8], at: usize, t: Triple, sort: u64) -> Result<usize, SheetError>
+fn read_begun(s: &[u8], at: usize, t: Triple, sort: Sort) -> Result<usize, SheetError>
     requires { (at ≤ length s.now / line_length) × (line_at s.now at ≡ Some t) }
     ensures { result ≡ read_at s.now (part sort ∷ []) at }
 {
@@ -67,7 +67,7 @@ fn read_begun(s: &[u8], at: usize, t: Triple, sort: u64) -> Result<usize, SheetE
 
 // As many parts of a sort as count says.
 #[cycle(part)]
-fn read_parts(s: &[u8], at: usize, sort: u64, count: u64) -> Result<usize, SheetError>
+fn read_parts(s: &[u8], at: usize, sort: Sort, count: u64) -> Result<usize, SheetError>
     requires { at ≤ length s.now / line_length }
     ensures { result ≡ read_at s.now (replicate count (part sort)) at }
 {
@@ -86,8 +86,8 @@ fn read_arms(s: &[u8], at: usize, count: u64) -> Result<usize, SheetError>
 {
     let mut next = at;
     for _ in 0..count {
-        let body = read_part(s, next, PATTERN)?;
-        next = read_part(s, body, TERM)?;
+        let body = read_part(s, next, Sort::Pattern)?;
+        next = read_part(s, body, Sort::Term)?;
     }
     Ok(next)
 }
@@ -98,11 +98,11 @@ fn read_follow(s: &[u8], at: usize, p: Parts) -> Result<usize, SheetError>
     requires { at ≤ length s.now / line_length }
     ensures { result ≡ read_at s.now (following p.types p.terms p.each p.count) at }
 {
-    let terms = read_parts(s, at, TYPE, p.types)?;
-    let rest = read_parts(s, terms, TERM, p.terms)?;
+    let terms = read_parts(s, at, Sort::Type, p.types)?;
+    let rest = read_parts(s, terms, Sort::Term, p.terms)?;
     match p.each {
-        TYPE | TERM | PATTERN => read_parts(s, rest, p.each, p.count),
-        ARM => read_arms(s, rest, p.count),
+        Sort::Type | Sort::Term | Sort::Pattern => read_parts(s, rest, p.each, p.count),
+        Sort::Arm => read_arms(s, rest, p.count),
         _ => Ok(rest),
     }
 }
@@ -129,13 +129,13 @@ pub fn in_order(t: Triple, k: u64, last: u64) -> bool
 fn declared_by(t: Triple, k: u64, last: u64) -> Option<Declared>
     ensures { result ≡ declared_by k last t }
 {
-    if begins(t, ENTRY) {
+    if begins(t, Sort::Entry) {
         return in_order(t, k, last).then_some(Declared::Named {
             kind: t.kind,
             name: t.value,
         });
     }
-    begins(t, EXPECTED).then_some(Declared::Expected)
+    begins(t, Sort::Expected).then_some(Declared::Expected)
 }
 
 // The rest of a plan, after an entry of kind k and the name last.
@@ -146,12 +146,12 @@ fn read_entries(s: &[u8], at: usize, k: u64, last: u64) -> Result<usize, SheetEr
     let t = line_at(s, at).ok_or(SheetError::Unfit(at + 1))?;
     match declared_by(t, k, last).ok_or(SheetError::Unfit(at + 1))? {
         Declared::Named { kind, name } => {
-            let next = read_begun(s, at, t, ENTRY)?;
+            let next = read_begun(s, at, t, Sort::Entry)?;
             read_entries(s, next, kind, name)
         }
         Declared::Expected => {
-            let next = read_begun(s, at, t, EXPECTED)?;
-            read_part(s, next, GOAL)
+            let next = read_begun(s, at, t, Sort::Expected)?;
+            read_part(s, next, Sort::Goal)
         }
     }
 }
@@ -174,7 +174,7 @@ pub fn sub_term(s: &[u8], at: usize) -> &[u8]
     if s.len() / LINE_LENGTH <= at {
         return &s[..0];
     }
-    match read_part(s, at, TERM) {
+    match read_part(s, at, Sort::Term) {
         Ok(end) => &s[LINE_LENGTH * at..LINE_LENGTH * end],
         Err(_) => &s[..0],
     }

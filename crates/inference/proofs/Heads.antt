@@ -2,6 +2,7 @@
 use Rattle.std.proofs.Common.{◌≡◌, refl, sym, ap, ◌∙◌, subst, ◌≢◌, List, ◌∷◌, ℕ, zero, suc, ◌+◌, ◌-◌, ◌≤◌, ◌<◌, arith, length, take, drop, length-drop}
 use Rattle.nodes.proofs.PartLaws.{length-take}
 use Rattle.spelling.specs.declared.Triple.{Triple}
+use Rattle.kinds.specs.declared.Sort.{Sort}
 use Rattle.kinds.specs.Kinds.{a_type, a_term, parts_of, row_of, table}
 use Rattle.kinds.specs.Kinds.{find as find_row}
 use Rattle.sheet.specs.Plan.{part_line}
@@ -27,7 +28,7 @@ pub two-parts : (t : Triple) → t.kind ≡ 23 → parts_of t ≡ 2
 unfolding parts_of row_of find_row table
 two-parts t e = rw e
 
-some-lines : (x n : ℕ) (l : List Triple) → IsPart x (take n l) → 0 < n
+some-lines : (x : Sort) (n : ℕ) (l : List Triple) → IsPart x (take n l) → 0 < n
 some-lines x zero l h = absurd h
 some-lines x (suc n) l h = omega arith
 

@@ -6,7 +6,7 @@ use borrow.Author.Tests.{eqb-false}
 use Rattle.nodes.specs.Nodes.{Ty, nodes_at}
 use Rattle.spelling.specs.declared.Triple.{Triple}
 use Rattle.kinds.specs.declared.Row.{Row}
-use Rattle.kinds.specs.Kinds.{a_term, parts_of, row_of, each_parts, table}
+use Rattle.kinds.specs.Kinds.{a_term, same_sort, parts_of, row_of, each_parts, table}
 use Rattle.kinds.specs.Kinds.{find as find_row}
 use Rattle.grammar.specs.Grammar.{ok}
 use Rattle.grammar.specs.Grammar.{part as item}
@@ -35,13 +35,13 @@ use Rattle.inferring.specs.Inferring.{TypeFits, InferAsk, CaseRoom, kind_at, Ter
 
 -- ---- a term's kinds
 abbrev term_kind : ℕ → Row → Bool
-term_kind k r = not (eqb r.sort a_term) || (leb 21 k && leb k 30)
+term_kind k r = not (same_sort r.sort a_term) || (leb 21 k && leb k 30)
 
 pub term-kind : (t : Triple) → ok (item a_term) (Some t) ≡ true → (21 ≤ t.kind) × (t.kind ≤ 30)
 unfolding table
 term-kind t e =
     let h = (due-following a_term t e).0 in
-    let n : (not (eqb (row_of t.kind).sort a_term) || (leb 21 t.kind && leb t.kind 30)) ≡ true = begun-row a_term t h (omega arith) term_kind refl in
+    let n : (not (same_sort (row_of t.kind).sort a_term) || (leb 21 t.kind && leb t.kind 30)) ≡ true = begun-row a_term t h refl term_kind refl in
     let b = (and-eq-true_iff (leb 21 t.kind) (leb t.kind 30)).0 (rw (sort-is a_term t h) at n) in
     (leb-true 21 t.kind b.0, leb-true t.kind 30 b.1)
 

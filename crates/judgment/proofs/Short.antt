@@ -15,6 +15,7 @@ use Rattle.nodes.specs.Parts.{take_parts, drop_parts}
 use Rattle.nodes.proofs.ListLaws.{cond_ind, all_append}
 use Rattle.nodes.proofs.PartLaws.{take-drop}
 use Rattle.spelling.specs.declared.Triple.{Triple}
+use Rattle.kinds.specs.declared.Sort.{Sort}
 use Rattle.kinds.specs.Kinds.{a_type, a_term, parts_of}
 use Rattle.grammar.specs.Check.{check}
 use Rattle.sheet.specs.Plan.{triples, nodes_of, Declaration, declarations, Binding, ◌∶◌, Bindings, bindings_in, lookup, entries_end, places_of, plan_of}
@@ -71,7 +72,7 @@ part-short : (i : ℕ) (e : Term) → length (part i e).lines ≤ length e.lines
 part-short zero e = omega (arith, cut-length e.lines 1)
 part-short (suc i) e = let h = part-short i (after_parts 1 e) in omega (arith, after-short 1 e, h)
 
-part-some : (x : ℕ) (ls : List Triple) → IsPart x ls → 0 < length ls
+part-some : (x : Sort) (ls : List Triple) → IsPart x ls → 0 < length ls
 part-some x [] h = absurd h
 part-some x (l ∷ ls) h = omega arith
 

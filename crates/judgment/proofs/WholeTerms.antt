@@ -8,6 +8,7 @@ use lib.Dec.{eqb}
 use lib.ListN.{replicate}
 use Rattle.nodes.proofs.ListLaws.{cond_ind}
 use Rattle.spelling.specs.declared.Triple.{Triple}
+use Rattle.kinds.specs.declared.Sort.{Sort}
 use Rattle.kinds.specs.Kinds.{a_type, a_term, a_pattern, row_of, find, table}
 use Rattle.grammar.specs.Grammar.{Item, part as item, arms, following}
 use Rattle.sheet.specs.Form.{Forms, IsPart}
@@ -22,10 +23,10 @@ abbrev pub ArmsOK : ℕ → Term → Type 0
 ArmsOK n e = Forms e.lines (arms n)
 
 -- ---- lines, part by part
-front : (e : Term) (x : ℕ) (ahead : List Item) → Forms e.lines (item x ∷ ahead) → IsPart x (part 0 e).lines × Forms (after_parts 1 e).lines ahead
+front : (e : Term) (x : Sort) (ahead : List Item) → Forms e.lines (item x ∷ ahead) → IsPart x (part 0 e).lines × Forms (after_parts 1 e).lines ahead
 front e x ahead f = split e.lines (item x ∷ []) ahead tt f
 
-two : (e : Term) (x y : ℕ) (ahead : List Item) → Forms e.lines (item x ∷ item y ∷ ahead) → IsPart x (part 0 e).lines × IsPart y (part 1 e).lines
+two : (e : Term) (x y : Sort) (ahead : List Item) → Forms e.lines (item x ∷ item y ∷ ahead) → IsPart x (part 0 e).lines × IsPart y (part 1 e).lines
 two e x y ahead f =
     let p = front e x (item y ∷ ahead) f in
     (p.0, (front (after_parts 1 e) y ahead p.1).0)

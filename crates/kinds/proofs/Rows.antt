@@ -7,7 +7,11 @@ use lib.ListN.{get_or-map, get_or-eq_default}
 use borrow.Author.Tests.{eqb-false, ltb-true, ltb-false}
 use Rattle.spelling.specs.declared.Triple.{Triple}
 use Rattle.kinds.specs.declared.Row.{Row}
-use Rattle.kinds.specs.Kinds.{Listed, find, table, row_of, unlisted, nothing, an_arm, an_entry, an_expected, a_goal, row_in, is_leaf, begins, head_of, parts_of, Tabled, parts_by}
+use Rattle.kinds.specs.declared.Sort.{Sort}
+use Rattle.kinds.specs.declared.Sort.TheVariants.{Nothing, «Type», Term, Pattern, Arm, Entry, Expected, Goal}
+use Rattle.kinds.specs.declared.Value.{Value}
+use Rattle.kinds.specs.declared.Value.TheVariants.{Unused, Name, Number, Operator}
+use Rattle.kinds.specs.Kinds.{digit_of, same_sort, sort_in, Listed, find, table, row_of, unlisted, nothing, a_type, a_term, a_pattern, an_arm, an_entry, an_expected, a_goal, row_in, is_leaf, begins, head_of, parts_of, Tabled, parts_by}
 use Rattle.kinds.proofs.Table.{tabled, at}
 
 -- the largest kind listed
@@ -57,10 +61,57 @@ pub listed-passes : (p : ℕ → Row → Bool) (k : ℕ) → every_listed p tabl
 unfolding row_of
 listed-passes p k e = listed p k table e
 
+-- ---- sorts
+sort-digit : (x : Sort) → sort_in (digit_of x) ≡ x
+sort-digit Nothing = refl
+sort-digit «Type» = refl
+sort-digit Term = refl
+sort-digit Pattern = refl
+sort-digit Arm = refl
+sort-digit Entry = refl
+sort-digit Expected = refl
+sort-digit Goal = refl
+
+pub same-true : (x y : Sort) → same_sort x y ≡ true → x ≡ y
+same-true x y e = sym (sort-digit x) ∙ ap sort_in (eqb-true (digit_of x) (digit_of y) e) ∙ sort-digit y
+
+pub true-same : (x y : Sort) → x ≡ y → same_sort x y ≡ true
+true-same x y e = eq-eqb (digit_of x) (digit_of y) (ap digit_of e)
+
+pub ne_same : (x y : Sort) → (x ≡ y → ⊥) → same_sort x y ≡ false
+ne_same x y n = ne_eqb (digit_of x) (digit_of y) (λ e. n (sym (sort-digit x) ∙ ap sort_in e ∙ sort-digit y))
+
+nothing-in : (d : ℕ) → same_sort (sort_in d) nothing ≡ eqb d 0
+nothing-in d = go (eqb d 0) (eqb d 1) (eqb d 2) (eqb d 3) (eqb d 4) (eqb d 5) (eqb d 6)
+  where
+    go : (z a b c e f g : Bool)
+        → same_sort (cond z nothing (cond a a_type (cond b a_term (cond c a_pattern (cond e an_arm (cond f an_entry (cond g an_expected a_goal))))))) nothing ≡ z
+    go true a b c e f g = refl
+    go false true b c e f g = refl
+    go false false true c e f g = refl
+    go false false false true e f g = refl
+    go false false false false true f g = refl
+    go false false false false false true g = refl
+    go false false false false false false true = refl
+    go false false false false false false false = refl
+
+-- ---- what a value holds
+abbrev value_digit : Value → ℕ
+value_digit Unused = 0
+value_digit Name = 1
+value_digit Number = 2
+value_digit Operator = 3
+
+abbrev pub is_number : Value → Bool
+is_number Unused = false
+is_number Name = false
+is_number Number = true
+is_number Operator = false
+
 -- ---- the table as words
 -- a row's fields as the digits of a word
 abbrev word_of : ℕ → ℕ
-word_of k = let r = row_of k in r.sort * 1048576 + r.value * 65536 + r.count * 4096 + r.types * 256 + r.terms * 16 + r.each
+word_of k = let r = row_of k in digit_of r.sort * 1048576 + value_digit r.value * 65536 + cond r.counted 4096 0 + r.types * 256 + r.terms * 16 + digit_of r.each
 
 pub words-tabled : Tabled (tabled word_of 0 44)
 unfolding tabled row_of find table
@@ -91,6 +142,7 @@ digits w =
 
 pub leaf-word : (w : ℕ) → eqb (w % 4096) 0 ≡ is_leaf (row_in w)
 leaf-word w = go (eqb (w / 256 % 16) 0) refl (eqb (w / 16 % 16) 0) refl (eqb (w % 16) 0) refl
+    ∙ ap (λ (b : Bool). eqb (w / 256 % 16) 0 && (eqb (w / 16 % 16) 0 && b)) (sym (nothing-in (w % 16)))
   where
     go : (p : Bool) → eqb (w / 256 % 16) 0 ≡ p → (q : Bool) → eqb (w / 16 % 16) 0 ≡ q → (r : Bool) → eqb (w % 16) 0 ≡ r → eqb (w % 4096) 0 ≡ (p && (q && r))
     go true p true q true r =
@@ -107,15 +159,15 @@ leaf-word w = go (eqb (w / 256 % 16) 0) refl (eqb (w / 16 % 16) 0) refl (eqb (w 
 abbrev pub Follow : ℕ → ℕ → Row → Type 0
 Follow ty te r = (r.types ≡ ty) × (r.terms ≡ te) × (r.each ≡ nothing)
 
-abbrev follows : ℕ → ℕ → ℕ → Row → Bool
-follows x ty te r = not (eqb r.sort x) || (eqb r.types ty && (eqb r.terms te && eqb r.each nothing))
+abbrev follows : Sort → ℕ → ℕ → Row → Bool
+follows x ty te r = not (same_sort r.sort x) || (eqb r.types ty && (eqb r.terms te && same_sort r.each nothing))
 
-follow : (x ty te : ℕ) (r : Row) → follows x ty te r ≡ true → r.sort ≡ x → Follow ty te r
+follow : (x : Sort) (ty te : ℕ) (r : Row) → follows x ty te r ≡ true → r.sort ≡ x → Follow ty te r
 follow x ty te r p e =
-    let h : (eqb r.types ty && (eqb r.terms te && eqb r.each nothing)) ≡ true = rw (eq-eqb r.sort x e) at p in
+    let h : (eqb r.types ty && (eqb r.terms te && same_sort r.each nothing)) ≡ true = rw (true-same r.sort x e) at p in
     let a = (and-eq-true_iff (eqb r.types ty) _).0 h in
     let b = (and-eq-true_iff (eqb r.terms te) _).0 a.1 in
-    (eqb-true r.types ty a.0, eqb-true r.terms te b.0, eqb-true r.each nothing b.1)
+    (eqb-true r.types ty a.0, eqb-true r.terms te b.0, same-true r.each nothing b.1)
 
 -- a type follows an entry, and the expected type's line; a term follows the goal's
 pub entry_row : (k : ℕ) → (row_of k).sort ≡ an_entry → Follow 1 0 (row_of k)
@@ -136,11 +188,11 @@ unfolding table
 expected-kind k e = go (listed-passes three k refl)
   where
     three : ℕ → Row → Bool
-    three k r = not (eqb r.sort an_expected) || eqb k 3
+    three k r = not (same_sort r.sort an_expected) || eqb k 3
 
     go : (row_of k ≡ unlisted) ⊎ (three k (row_of k) ≡ true) → k ≡ 3
-    go (inl u) = absurd (let z : nothing ≡ an_expected = sym (ap (λ (r : Row). r.sort) u) ∙ e in omega arith)
-    go (inr h) = eqb-true k 3 (rw (eq-eqb (row_of k).sort an_expected e) at h)
+    go (inl u) = absurd (let z : 0 ≡ 6 = ap digit_of (sym (ap (λ (r : Row). r.sort) u) ∙ e) in omega arith)
+    go (inr h) = eqb-true k 3 (rw (true-same (row_of k).sort an_expected e) at h)
 
 -- few parts follow whatever the count says
 pub few-types : (k : ℕ) → (row_of k).types ≤ 2
@@ -153,7 +205,7 @@ few-terms k = leb-true _ 3 (row-passes (λ r. leb r.terms 3) k refl)
 
 pub few-parts : (t : Triple) → t.count < 100000 → parts_of t ≤ 200003
 unfolding parts_of
-few-parts t h = go (eqb (row_of t.kind).each nothing) (eqb (row_of t.kind).each an_arm)
+few-parts t h = go (same_sort (row_of t.kind).each nothing) (same_sort (row_of t.kind).each an_arm)
   where
     go : (a b : Bool) → (row_of t.kind).types + (row_of t.kind).terms + cond a 0 (cond b (2 * t.count) t.count) ≤ 200003
     go true b = let ty = few-types t.kind in let te = few-terms t.kind in omega arith
@@ -161,7 +213,7 @@ few-parts t h = go (eqb (row_of t.kind).each nothing) (eqb (row_of t.kind).each 
     go false false = let ty = few-types t.kind in let te = few-terms t.kind in omega arith
 
 -- a part begins with a line exactly if the line says what must follow it
-pub begins-head : (f : Option Parts → Bool) → ((p : Parts) → f (Some p) ≡ true) → f None ≡ false → (x : ℕ) (t : Triple) → begins x t ≡ f (head_of x t)
+pub begins-head : (f : Option Parts → Bool) → ((p : Parts) → f (Some p) ≡ true) → f None ≡ false → (x : Sort) (t : Triple) → begins x t ≡ f (head_of x t)
 unfolding head_of
 begins-head f some none x t = go (begins x t)
   where

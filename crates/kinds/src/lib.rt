@@ -2,54 +2,47 @@
 #![tactic(auto)]
 
 ghost use Rattle.std.specs.Prelude.{◌≡◌, ℕ, ◌<◌, ◌≤◌};
-ghost use Rattle.kinds.specs.Kinds.{row_in, row_of, most_count, value_ok, count_ok, fields_ok, is_leaf, begins as begins_with, head_of, Tabled};
+ghost use Rattle.kinds.specs.Kinds.{sort_in, value_in, row_in, row_of, most_count, value_ok, count_ok, fields_ok, is_leaf, begins as begins_with, head_of, Tabled};
 
 use sizes::HIGHEST_NAME;
 use spelling::Triple;
 
-// Sorts of parts. An arm is a pattern and then a term.
-pub const NOTHING: u64 = 0;
+// Sorts of parts, in the order of their digits in a row's word. An arm is a pattern and then a term.
+#[derive(Clone, Copy, PartialEq, Eq)]
+pub enum Sort {
+    Nothing,
+    Type,
+    Term,
+    Pattern,
+    Arm,
+    // An entry with its type, the expected type with its line, and the term with its line.
+    Entry,
+    Expected,
+    Goal,
+}
 
-pub const TYPE: u64 = 1;
-
-pub const TERM: u64 = 2;
-
-pub const PATTERN: u64 = 3;
-
-pub const ARM: u64 = 4;
-
-// An entry with its type, the expected type with its line, and the term with its line.
-pub const ENTRY: u64 = 5;
-
-pub const EXPECTED: u64 = 6;
-
-pub const GOAL: u64 = 7;
-
-// What a value or a count holds.
-const UNUSED: u64 = 0;
-
-const NAME: u64 = 1;
-
-const NUMBER: u64 = 2;
-
-const OPERATOR: u64 = 3;
-
-const USED: u64 = 1;
+// What a value holds, in the same order.
+#[derive(Clone, Copy)]
+pub enum Value {
+    Unused,
+    Name,
+    Number,
+    Operator,
+}
 
 // What the table says of a kind.
 #[derive(Clone, Copy)]
 pub struct Row {
     // The sort of part that a line of this kind begins.
-    pub sort: u64,
-    // UNUSED, NAME, NUMBER or OPERATOR.
-    pub value: u64,
-    // UNUSED or USED.
-    pub count: u64,
+    pub sort: Sort,
+    pub value: Value,
+    // It has a count.
+    pub counted: bool,
     // How many types follow, and then how many terms.
     pub types: u64,
     pub terms: u64,
     // What then follows as many times as the count says.
-    pub each: u64,
+    pub each: Sort,
 }
 
 // The rows by kind, a hexadecimal digit a field, in the order of Row. A constant array is laid down anew at each use,
@@ -101,16 +94,43 @@ const TABLE: [u32; 44] = [
     0x311003, // 43 Constructor
 ];
 
+// The last of the sorts stands for each digit from its own on.
+fn sort_in(digit: u32) -> Sort
+    ensures { result ≡ sort_in digit }
+{
+    match digit {
+        0 => Sort::Nothing,
+        1 => Sort::Type,
+        2 => Sort::Term,
+        3 => Sort::Pattern,
+        4 => Sort::Arm,
+        5 => Sort::Entry,
+        6 => Sort::Expected,
+        _ => Sort::Goal,
+    }
+}
+
+fn value_in(digit: u32) -> Value
+    ensures { result ≡ value_in digit }
+{
+    match digit {
+        0 => Value::Unused,
+        1 => Value::Name,
+        2 => Value::Number,
+        _ => Value::Operator,
+    }
+}
+
 pub fn unpacked(word: u32) -> Row
     ensures { result ≡ row_in word }
 {
     Row {
-        sort: (word / 0x100000) as u64,
-        value: (word / 0x10000 % 16) as u64,
-        count: (word / 0x1000 % 16) as u64,
+        sort: sort_in(word / 0x100000),
+        value: value_in(word / 0x10000 % 16),
+        counted: word / 0x1000 % 16 != 0,
         types: (word / 0x100 % 16) as u64,
         terms: (word / 0x10 % 16) as u64,
-        each: (word % 16) as u64,
+        each: sort_in(word % 16),
     }
 }
 
@@ -142,34 +162,34 @@ pub fn is_leaf(word: u32) -> bool
     word % 0x1000 == 0
 }
 
-fn value_ok(rule: u64, value: u64) -> bool
+fn value_ok(rule: Value, value: u64) -> bool
     ensures { result ≡ value_ok rule value }
 {
     match rule {
-        UNUSED => value == 0,
-        NUMBER => true,
-        NAME => 1 <= value && value <= HIGHEST_NAME,
-        _ => 1 <= value && value <= 6,
+        Value::Unused => value == 0,
+        Value::Name => 1 <= value && value <= HIGHEST_NAME,
+        Value::Number => true,
+        Value::Operator => 1 <= value && value <= 6,
     }
 }
 
-fn most_count(rule: u64) -> u64
-    ensures { result ≡ most_count rule }
+fn most_count(counted: bool) -> u64
+    ensures { result ≡ most_count counted }
 {
-    if rule == UNUSED { 0 } else { 99 }
+    if counted { 99 } else { 0 }
 }
 
-fn count_ok(rule: u64, count: u64) -> bool
-    ensures { result ≡ count_ok rule count }
+fn count_ok(counted: bool, count: u64) -> bool
+    ensures { result ≡ count_ok counted count }
 {
-    count <= most_count(rule)
+    count <= most_count(counted)
 }
 
 // The fields of a line of that row are in range.
 fn row_takes(row: Row, t: Triple) -> bool
     ensures { result ≡ fields_ok row t }
 {
-    value_ok(row.value, t.value) && count_ok(row.count, t.count)
+    value_ok(row.value, t.value) && count_ok(row.counted, t.count)
 }
 
 // The fields of a line whose row is that word are in range.
@@ -184,13 +204,13 @@ pub fn fields_ok(word: u32, t: Triple) -> bool
 pub struct Parts {
     pub types: u64,
     pub terms: u64,
-    pub each: u64,
+    pub each: Sort,
     pub count: u64,
 }
 
 // What must follow the line; None where no part of the sort begins with it.
 #[tactic(auto, unfolding(crate::specs::Kinds::head_of, crate::specs::Kinds::begins))]
-pub fn head_of(t: Triple, sort: u64) -> Option<Parts>
+pub fn head_of(t: Triple, sort: Sort) -> Option<Parts>
     ensures { result ≡ head_of sort t }
 {
     let row = row_at(t.kind);
@@ -204,7 +224,7 @@ pub fn head_of(t: Triple, sort: u64) -> Option<Parts>
 
 // A part of the sort begins with this line.
 #[tactic(auto, unfolding(crate::specs::Kinds::head_of))]
-pub fn begins(t: Triple, sort: u64) -> bool
+pub fn begins(t: Triple, sort: Sort) -> bool
     ensures { result ≡ begins_with sort t }
 {
     head_of(t, sort).is_some()

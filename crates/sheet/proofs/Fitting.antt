@@ -1,6 +1,6 @@
 -- A sheet is a plan exactly if each of its lines fits in front of those after it, and the plan's own lines come in their order. Assumes nothing.
 use Rattle.grammar.specs.declared.SheetError.{SheetError}
-use Rattle.std.proofs.Common.{Result, Ok, Err, Option, Some, None, is_some, ◌≡◌, refl, sym, ap, ◌∙◌, subst, ◌≢◌, inl, Bool, true, false, not, ◌&&◌, ◌||◌, List, [], ◌∷◌, ◌++◌, map, append_assoc, append-nil, ℕ, zero, suc, ◌+◌, ◌/◌, ◌≤◌, ◌<◌, add-zero, zero-add, arith, length, get_or, drop, length-append, drop_of_length-le, eqb, ltb, eqb-true, eq-eqb, ne_eqb, ltb-true, ltb-false}
+use Rattle.std.proofs.Common.{Result, Ok, Err, Option, Some, None, is_some, ◌≡◌, refl, sym, ap, ◌∙◌, subst, inl, Bool, true, false, not, ◌&&◌, ◌||◌, List, [], ◌∷◌, ◌++◌, map, append_assoc, append-nil, ℕ, zero, suc, ◌+◌, ◌/◌, ◌≤◌, ◌<◌, add-zero, zero-add, arith, length, get_or, drop, length-append, drop_of_length-le, eqb, ltb, eqb-true, eq-eqb, ne_eqb, ltb-true, ltb-false}
 use mathlib.Core.Bool.{and-eq-true_iff, and_comm, false≢true}
 use native.Mathlib.Nat.{sub-zero}
 use Rattle.sizes.specs.Sizes.{line_length}
@@ -12,8 +12,9 @@ use Rattle.spelling.specs.declared.Triple.{Triple}
 use Rattle.spelling.specs.Spelling.{lines_from, lines_of}
 use Rattle.spelling.proofs.Laws.{length-lines}
 use Rattle.kinds.specs.declared.Row.{Row}
-use Rattle.kinds.proofs.Rows.{expected-kind}
-use Rattle.kinds.specs.Kinds.{an_entry, an_expected, a_goal, table, find, row_of, fields_ok, begins, head_of, parts_of}
+use Rattle.kinds.proofs.Rows.{expected-kind, same-true, true-same}
+use Rattle.kinds.specs.declared.Sort.{Sort}
+use Rattle.kinds.specs.Kinds.{nothing, same_sort, an_entry, an_expected, a_goal, table, find, row_of, fields_ok, begins, head_of, parts_of}
 use Rattle.grammar.specs.declared.Declared.{Declared}
 use Rattle.grammar.specs.declared.Declared.TheVariants.{Named, Expected}
 use Rattle.grammar.specs.Grammar.{Item, part, entries, in_order, declared_by, ok, due, parts_due, entry_due, read, read_at}
@@ -49,27 +50,27 @@ true-forms (t ∷ ts) (x ∷ a) f = (and-eq-true_iff (ok x (Some t)) _).1 (f.0, 
 -- the goal's line has kind 4
 goal-four : (t : Triple) → begins a_goal t ≡ true → t.kind ≡ 4
 unfolding table
-goal-four t b = eqb-true t.kind 4 (rw (eq-eqb (row_of t.kind).sort a_goal (sort-is a_goal t b)) at (begun-row a_goal t b (omega arith) four refl))
+goal-four t b = eqb-true t.kind 4 (rw (true-same (row_of t.kind).sort a_goal (sort-is a_goal t b)) at (begun-row a_goal t b refl four refl))
   where
     four : ℕ → Row → Bool
-    four k r = not (eqb r.sort a_goal) || eqb k 4
+    four k r = not (same_sort r.sort a_goal) || eqb k 4
 
-begins-by : (x : ℕ) (t : Triple) → (row_of t.kind).sort ≡ x → fields_ok (row_of t.kind) t ≡ true → begins x t ≡ true
+begins-by : (x : Sort) (t : Triple) → (row_of t.kind).sort ≡ x → fields_ok (row_of t.kind) t ≡ true → begins x t ≡ true
 unfolding begins
-begins-by x t e f = rw (eq-eqb (row_of t.kind).sort x e) f
+begins-by x t e f = rw (true-same (row_of t.kind).sort x e) f
 
-begun-fields : (x : ℕ) (t : Triple) → begins x t ≡ true → fields_ok (row_of t.kind) t ≡ true
+begun-fields : (x : Sort) (t : Triple) → begins x t ≡ true → fields_ok (row_of t.kind) t ≡ true
 begun-fields x t b = (and-eq-true_iff _ _).1 (value-ok x t b, count-ok x t b)
 
-head-due : (x : ℕ) (t : Triple) → begins x t ≡ true → parts_due (head_of x t) ≡ parts_after (row_of t.kind) t.count
+head-due : (x : Sort) (t : Triple) → begins x t ≡ true → parts_due (head_of x t) ≡ parts_after (row_of t.kind) t.count
 unfolding head_of
 head-due x t b = rw b
 
-part-ok : (x : ℕ) (t : Triple) → begins x t ≡ true → ok (part x) (Some t) ≡ true
+part-ok : (x : Sort) (t : Triple) → begins x t ≡ true → ok (part x) (Some t) ≡ true
 unfolding head_of
 part-ok x t b = rw b
 
-part-not : (x : ℕ) (t : Triple) → begins x t ≡ false → ok (part x) (Some t) ≡ false
+part-not : (x : Sort) (t : Triple) → begins x t ≡ false → ok (part x) (Some t) ≡ false
 unfolding head_of
 part-not x t b = rw b
 
@@ -80,7 +81,7 @@ length-after t = length-following _ _ _ t.count (few-each t.kind)
 -- parts of a real sort
 abbrev pub Real : List Item → Type 0
 Real [] = Unit {0}
-Real (part x ∷ a) = (x ≢ 0) × Real a
+Real (part x ∷ a) = (same_sort x nothing ≡ false) × Real a
 Real (entries k n ∷ a) = ⊥
 
 real : (a : List Item) → AllParts a → All Sorted a → Real a
@@ -101,24 +102,24 @@ meets-append : (a b : List Item) (ts : List Triple) → meets ts a ≡ true → 
 unfolding meets
 meets-append [] b ts p q = rw (drop-none parts_of ts) at q
 meets-append (part x ∷ a) b ts p q =
-    let e = (and-eq-true_iff (eqb (first_sort ts) x) _).0 p in
+    let e = (and-eq-true_iff (same_sort (first_sort ts) x) _).0 p in
     let d : drop_parts parts_of ts (suc (length a)) ≡ drop_parts parts_of (drop_parts parts_of ts 1) (length a) = let k : suc (length a) ≡ 1 + length a = omega arith in ap (drop_parts parts_of ts) k ∙ drop-drop parts_of ts 1 (length a) in
-    (and-eq-true_iff (eqb (first_sort ts) x) _).1 (e.0, meets-append a b (drop_parts parts_of ts 1) e.1 (rw d at q))
+    (and-eq-true_iff (same_sort (first_sort ts) x) _).1 (e.0, meets-append a b (drop_parts parts_of ts 1) e.1 (rw d at q))
 meets-append (entries k n ∷ a) b ts p q = absurd (false≢true p)
 
 -- lines that all fit are read over by the parts that they meet
 pub over : (ts : List Triple) (a b : List Item) → all_fit ts ≡ true → Real a → meets ts a ≡ true → forms ts (a ++ b) ≡ forms (drop_parts parts_of ts (length a)) b
 unfolding all_fit meets forms
 over [] [] b f r m = refl
-over [] (part x ∷ a) b f r m = absurd (r.0 (sym (eqb-true 0 x ((and-eq-true_iff (eqb 0 x) _).0 m).0)))
+over [] (part x ∷ a) b f r m = absurd (false≢true (sym r.0 ∙ true-same x nothing (sym (same-true nothing x ((and-eq-true_iff (same_sort nothing x) _).0 m).0))))
 over [] (entries k n ∷ a) b f r m = absurd r
 over (t ∷ ts) [] b f r m = refl
 over (t ∷ ts) (entries k n ∷ a) b f r m = absurd r
 over (t ∷ ts) (part x ∷ a) b f r m =
     let g = (and-eq-true_iff (line_fits t ts) (all_fit ts)).0 f in
     let h = (and-eq-true_iff (fields_ok (row_of t.kind) t) _).0 g.0 in
-    let e = (and-eq-true_iff (eqb (row_of t.kind).sort x) _).0 m in
-    let c = begins-by x t (eqb-true (row_of t.kind).sort x e.0) h.0 in
+    let e = (and-eq-true_iff (same_sort (row_of t.kind).sort x) _).0 m in
+    let c = begins-by x t (same-true (row_of t.kind).sort x e.0) h.0 in
     let w : List Item = parts_after (row_of t.kind) t.count in
     let n : length w ≡ parts_of t = length-after t in
     let z : parts_of t + 0 ≡ length w = add-zero (parts_of t) ∙ sym n in
@@ -143,7 +144,7 @@ forms-meet [] b ts p f = refl
 forms-meet (part x ∷ a) b [] p f = absurd f
 forms-meet (part x ∷ a) b (t ∷ ts) p f =
     let s = split (t ∷ ts) (part x ∷ []) (a ++ b) tt f in
-    (and-eq-true_iff (eqb (row_of t.kind).sort x) _).1 (eq-eqb _ x (sort-is x t (due-following x t f.0).0), forms-meet a b (drop_parts parts_of (t ∷ ts) 1) p s.1)
+    (and-eq-true_iff (same_sort (row_of t.kind).sort x) _).1 (true-same _ x (sort-is x t (due-following x t f.0).0), forms-meet a b (drop_parts parts_of (t ∷ ts) 1) p s.1)
 forms-meet (entries k n ∷ a) b ts p f = absurd p
 
 -- a line that may stand: its fields are in range, and its parts come first of what follows
@@ -181,7 +182,7 @@ forms-fit (t ∷ ts) (x ∷ a) s f =
 -- a line that says nothing may stand nowhere
 nowhere : (x : Item) → Sorted x → ok x (Some no_triple) ≡ true → ⊥
 unfolding row_of find table
-nowhere (part x) s o = s (sym (sort-is x no_triple (due-following x no_triple o).0))
+nowhere (part x) s o = false≢true (sym s ∙ true-same x nothing (sym (sort-is x no_triple (due-following x no_triple o).0)))
 nowhere (entries k n) s o = none (says k n no_triple s) o
   where
     none : {d : Option Declared} → Says no_triple d → is_some d ≡ true → ⊥
@@ -280,7 +281,7 @@ module _ (t : Triple) where
       go false p true q e = rw (eqb-true t.kind 2 q)
       go false p false q e = absurd (false≢true e)
 
-  not-begun : (x : ℕ) → (begins x t ≡ true → ⊥) → begins x t ≡ false
+  not-begun : (x : Sort) → (begins x t ≡ true → ⊥) → begins x t ≡ false
   not-begun x n = go (begins x t) refl
     where
       go : (b : Bool) → begins x t ≡ b → begins x t ≡ false
@@ -289,10 +290,10 @@ module _ (t : Triple) where
 
   begun-entry : begins an_entry t ≡ true → is_entry t ≡ true
   unfolding table
-  begun-entry b = rw (eq-eqb (row_of t.kind).sort an_entry (sort-is an_entry t b)) at (begun-row an_entry t b (omega arith) own refl)
+  begun-entry b = rw (true-same (row_of t.kind).sort an_entry (sort-is an_entry t b)) at (begun-row an_entry t b refl own refl)
     where
       own : ℕ → Row → Bool
-      own k r = not (eqb r.sort an_entry) || (eqb k 1 || eqb k 2)
+      own k r = not (same_sort r.sort an_entry) || (eqb k 1 || eqb k 2)
 
   no-entry : is_entry t ≡ false → begins an_entry t ≡ false
   no-entry e = not-begun an_entry (λ b. false≢true (sym e ∙ begun-entry b))

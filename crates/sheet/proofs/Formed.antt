@@ -9,6 +9,7 @@ use Rattle.nodes.proofs.PartLaws.{is-take}
 use Rattle.spelling.specs.declared.Triple.{Triple}
 use Rattle.spelling.specs.Spelling.{lines_from, lines_of, first_misspelt}
 use Rattle.spelling.proofs.Laws.{length-lines}
+use Rattle.kinds.specs.declared.Sort.{Sort}
 use Rattle.kinds.specs.Kinds.{a_type, a_term, nothing, an_entry, an_expected, a_goal, row_of, begins, head_of, parts_of}
 use Rattle.kinds.proofs.Rows.{Follow, entry_row, expected-row, goal-row, expected-kind}
 use Rattle.grammar.specs.declared.Declared.{Declared}
@@ -58,15 +59,15 @@ says k last t h =
     (λ _. says-cond t (begins an_expected t) (λ b. expects b (expected-kind t.kind (sort-is an_expected t b))) (λ _. neither))
 
 -- what must follow one of the plan's own lines: so many types and terms
-after_line : (x ty te : ℕ) (t : Triple) → begins x t ≡ true → Follow ty te (row_of t.kind) → parts_due (head_of x t) ≡ following ty te nothing t.count
+after_line : (x : Sort) (ty te : ℕ) (t : Triple) → begins x t ≡ true → Follow ty te (row_of t.kind) → parts_due (head_of x t) ≡ following ty te nothing t.count
 unfolding head_of
 after_line x ty te t b f = rw (b, f.0, f.1, f.2)
 
-pub one_type : (x : ℕ) (t : Triple) → begins x t ≡ true → Follow 1 0 (row_of t.kind) → parts_due (head_of x t) ≡ part a_type ∷ []
+pub one_type : (x : Sort) (t : Triple) → begins x t ≡ true → Follow 1 0 (row_of t.kind) → parts_due (head_of x t) ≡ part a_type ∷ []
 unfolding following
 one_type x t b f = after_line x 1 0 t b f
 
-pub one-term : (x : ℕ) (t : Triple) → begins x t ≡ true → Follow 0 1 (row_of t.kind) → parts_due (head_of x t) ≡ part a_term ∷ []
+pub one-term : (x : Sort) (t : Triple) → begins x t ≡ true → Follow 0 1 (row_of t.kind) → parts_due (head_of x t) ≡ part a_term ∷ []
 unfolding following
 one-term x t b f = after_line x 0 1 t b f
 

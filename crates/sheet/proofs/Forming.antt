@@ -1,10 +1,13 @@
 -- A sheet that is taken is formed: `formed`. A whole part splits into its parts: `split`. Assumes nothing.
-use Rattle.std.proofs.Common.{Option, Some, None, Ok, is_some, ◌≡◌, refl, sym, ap, ◌∙◌, Bool, true, false, cond, List, [], ◌∷◌, ◌++◌, append_assoc, map, ℕ, zero, suc, ◌+◌, ◌*◌, ◌≤◌, arith, length, replicate, length-append, eqb, leb, leb-true}
+use Rattle.std.proofs.Common.{Option, Some, None, Ok, is_some, ◌≡◌, refl, sym, ap, ◌∙◌, Bool, true, false, cond, List, [], ◌∷◌, ◌++◌, append_assoc, map, ℕ, zero, suc, ◌+◌, ◌*◌, arith, length, replicate, length-append}
 use mathlib.Core.Path.{subst⁻¹}
+use mathlib.Core.Bool.{false≢true}
 use lib.ListN.{length-replicate}
 use Rattle.nodes.specs.Parts.{take_parts, drop_parts}
 use Rattle.spelling.specs.declared.Triple.{Triple}
-use Rattle.kinds.specs.Kinds.{a_type, a_term, a_pattern, an_arm, row_of, begins, head_of, each_parts, parts_of, table, parts_by}
+use Rattle.kinds.specs.declared.Sort.{Sort}
+use Rattle.kinds.specs.declared.Sort.TheVariants.{Nothing, «Type», Term, Pattern, Arm, Entry, Expected, Goal}
+use Rattle.kinds.specs.Kinds.{a_type, a_term, a_pattern, an_arm, same_sort, row_of, begins, head_of, each_parts, parts_of, table, parts_by}
 use Rattle.kinds.proofs.Rows.{row-passes}
 use Rattle.grammar.specs.Grammar.{Item, part, entries, ok, due, arms, repeated, following, parts_due, read}
 use Rattle.grammar.proofs.Laws.{one, no_line, bounds}
@@ -22,7 +25,7 @@ parts-append [] b p q = q
 parts-append (part x ∷ a) b p q = parts-append a b p q
 parts-append (entries k n ∷ a) b p q = absurd p
 
-parts-replicate : (n x : ℕ) → AllParts (replicate n (part x))
+parts-replicate : (n : ℕ) (x : Sort) → AllParts (replicate n (part x))
 parts-replicate zero x = tt
 parts-replicate (suc n) x = parts-replicate n x
 
@@ -40,37 +43,50 @@ cond-parts : (b : Bool) (x y : List Item) → AllParts x → AllParts y → AllP
 cond-parts true x y p q = p
 cond-parts false x y p q = q
 
-parts-repeated : (e n : ℕ) → AllParts (repeated e n)
+parts-repeated : (e : Sort) (n : ℕ) → AllParts (repeated e n)
 parts-repeated e n =
-    cond-parts (eqb e a_type) _ _ (parts-replicate n a_type) (cond-parts (eqb e a_term) _ _ (parts-replicate n a_term)
-    (cond-parts (eqb e a_pattern) _ _ (parts-replicate n a_pattern) (cond-parts (eqb e an_arm) (arms n) [] (parts-arms n) tt)))
+    cond-parts (same_sort e a_type) _ _ (parts-replicate n a_type) (cond-parts (same_sort e a_term) _ _ (parts-replicate n a_term)
+    (cond-parts (same_sort e a_pattern) _ _ (parts-replicate n a_pattern) (cond-parts (same_sort e an_arm) (arms n) [] (parts-arms n) tt)))
 
-length-repeated : (e n : ℕ) → e ≤ 4 → length (repeated e n) ≡ each_parts e n
-length-repeated zero n h = refl
-length-repeated (suc zero) n h = length-replicate n (part a_type)
-length-repeated (suc (suc zero)) n h = length-replicate n (part a_term)
-length-repeated (suc (suc (suc zero))) n h = length-replicate n (part a_pattern)
-length-repeated (suc (suc (suc (suc zero)))) n h = length-arms n
-length-repeated (suc (suc (suc (suc (suc e))))) n h = absurd (omega arith)
+-- a sort that may follow a line as many times as its count says, and nothing
+abbrev is_repeated : Sort → Bool
+is_repeated Nothing = true
+is_repeated «Type» = true
+is_repeated Term = true
+is_repeated Pattern = true
+is_repeated Arm = true
+is_repeated Entry = false
+is_repeated Expected = false
+is_repeated Goal = false
 
-pub few-each : (k : ℕ) → (row_of k).each ≤ 4
+length-repeated : (e : Sort) (n : ℕ) → is_repeated e ≡ true → length (repeated e n) ≡ each_parts e n
+length-repeated Nothing n h = refl
+length-repeated «Type» n h = length-replicate n (part a_type)
+length-repeated Term n h = length-replicate n (part a_term)
+length-repeated Pattern n h = length-replicate n (part a_pattern)
+length-repeated Arm n h = length-arms n
+length-repeated Entry n h = absurd (false≢true h)
+length-repeated Expected n h = absurd (false≢true h)
+length-repeated Goal n h = absurd (false≢true h)
+
+pub few-each : (k : ℕ) → is_repeated (row_of k).each ≡ true
 unfolding table
-few-each k = leb-true _ 4 (row-passes (λ r. leb r.each 4) k refl)
+few-each k = row-passes (λ r. is_repeated r.each) k refl
 
-pub length-following : (ty te e n : ℕ) → e ≤ 4 → length (following ty te e n) ≡ ty + te + each_parts e n
+pub length-following : (ty te : ℕ) (e : Sort) (n : ℕ) → is_repeated e ≡ true → length (following ty te e n) ≡ ty + te + each_parts e n
 unfolding following
 length-following ty te e n h =
     length-append (replicate ty (part a_type)) _
     ∙ rw (length-replicate ty (part a_type), length-append (replicate te (part a_term)) (repeated e n), length-replicate te (part a_term), length-repeated e n h) (omega arith)
 
-pub parts-following : (ty te e n : ℕ) → AllParts (following ty te e n)
+pub parts-following : (ty te : ℕ) (e : Sort) (n : ℕ) → AllParts (following ty te e n)
 unfolding following
 parts-following ty te e n =
     parts-append (replicate ty (part a_type)) _ (parts-replicate ty a_type)
     (parts-append (replicate te (part a_term)) (repeated e n) (parts-replicate te a_term) (parts-repeated e n))
 
 -- what follows a line that begins a part
-pub due-following : (x : ℕ) (t : Triple) → ok (part x) (Some t) ≡ true
+pub due-following : (x : Sort) (t : Triple) → ok (part x) (Some t) ≡ true
     → (begins x t ≡ true) × (due (part x) (Some t) ≡ following (row_of t.kind).types (row_of t.kind).terms (row_of t.kind).each t.count)
 unfolding head_of
 due-following x t = go (begins x t) refl
@@ -82,7 +98,7 @@ due-following x t = go (begins x t) refl
     go true q e = (q, refl)
     go false q e = absurd (let z : ◌≡◌ {A = ℕ} 0 1 = cc in omega arith)
 
-pub due-parts : (x : ℕ) (t : Triple) → ok (part x) (Some t) ≡ true → (length (due (part x) (Some t)) ≡ parts_of t) × AllParts (due (part x) (Some t))
+pub due-parts : (x : Sort) (t : Triple) → ok (part x) (Some t) ≡ true → (length (due (part x) (Some t)) ≡ parts_of t) × AllParts (due (part x) (Some t))
 unfolding parts_of
 due-parts x t e =
     let d = (due-following x t e).1 in

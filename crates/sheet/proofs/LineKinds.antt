@@ -1,12 +1,14 @@
 -- Which kinds the lines of a sheet that is taken have: never that of an output. Assumes nothing.
 use Rattle.kinds.specs.declared.Parts.{Parts}
-use Rattle.std.proofs.Common.{Ok, Some, Option, None, is_some, ◌≡◌, refl, sym, ◌≢◌, inl, Bool, true, false, not, cond, ◌||◌, List, [], ◌∷◌, ◌++◌, ℕ, zero, suc, arith, replicate, eqb, eqb-true, ne_eqb}
-use mathlib.Core.Bool.{and-eq-true_iff}
+use Rattle.std.proofs.Common.{Ok, Some, Option, None, is_some, ◌≡◌, refl, sym, ◌∙◌, ◌≢◌, inl, Bool, true, false, not, cond, ◌||◌, List, [], ◌∷◌, ◌++◌, ℕ, zero, suc, arith, replicate, eqb, ne_eqb}
+use mathlib.Core.Bool.{and-eq-true_iff, false≢true}
 use borrow.Author.Tests.{eqb-false}
 use Rattle.nodes.specs.Lists.{All}
 use Rattle.nodes.proofs.ListLaws.{cond_ind, all_append}
 use Rattle.spelling.specs.declared.Triple.{Triple}
-use Rattle.kinds.specs.Kinds.{a_type, a_term, a_pattern, an_arm, an_entry, an_expected, table, find, row_of, begins, head_of, parts_by}
+use Rattle.kinds.specs.declared.Sort.{Sort}
+use Rattle.kinds.proofs.Rows.{same-true, true-same}
+use Rattle.kinds.specs.Kinds.{nothing, a_type, a_term, a_pattern, an_arm, same_sort, an_entry, an_expected, table, find, row_of, begins, head_of, parts_by}
 use Rattle.grammar.specs.declared.Declared.{Declared}
 use Rattle.grammar.specs.Grammar.{Item, part, entries, ok, due, arms, repeated, following, parts_due, entry_due}
 use Rattle.grammar.specs.Check.{check}
@@ -16,27 +18,27 @@ use Rattle.sheet.proofs.Formed.{Kinded, Says, an-entry, expects, neither, says, 
 
 -- ---- what is ever due: parts of a real sort, entries after kind 1 or 2
 abbrev pub Sorted : Item → Type 0
-Sorted (part x) = x ≢ 0
+Sorted (part x) = same_sort x nothing ≡ false
 Sorted (entries k n) = Kinded k
 
-sorted-replicate : (n x : ℕ) → x ≢ 0 → All Sorted (replicate n (part x))
+sorted-replicate : (n : ℕ) (x : Sort) → same_sort x nothing ≡ false → All Sorted (replicate n (part x))
 sorted-replicate zero x h = tt
 sorted-replicate (suc n) x h = (h, sorted-replicate n x h)
 
 sorted-arms : (n : ℕ) → All Sorted (arms n)
 unfolding arms
 sorted-arms zero = tt
-sorted-arms (suc n) = (omega arith, (omega arith, sorted-arms n))
+sorted-arms (suc n) = (refl, (refl, sorted-arms n))
 
-pub sorted-following : (ty te e n : ℕ) → All Sorted (following ty te e n)
+pub sorted-following : (ty te : ℕ) (e : Sort) (n : ℕ) → All Sorted (following ty te e n)
 unfolding following
 sorted-following ty te e n =
-    all_append Sorted (replicate ty (part a_type)) _ (sorted-replicate ty a_type (omega arith))
-    (all_append Sorted (replicate te (part a_term)) (repeated e n) (sorted-replicate te a_term (omega arith))
-    (cond_ind (All Sorted) (eqb e a_type) (λ _. sorted-replicate n a_type (omega arith))
-    (λ _. cond_ind (All Sorted) (eqb e a_term) (λ _. sorted-replicate n a_term (omega arith))
-    (λ _. cond_ind (All Sorted) (eqb e a_pattern) (λ _. sorted-replicate n a_pattern (omega arith))
-    (λ _. cond_ind (All Sorted) (eqb e an_arm) (λ _. sorted-arms n) (λ _. tt))))))
+    all_append Sorted (replicate ty (part a_type)) _ (sorted-replicate ty a_type refl)
+    (all_append Sorted (replicate te (part a_term)) (repeated e n) (sorted-replicate te a_term refl)
+    (cond_ind (All Sorted) (same_sort e a_type) (λ _. sorted-replicate n a_type refl)
+    (λ _. cond_ind (All Sorted) (same_sort e a_term) (λ _. sorted-replicate n a_term refl)
+    (λ _. cond_ind (All Sorted) (same_sort e a_pattern) (λ _. sorted-replicate n a_pattern refl)
+    (λ _. cond_ind (All Sorted) (same_sort e an_arm) (λ _. sorted-arms n) (λ _. tt))))))
 
 sorted_head : (h : Option Parts) → All Sorted (parts_due h)
 sorted_head (Some p) = sorted-following p.types p.terms p.each p.count
@@ -44,7 +46,7 @@ sorted_head None = tt
 
 sorted-entry : (t : Triple) {d : Option Declared} → Says t d → All Sorted (entry_due d (Some t))
 sorted-entry t (an-entry k n b e kd) = all_append Sorted (parts_due (head_of an_entry t)) _ (sorted_head (head_of an_entry t)) (kd, tt)
-sorted-entry t (expects b e) = all_append Sorted (parts_due (head_of an_expected t)) _ (sorted_head (head_of an_expected t)) (omega arith, tt)
+sorted-entry t (expects b e) = all_append Sorted (parts_due (head_of an_expected t)) _ (sorted_head (head_of an_expected t)) (refl, tt)
 sorted-entry t neither = tt
 
 pub sorted-due : (x : Item) (t : Triple) → Sorted x → All Sorted (due x (Some t))
@@ -52,13 +54,13 @@ sorted-due (part x) t h = sorted_head (head_of x t)
 sorted-due (entries k n) t h = sorted-entry t (says k n t h)
 
 -- ---- a line that may stand is not of kind 17
-begins-kind : (x : ℕ) (t : Triple) → x ≢ 0 → begins x t ≡ true → t.kind ≢ 17
+begins-kind : (x : Sort) (t : Triple) → same_sort x nothing ≡ false → begins x t ≡ true → t.kind ≢ 17
 unfolding begins row_of find table
 begins-kind x t h e k =
-    let s : (row_of 17).sort ≡ x = rw k at (eqb-true (row_of t.kind).sort x ((and-eq-true_iff (eqb (row_of t.kind).sort x) _).0 e).0) in
-    h (sym s)
+    let s : (row_of 17).sort ≡ x = rw k at (same-true (row_of t.kind).sort x ((and-eq-true_iff (same_sort (row_of t.kind).sort x) _).0 e).0) in
+    false≢true (sym h ∙ true-same x nothing (sym s))
 
-head-kind : (x : ℕ) (t : Triple) → x ≢ 0 → is_some (head_of x t) ≡ true → t.kind ≢ 17
+head-kind : (x : Sort) (t : Triple) → same_sort x nothing ≡ false → is_some (head_of x t) ≡ true → t.kind ≢ 17
 unfolding head_of
 head-kind x t h = go (begins x t) refl
   where

@@ -1,15 +1,16 @@
 -- How large the fields of a line are where a part stands, and how many lines there are. Assumes nothing.
 use Rattle.grammar.specs.declared.SheetError.TheVariants.{Length}
 use Rattle.grammar.specs.declared.SheetError.{SheetError}
-use Rattle.std.proofs.Common.{Result, Ok, Err, Some, ◌≡◌, refl, sym, ap, ◌∙◌, ◌≢◌, ◌⊎◌, inl, inr, Bool, true, false, not, cond, ◌&&◌, ◌||◌, List, [], ◌∷◌, ◌++◌, ℕ, ◌≤◌, ◌<◌, arith, length, drop, eqb, leb, eqb-true, ne_eqb, leb-true}
+use Rattle.std.proofs.Common.{Result, Ok, Err, Some, ◌≡◌, refl, sym, ap, ◌∙◌, ◌≢◌, ◌⊎◌, inl, inr, Bool, true, false, not, cond, ◌&&◌, ◌||◌, List, [], ◌∷◌, ◌++◌, ℕ, ◌≤◌, ◌<◌, arith, length, drop, eqb, eqb-true, ne_eqb, leb-true}
 use mathlib.Core.Path.{subst⁻¹}
 use mathlib.Core.Bool.{and-eq-true_iff, false≢true}
 use Rattle.sizes.specs.Sizes.{most_lines, highest_name}
 use Rattle.nodes.specs.Lists.{All}
 use Rattle.spelling.specs.declared.Triple.{Triple}
 use Rattle.kinds.specs.declared.Row.{Row}
-use Rattle.kinds.specs.Kinds.{a_term, number, table, row_of, unlisted, count_ok}
-use Rattle.kinds.proofs.Rows.{listed-passes}
+use Rattle.kinds.specs.declared.Sort.{Sort}
+use Rattle.kinds.specs.Kinds.{a_term, table, row_of, unlisted, count_ok}
+use Rattle.kinds.proofs.Rows.{listed-passes, is_number}
 use Rattle.grammar.specs.Grammar.{Item, part, entries, ok, due}
 use Rattle.grammar.specs.Check.{length_ok, check}
 use Rattle.grammar.proofs.Lines.{few-lines}
@@ -27,7 +28,7 @@ pub record InRange (t : Triple) : Type 0 where
 
 -- only a literal's value is a number, whether the kind is listed or not
 abbrev literal_only : ℕ → Row → Bool
-literal_only k r = eqb k 22 || not (eqb r.value number)
+literal_only k r = eqb k 22 || not (is_number r.value)
 
 or-true : (b : Bool) → (b || true) ≡ true
 or-true true = refl
@@ -41,19 +42,16 @@ literal-only k = go (listed-passes literal_only k refl)
     go (inl u) = subst⁻¹ (λ (r : Row). literal_only k r ≡ true) u (or-true (eqb k 22))
     go (inr h) = h
 
-count_small : (rule c : ℕ) → count_ok rule c ≡ true → c ≤ 99
-count_small rule c = go (eqb rule 0)
-  where
-    go : (b : Bool) → leb c (cond b 0 99) ≡ true → c ≤ 99
-    go true e = let z = leb-true c 0 e in omega arith
-    go false e = leb-true c 99 e
+count_small : (counted : Bool) (c : ℕ) → count_ok counted c ≡ true → c ≤ 99
+count_small true c e = leb-true c 99 e
+count_small false c e = let z = leb-true c 0 e in omega arith
 
-line-in-range : (x : ℕ) (t : Triple) → ok (part x) (Some t) ≡ true → InRange t
+line-in-range : (x : Sort) (t : Triple) → ok (part x) (Some t) ≡ true → InRange t
 line-in-range x t e =
     let b = (due-following x t e).0 in
     record {
       value = λ h. name-small (row_of t.kind).value t.value (rw (ne_eqb t.kind 22 h) at (literal-only t.kind)) (value-ok x t b);
-      count = count_small (row_of t.kind).count t.count (count-ok x t b);
+      count = count_small (row_of t.kind).counted t.count (count-ok x t b);
     }
 
 forms-in-range : (ts : List Triple) (ahead : List Item) → AllParts ahead → Forms ts ahead → All InRange ts
@@ -66,7 +64,7 @@ forms-in-range (t ∷ ts) (part x ∷ ahead) p f = (
 forms-in-range (t ∷ ts) (entries k n ∷ ahead) p f = absurd p
 
 -- every line of one whole type, term or pattern
-pub part-in-range : (x : ℕ) (ts : List Triple) → IsPart x ts → All InRange ts
+pub part-in-range : (x : Sort) (ts : List Triple) → IsPart x ts → All InRange ts
 part-in-range x ts f = forms-in-range ts (part x ∷ []) tt f
 
 -- so is every name that the term uses

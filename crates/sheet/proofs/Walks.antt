@@ -1,10 +1,13 @@
 -- The walk over the parts of a line by their first lines. Assumes nothing.
-use Rattle.std.proofs.Common.{◌≡◌, refl, sym, ap, ap₂, ◌∙◌, ◌≢◌, Bool, true, false, ◌&&◌, List, [], ◌∷◌, ◌++◌, ℕ, zero, suc, ◌+◌, ◌*◌, ◌-◌, ◌%◌, ◌≤◌, ◌<◌, arith, length, get_or, drop, replicate, length-append, drop_of_length-le, eqb, ne_eqb, eqb-true}
+use Rattle.std.proofs.Common.{◌≡◌, refl, sym, ap, ap₂, ◌∙◌, ◌≢◌, ◌⊎◌, Bool, true, false, ◌&&◌, List, [], ◌∷◌, ◌++◌, ℕ, zero, suc, ◌+◌, ◌*◌, ◌-◌, ◌%◌, ◌≤◌, ◌<◌, arith, length, get_or, drop, replicate, length-append, drop_of_length-le, eqb, eqb-true}
 use mathlib.Core.Bool.{and-eq-true_iff}
 use Rattle.nodes.specs.Parts.{drop_parts}
 use Rattle.spelling.specs.declared.Triple.{Triple}
 use Rattle.kinds.specs.declared.Row.{Row}
-use Rattle.kinds.specs.Kinds.{a_type, a_term, a_pattern, row_of, is_leaf, fields_ok, parts_of}
+use Rattle.kinds.specs.declared.Sort.{Sort}
+use Rattle.kinds.proofs.Rows.{same-true, ne_same}
+use Rattle.grammar.proofs.Laws.{repeated-part, repeated-none}
+use Rattle.kinds.specs.Kinds.{nothing, a_type, a_term, a_pattern, an_arm, same_sort, row_of, is_leaf, fields_ok, parts_of}
 use Rattle.grammar.specs.Grammar.{Item, part, entries, arms, repeated, following}
 use Rattle.sheet.specs.declared.Walked.{Walked}
 use Rattle.sheet.specs.Plan.{no_triple, part_line}
@@ -43,18 +46,18 @@ module _ (ls : List Triple) where
   over_none at f = both-are (line-none ls at 0 refl) (sym (and-true f))
 
   -- a part is due, and no line is there for it
-  pub over-past : (at : ℕ) (f : Bool) (x : ℕ) (ahead : List Item) → length ls ≤ at → x ≢ 0 → ended at false ≡ walked_over ls at f (part x ∷ ahead)
+  pub over-past : (at : ℕ) (f : Bool) (x : Sort) (ahead : List Item) → length ls ≤ at → x ≢ nothing → ended at false ≡ walked_over ls at f (part x ∷ ahead)
   unfolding meets
   over-past at f x ahead h n =
-      let e : meets (drop at ls) (part x ∷ ahead) ≡ false = rw (drop_of_length-le ls h, ne_eqb 0 x (λ q. n (sym q))) in
+      let e : meets (drop at ls) (part x ∷ ahead) ≡ false = rw (drop_of_length-le ls h, ne_same nothing x (λ q. n (sym q))) in
       both-are (line-past ls at (suc (length ahead)) h) (sym (ap (λ (b : Bool). f && b) e ∙ and-false f))
 
   -- one part more
-  pub over-next : (at : ℕ) (f : Bool) (x : ℕ) (ahead : List Item) → at < length ls
-      → walked_over ls (part_line ls at 1) (f && eqb (row_of (get_or ls at no_triple).kind).sort x) ahead ≡ walked_over ls at f (part x ∷ ahead)
+  pub over-next : (at : ℕ) (f : Bool) (x : Sort) (ahead : List Item) → at < length ls
+      → walked_over ls (part_line ls at 1) (f && same_sort (row_of (get_or ls at no_triple).kind).sort x) ahead ≡ walked_over ls at f (part x ∷ ahead)
   unfolding meets
   over-next at f x ahead h =
-      let e : Bool = eqb (row_of (get_or ls at no_triple).kind).sort x in
+      let e : Bool = same_sort (row_of (get_or ls at no_triple).kind).sort x in
       let m : meets (drop at ls) (part x ∷ ahead) ≡ (e && meets (drop (part_line ls at 1) ls) ahead) = rw (drop-line ls at 1, here ls at h) in
       both-are (hop at (length ahead)) (sym (ap (λ (b : Bool). f && b) m ∙ and_assoc f e _))
 
@@ -75,7 +78,7 @@ module _ (ls : List Triple) where
       let again : meets ts (a ++ b) ≡ (meets ts a && rest) =
       sym (ap (λ (xs : List Triple). meets xs (a ++ b)) d) ∙ meets_on (part_line ls at 1) a b p
       ∙ ap₂ (λ (y z : Bool). y && z) (ap (λ (xs : List Triple). meets xs a) d) (ap (λ (k : ℕ). meets (drop k ls) b) (hop at (length a))) in
-      ap (λ (y : Bool). eqb (first_sort (drop at ls)) x && y) again ∙ and_assoc (eqb (first_sort (drop at ls)) x) (meets ts a) rest
+      ap (λ (y : Bool). same_sort (first_sort (drop at ls)) x && y) again ∙ and_assoc (same_sort (first_sort (drop at ls)) x) (meets ts a) rest
   meets_on at (entries k n ∷ a) b p = absurd p
 
   pub over-on : (at : ℕ) (f : Bool) (a b : List Item) → AllParts a → walked_over ls (part_line ls at (length a)) (f && meets (drop at ls) a) b ≡ walked_over ls at f (a ++ b)
@@ -90,22 +93,22 @@ pub over-from : (ls : List Triple) (at : ℕ) (f : Bool) (ahead : List Item) {w 
 over-from ls at f ahead e = rw e (line-from ls at (length ahead))
 
 -- part i of n parts of one sort
-module _ (x n i line : ℕ) (fits : Bool) {ls : List Triple} {d : List ℕ} {lines at : ℕ} (H : HeldFrom ls d lines at) where
-  pub sort-turn : i < n → at ≤ line → line < lines → {s e : ℕ} → s ≡ (row_of (get_or d (2 * line + 1) 0 % 1024)).sort → e ≡ end_at d line
-      → (at ≤ e) × (walked_over ls e (fits && eqb s x) (replicate (n - (i + 1)) (part x)) ≡ walked_over ls line fits (replicate (n - i) (part x)))
+module _ (x : Sort) (n i line : ℕ) (fits : Bool) {ls : List Triple} {d : List ℕ} {lines at : ℕ} (H : HeldFrom ls d lines at) where
+  pub sort-turn : i < n → at ≤ line → line < lines → {s : Bool} {e : ℕ} → s ≡ same_sort (row_of (get_or d (2 * line + 1) 0 % 1024)).sort x → e ≡ end_at d line
+      → (at ≤ e) × (walked_over ls e (fits && s) (replicate (n - (i + 1)) (part x)) ≡ walked_over ls line fits (replicate (n - i) (part x)))
   sort-turn m h l es ee =
       let c = H.count in
-      let s = es ∙ ap (λ (j : ℕ). (row_of j).sort) (H.kinds line h (omega arith)) in
+      let s = es ∙ ap (λ (j : ℕ). same_sort (row_of j).sort x) (H.kinds line h (omega arith)) in
       let e = ee ∙ H.ends line h (omega arith) in
       let k : n - i ≡ suc (n - (i + 1)) = omega arith in
       let w = line-from ls line 1 in
       rw (s, e, k) (omega arith, over-next ls line fits x (replicate (n - (i + 1)) (part x)) (omega arith))
 
-  pub sort-past : i < n → lines ≤ line → 0 < x → ended line false ≡ walked_over ls line fits (replicate (n - i) (part x))
+  pub sort-past : i < n → lines ≤ line → x ≢ nothing → ended line false ≡ walked_over ls line fits (replicate (n - i) (part x))
   sort-past m l p =
       let c = H.count in
       let k : n - i ≡ suc (n - (i + 1)) = omega arith in
-      rw k (over-past ls line fits x (replicate (n - (i + 1)) (part x)) (omega arith) (λ e. omega arith))
+      rw k (over-past ls line fits x (replicate (n - (i + 1)) (part x)) (omega arith) p)
 
   pub sort-done : n ≤ i → ended line fits ≡ walked_over ls line fits (replicate (n - i) (part x))
   sort-done h = let k : n - i ≡ 0 = omega arith in rw k (over_none ls line fits)
@@ -127,11 +130,17 @@ module _ (ls : List Triple) (n i line : ℕ) (fits : Bool) where
   arms-done h = let k : n - i ≡ 0 = omega arith in rw k (over_none ls line fits)
 
 -- what follows count times
-pub each_none : (ls : List Triple) (line : ℕ) (fits : Bool) (e n : ℕ) → e ≡ 0 → ended line fits ≡ walked_over ls line fits (repeated e n)
-each_none ls line fits e n h = rw h (over_none ls line fits)
+pub each-parts : (ls : List Triple) (line : ℕ) (fits : Bool) (e : Sort) (n : ℕ) → (e ≡ a_type) ⊎ ((e ≡ a_term) ⊎ (e ≡ a_pattern)) → walked_over ls line fits (replicate n (part e)) ≡ walked_over ls line fits (repeated e n)
+each-parts ls line fits e n h = ap (walked_over ls line fits) (repeated-part e n h)
+
+pub each-arms : (ls : List Triple) (line : ℕ) (fits : Bool) (e : Sort) (n : ℕ) → e ≡ an_arm → walked_over ls line fits (arms n) ≡ walked_over ls line fits (repeated e n)
+each-arms ls line fits e n h = rw h refl
+
+pub each_none : (ls : List Triple) (line : ℕ) (fits : Bool) (e : Sort) (n : ℕ) → e ≢ a_type → e ≢ a_term → e ≢ a_pattern → e ≢ an_arm → ended line fits ≡ walked_over ls line fits (repeated e n)
+each_none ls line fits e n a b c d = over_none ls line fits ∙ ap (walked_over ls line fits) (repeated-none e n a b c d)
 
 -- all that follows a line
-all-parts : (n x : ℕ) → AllParts (replicate n (part x))
+all-parts : (n : ℕ) (x : Sort) → AllParts (replicate n (part x))
 all-parts zero x = tt
 all-parts (suc n) x = all-parts n x
 
@@ -155,7 +164,7 @@ module _ (ls : List Triple) (i : ℕ) (t : Triple) where
   leaf-none r n e =
       let a = (and-eq-true_iff (eqb r.types 0) _).0 e in
       let b = (and-eq-true_iff (eqb r.terms 0) _).0 a.1 in
-      rw (eqb-true r.types 0 a.0, eqb-true r.terms 0 b.0, eqb-true r.each 0 b.1)
+      rw (eqb-true r.types 0 a.0, eqb-true r.terms 0 b.0, same-true r.each nothing b.1)
 
   pub leaf_walked : {r : Row} {f : Bool} → r ≡ row_of t.kind → f ≡ fields_ok r t → is_leaf r ≡ true → ended (i + 1) f ≡ walked ls i t
   leaf_walked {r} {f} er ef l = line-walked er ef (over_none ls (i + 1) f ∙ ap (walked_over ls (i + 1) f) (sym (leaf-none r t.count l)))

@@ -1,10 +1,11 @@
 -- Whether lines make up a plan, told line by line from the last one up. Assumes nothing: these are definitions.
 use Rattle.grammar.specs.declared.SheetError.{SheetError}
-use Rattle.std.specs.Prelude.{◌≡◌, Bool, true, false, ◌&&◌, List, [], ◌∷◌, ◌++◌, ℕ, ◌+◌, eqb, length, drop, Result, Ok, Err, Some}
+use Rattle.std.specs.Prelude.{◌≡◌, Bool, true, false, ◌&&◌, List, [], ◌∷◌, ◌++◌, ℕ, ◌+◌, length, drop, Result, Ok, Err, Some}
 use Rattle.nodes.specs.Parts.{drop_parts}
 use Rattle.spelling.specs.declared.Triple.{Triple}
 use Rattle.kinds.specs.declared.Row.{Row}
-use Rattle.kinds.specs.Kinds.{nothing, row_of, fields_ok, parts_of}
+use Rattle.kinds.specs.declared.Sort.{Sort}
+use Rattle.kinds.specs.Kinds.{nothing, same_sort, row_of, fields_ok, parts_of}
 use Rattle.grammar.specs.Grammar.{Item, part, entries, following, ok, due}
 use Rattle.sheet.specs.declared.Walked.{Walked}
 use Rattle.sheet.specs.Plan.{part_line}
@@ -23,14 +24,14 @@ forms (t ∷ ts) (x ∷ ahead) = let rest = forms ts (due x (Some t) ++ ahead) i
 
 -- ---- what parts follow a line, by their first lines
 -- the sort of part that starts with the first of these lines
-abbrev pub first_sort : List Triple → ℕ
+abbrev pub first_sort : List Triple → Sort
 first_sort [] = nothing
 first_sort (t ∷ ts) = (row_of t.kind).sort
 
 -- parts one after the other, each of which starts with a line of the sort that is due
 unfoldable pub meets : List Triple → List Item → Bool
 meets ts [] = true
-meets ts (part x ∷ ahead) = let rest = meets (drop_parts parts_of ts 1) ahead in eqb (first_sort ts) x && rest
+meets ts (part x ∷ ahead) = let rest = meets (drop_parts parts_of ts 1) ahead in same_sort (first_sort ts) x && rest
 meets ts (entries k last ∷ ahead) = false
 
 -- what must follow a line of the row r with the count n

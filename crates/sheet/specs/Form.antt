@@ -1,7 +1,8 @@
 -- What lines a sheet that is taken has. Assumes nothing: these are definitions.
-use Rattle.std.specs.Prelude.{◌≡◌, true, List, [], ◌∷◌, ◌++◌, ℕ, take, drop, Some}
+use Rattle.std.specs.Prelude.{◌≡◌, true, List, [], ◌∷◌, ◌++◌, take, drop, Some}
 use Rattle.nodes.specs.Parts.{take_parts}
 use Rattle.spelling.specs.declared.Triple.{Triple}
+use Rattle.kinds.specs.declared.Sort.{Sort}
 use Rattle.kinds.specs.Kinds.{a_type, a_term, parts_of}
 use Rattle.grammar.specs.Grammar.{Item, part, ok, due}
 use Rattle.sheet.specs.Plan.{Declaration, declarations, places_of}
@@ -14,7 +15,7 @@ Forms (t ∷ ts) [] = ⊥
 Forms (t ∷ ts) (x ∷ ahead) = (ok x (Some t) ≡ true) × Forms ts (due x (Some t) ++ ahead)
 
 -- one whole type, term or pattern
-abbrev pub IsPart : ℕ → List Triple → Type 0
+abbrev pub IsPart : Sort → List Triple → Type 0
 IsPart x ts = Forms ts (part x ∷ [])
 
 -- every entry has a type

@@ -4,10 +4,10 @@
 // sheet that is one.
 #![tactic(auto)]
 
-ghost use Rattle.std.specs.Prelude.{◌≡◌, true, not, cond, ◌&&◌, ◌||◌, List, [], ◌∷◌, ℕ, ◌+◌, ◌*◌, ◌-◌, ◌/◌, ◌%◌, ◌≤◌, ◌<◌, length, get_or, set, take, drop, replicate, eqb};
+ghost use Rattle.std.specs.Prelude.{◌≡◌, ◌≢◌, true, not, cond, ◌&&◌, ◌||◌, List, [], ◌∷◌, ℕ, ◌+◌, ◌*◌, ◌-◌, ◌/◌, ◌%◌, ◌≤◌, ◌<◌, length, get_or, set, take, drop, replicate, eqb};
 ghost use Rattle.std.proofs.lemmas.List.Edits.{sets};
 ghost use Rattle.sizes.specs.Sizes.{line_length, most_lines};
-ghost use Rattle.kinds.specs.Kinds.{a_goal, row_of, Tabled};
+ghost use Rattle.kinds.specs.Kinds.{a_goal, nothing, same_sort, row_of, Tabled};
 ghost use Rattle.grammar.specs.Grammar.{part, entries, arms, repeated};
 ghost use Rattle.grammar.specs.Check.{length_ok, check};
 ghost use Rattle.nodes.specs.Nodes.{number, words, zeros};
@@ -19,9 +19,7 @@ ghost use Rattle.sheet.specs.Binders.{put_names, binder_by, TellsPlaces, UpTo, m
 ghost use Rattle.sheet.specs.Fit.{is_plan, forms, parts_after, WalksOver, walked, line_fits, all_fit};
 
 use grammar::in_order;
-use kinds::{
-    ARM, NOTHING, PATTERN, Row, TERM, TYPE, fields_ok, is_leaf, table_words, unpacked, word_in,
-};
+use kinds::{Row, Sort, fields_ok, is_leaf, table_words, unpacked, word_in};
 use sizes::{HIGHEST_NAME, LINE_LENGTH};
 use spelling::{Triple, few_at, line_at};
 
@@ -145,17 +143,17 @@ struct Walk<'a> {
 
 // Each walks over parts by their first lines, from where another one ended on; the rows from there on have been read.
 impl Walk<'_> {
-    // The sort of part that starts at line i.
-    fn sort_at(self, i: usize) -> u64
+    // The part that starts at line i is of that sort.
+    fn has_sort(self, i: usize, sort: Sort) -> bool
         requires { 2 * i + 1 < length self.sheet.now }
-        ensures { result ≡ (row_of (get_or self.entry.sheet.now (2 * i + 1) 0 % 1024)).sort }
+        ensures { result ≡ same_sort (row_of (get_or self.entry.sheet.now (2 * i + 1) 0 % 1024)).sort sort }
     {
-        unpacked(word_in(self.table, self.sheet[2 * i + 1] % 1024)).sort
+        unpacked(word_in(self.table, self.sheet[2 * i + 1] % 1024)).sort == sort
     }
 
     // n parts of one sort.
-    fn over_sort(self, from: Walked, n: u64, sort: u64) -> Walked
-        requires { 0 < sort }
+    fn over_sort(self, from: Walked, n: u64, sort: Sort) -> Walked
+        requires { sort ≢ nothing }
         ensures { WalksOver self.entry.sheet.now self.entry.lines from (replicate n (part sort)) result }
     {
         let mut line = from.line;
@@ -164,7 +162,7 @@ impl Walk<'_> {
             if self.lines <= line {
                 return Walked { line, fits: false };
             }
-            fits &= self.sort_at(line) == sort;
+            fits &= self.has_sort(line, sort);
             line = end_at(self.sheet, line);
         }
         Walked { line, fits }
@@ -176,31 +174,29 @@ impl Walk<'_> {
     {
         let mut walked = from;
         for _ in 0..n {
-            let pattern = self.over_sort(walked, 1, PATTERN);
-            walked = self.over_sort(pattern, 1, TERM);
+            let pattern = self.over_sort(walked, 1, Sort::Pattern);
+            walked = self.over_sort(pattern, 1, Sort::Term);
         }
         walked
     }
 
     // What follows n times.
-    fn over_each(self, from: Walked, n: u64, each: u64) -> Walked
-        requires { each ≤ 4 }
+    fn over_each(self, from: Walked, n: u64, each: Sort) -> Walked
         ensures { WalksOver self.entry.sheet.now self.entry.lines from (repeated each n) result }
     {
         match each {
-            NOTHING => from,
-            ARM => self.over_arms(from, n),
-            _ => self.over_sort(from, n, each),
+            Sort::Type | Sort::Term | Sort::Pattern => self.over_sort(from, n, each),
+            Sort::Arm => self.over_arms(from, n),
+            _ => from,
         }
     }
 
     // All that follows a line of that row with the count n.
     fn over_parts(self, from: Walked, n: u64, row: Row) -> Walked
-        requires { row.each ≤ 4 }
         ensures { WalksOver self.entry.sheet.now self.entry.lines from (parts_after row n) result }
     {
-        let types = self.over_sort(from, row.types, TYPE);
-        let terms = self.over_sort(types, row.terms, TERM);
+        let types = self.over_sort(from, row.types, Sort::Type);
+        let terms = self.over_sort(types, row.terms, Sort::Term);
         self.over_each(terms, n, row.each)
     }
 

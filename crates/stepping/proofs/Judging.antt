@@ -6,6 +6,7 @@ use Rattle.nodes.specs.Parts.{take_parts}
 use Rattle.nodes.proofs.PartLaws.{take_all}
 use Rattle.nodes.proofs.Laws.{length-nodes_at}
 use Rattle.spelling.specs.declared.Triple.{Triple}
+use Rattle.kinds.specs.declared.Sort.{Sort}
 use Rattle.kinds.specs.Kinds.{a_term, parts_of}
 use Rattle.sheet.specs.Rows.{rows}
 use Rattle.sheet.specs.Form.{IsPart}
@@ -34,7 +35,7 @@ use Rattle.stepping.specs.Stepping.{longest, top_entry, EntrySound, JudgeAsk}
 use Rattle.stepping.proofs.Reading.{read-few, read-formed}
 
 -- a part that is there stands on a line
-pub part-stands : (x : ℕ) (ls : List Triple) (p : ℕ) → IsPart x (term_at ls p).lines → p < length ls
+pub part-stands : (x : Sort) (ls : List Triple) (p : ℕ) → IsPart x (term_at ls p).lines → p < length ls
 unfolding term_at
 part-stands x ls p h = go (ltb p (length ls)) refl
   where

@@ -30,7 +30,8 @@ struct Kept {
 }
 
 // Performs the rule of an entry that was taken off the board. A type is copied where the rule's pushes would write over
-// it; a TVar or a Var is dropped.
+// it; a TVar or a Var is dropped. A step is inlined where the run's loop is: it has many arguments.
+#[inline(always)]
 fn solve_judgment(
     board: &mut [u32],
     book: &mut [u32],
@@ -81,6 +82,7 @@ fn kept_of(run: Run, limit: usize, strict: bool) -> Kept
 }
 
 // One step: takes the newest entry. The counters are lent: they are changed where they stand.
+#[inline(always)]
 fn step_lent(
     c: &mut Counters,
     kept: Kept,
@@ -127,6 +129,7 @@ fn step_lent(
 }
 
 // One step of a run, by the strict call or the first, its counters lent.
+#[inline(always)]
 pub fn solve_step(
     board: &mut [u32],
     book: &mut [u32],

@@ -20,7 +20,7 @@ use Rattle.spelling.specs.declared.Triple.{Triple}
 use Rattle.spelling.specs.Spelling.{line_at, lines_from, first_misspelt}
 use Rattle.spelling.specs.Text.{line_text, line_bytes, Fair}
 use Rattle.spelling.proofs.Texts.{length-text, reads-back}
-use Rattle.kinds.specs.Kinds.{find, table, row_of, begins, head_of}
+use Rattle.kinds.specs.Kinds.{nothing, an_entry, same_sort, find, table, row_of, begins, head_of}
 use Rattle.grammar.specs.Grammar.{Item, part, entries, declared_by, ok, due, read, read_at}
 use Rattle.grammar.specs.Check.{end_of, read_sheet}
 use Rattle.grammar.proofs.Laws.{all-spelt}
@@ -110,7 +110,7 @@ never false h = refl
 
 no-nowhere : (x : Item) → ok x (Some nowhere) ≡ false
 unfolding head_of begins row_of find table declared_by
-no-nowhere (part k) = never (eqb 5 k) (Some (record { types = 1; terms = 0; each = 0; count = 0 }))
+no-nowhere (part k) = never (same_sort an_entry k) (Some (record { types = 1; terms = 0; each = nothing; count = 0 }))
 no-nowhere (entries k n) = refl
 
 read-tame : (ts : List Triple) (ahead : List Item) (at : ℕ) → read (map Some (map tame ts)) ahead at ≡ read (map said ts) ahead at

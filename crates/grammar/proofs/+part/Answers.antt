@@ -1,4 +1,4 @@
-use Rattle.std.proofs.Common.{sym, arith, ◌≡◌, ◌∙◌, ◌+◌, ◌<◌, Some, None}
+use Rattle.std.proofs.Common.{sym, arith, ◌≡◌, ◌∙◌, ◌+◌, Some, None}
 use Rattle.std.proofs.lemmas.Result.{err_from_is_err_and}
 use Rattle.grammar.specs.declared.SheetError.TheVariants.{Unfit}
 use Rattle.grammar.specs.Grammar.{part}
@@ -75,26 +75,22 @@ read_follow-read_arms-requires t c =
     let v = ends-within c.args.s.now _ _ w.1 c.in_ok-rest.ensures in
     (omega arith, v.1)
 
-pub read_follow-read_parts-requires-in-1 : goal.read_follow-read_parts-requires-in-1
-read_follow-read_parts-requires-in-1 t c =
+pub read_follow-read_parts-requires-in-Type : goal.read_follow-read_parts-requires-in-Type
+read_follow-read_parts-requires-in-Type t c =
     let w = ends-within c.args.s.now _ c.args.at c.requires c.in_ok-terms.ensures in
     let v = ends-within c.args.s.now _ _ w.1 c.in_ok-rest.ensures in
     (omega arith, v.1)
 
-pub read_follow-returns-in-4 : goal.read_follow-returns-in-4
-read_follow-returns-in-4 t c = c.read_arms.ensures ∙ whole-arms _ _ _ _ _ _ c.in_ok-terms.ensures c.in_ok-rest.ensures c.in-4.is
+pub read_follow-returns-in-Arm : goal.read_follow-returns-in-Arm
+read_follow-returns-in-Arm t c = c.read_arms.ensures ∙ whole-arms _ _ _ _ _ _ c.in_ok-terms.ensures c.in_ok-rest.ensures c.in-Arm.is
 
-pub read_follow-returns-in-1 : goal.read_follow-returns-in-1
-read_follow-returns-in-1 t c =
-    let l : 0 < c.args.p.each = omega arith in
-    let h : c.args.p.each < 4 = omega arith in
-    c.read_parts-in-1.ensures ∙ whole-parts _ _ _ _ _ _ c.in_ok-terms.ensures c.in_ok-rest.ensures l h
+pub read_follow-returns-in-Type : goal.read_follow-returns-in-Type
+read_follow-returns-in-Type t c = c.read_parts-in-Type.ensures ∙ whole-parts _ _ _ _ _ _ c.in_ok-terms.ensures c.in_ok-rest.ensures c.in-Type.is
 
 pub read_follow-returns-in_default : goal.read_follow-returns-in_default
-read_follow-returns-in_default t c = whole-none _ _ _ _ _ _ c.in_ok-terms.ensures c.in_ok-rest.ensures (λ h. omega arith)
-
-pub read_follow-returns-in_default-2 : goal.read_follow-returns-in_default-2
-read_follow-returns-in_default-2 t c = whole-none _ _ _ _ _ _ c.in_ok-terms.ensures c.in_ok-rest.ensures (λ h. omega arith)
+read_follow-returns-in_default t c =
+    let n = c.in_default in
+    whole-none _ _ _ _ _ _ c.in_ok-terms.ensures c.in_ok-rest.ensures n.not-Type n.not-Term n.not-Pattern n.not-Arm
 
 -- ---- arms
 pub read_arms-read_part-requires : goal.read_arms-read_part-requires

@@ -1,15 +1,11 @@
 use Rattle.std.proofs.Common.{sym, ap, ◌∙◌}
 use Rattle.kinds.specs.declared.Row.{Row}
 use Rattle.kinds.specs.Kinds.{fields_ok}
-use Rattle.sheet.proofs.Forming.{few-each}
 use Rattle.sheet.proofs.Walks.{line-walked, leaf_walked}
 use Rattle.sheet.proofs.Walk.over_line.Goals as goal
 
 pub returns-then-is_leaf : goal.returns-then-is_leaf
 returns-then-is_leaf c = λ ls h. leaf_walked ls c.args.i c.args.t c.word_in-word.ensures c.fields_ok.ensures (sym c.is_leaf.ensures ∙ c.if-is_leaf.true)
-
-pub over_parts-requires : goal.over_parts-requires
-over_parts-requires c = rw (c.unpacked.ensures ∙ c.word_in-word.ensures) (few-each _)
 
 pub returns : goal.returns
 returns c = λ ls h.

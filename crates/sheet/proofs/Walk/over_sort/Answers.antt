@@ -13,7 +13,7 @@ loop-preserved c = λ ls h.
     (let L = c.loop in
     let a = c.args in
     let v = L.invariant ls h in
-    let turn = sort-turn a.sort a.n L.counter L.line L.fits h c.loop-test.true v.0 c.if-self-line.false c.sort_at.ensures c.end_at-line.ensures in
+    let turn = sort-turn a.sort a.n L.counter L.line L.fits h c.loop-test.true v.0 c.if-self-line.false c.has_sort-fits.ensures c.end_at-line.ensures in
     (turn.0, turn.1 ∙ v.1))
 
 pub returns : goal.returns
