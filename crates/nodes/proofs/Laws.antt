@@ -1,6 +1,6 @@
 -- Laws of `words`, `nodes_at` and `sets`. Assumes nothing.
 use Rattle.std.proofs.Common.{◌≡◌, refl, sym, ap, ap₂, ◌∙◌, Bool, true, false, List, [], ◌∷◌, ◌++◌, ℕ, zero, suc, ◌+◌, ◌*◌, ◌-◌, ◌≤◌, ◌<◌, add-zero, not-suc-le-zero, add-one, arith, length, get_or, set, take, drop, replicate, length-set, drop-cons, get_or-set_same, get_or-set_other, leb, leb-true, leb-false, le-leb}
-use native.Mathlib.Numerals.{add-two}
+use native.Mathlib.Numerals.{add-two, towards_suc}
 use lib.ListN.{length-replicate}
 use lib.Seq.{paste, sets, sets-eq, take-length, set_comm}
 use borrow.Author.Tests.{lt-leb}
@@ -179,6 +179,91 @@ sets_below l i t j u e =
     ∙ ap (λ (k : ℕ). sets (sets l i (words t)) k (words u)) (sym f)
     ∙ sym (sets-append l i (words t) (words u))
     ∙ ap (sets l i) (sym (words_append t u))
+
+-- ---- turns of the loops that copy and move nodes
+pub copy_step : (d s : List ℕ) (at from i : ℕ) (e : List ℕ) → e ≡ sets d at (words (nodes_at s from i))
+    → set (set e (at + 2 * i) (get_or s (from + 2 * i) 0)) (at + 2 * i + 1) (get_or s (from + 2 * i + 1) 0) ≡ sets d at (words (nodes_at s from (i + 1)))
+copy_step d s at from i e h =
+    let k : ℕ = get_or s (from + 2 * i) 0 in
+    let v : ℕ = get_or s (from + 2 * i + 1) 0 in
+    let t : List Node = nodes_at s from i in
+    ap (λ (r : List ℕ). set (set r (at + 2 * i) k) (at + 2 * i + 1) v) h
+    ∙ ap (λ (n : ℕ). set (set (sets d at (words t)) (at + 2 * n) k) (at + 2 * n + 1) v) (sym (length-nodes_at s from i))
+    ∙ two-more d at t k v
+    ∙ ap (λ (r : List Node). sets d at (words r)) (sym (nodes_at-snoc s from i))
+
+-- a turn of the loop that moves nodes to the front: what it reads is not yet overwritten
+pub move_step : (l : List ℕ) (from i : ℕ) (e : List ℕ) → e ≡ sets l 0 (words (nodes_at l from i))
+    → set (set e (2 * i) (get_or e (from + 2 * i) 0)) (2 * i + 1) (get_or (set e (2 * i) (get_or e (from + 2 * i) 0)) (from + 2 * i + 1) 0) ≡ sets l 0 (words (nodes_at l from (i + 1)))
+move_step l from i e h =
+    let z : 0 + 2 * i ≡ 2 * i = omega arith in
+    let n = length-words (nodes_at l from i) in
+    let m = length-nodes_at l from i in
+    let read : (j : ℕ) → 2 * i ≤ j → get_or e j 0 ≡ get_or l j 0 =
+    λ j q. ap (λ (x : List ℕ). get_or x j 0) h ∙ getD-sets-above l 0 (words (nodes_at l from i)) j (omega arith) in
+    let a : get_or e (from + 2 * i) 0 ≡ get_or l (from + 2 * i) 0 = read (from + 2 * i) (omega arith) in
+    let b : get_or (set e (2 * i) (get_or l (from + 2 * i) 0)) (from + 2 * i + 1) 0 ≡ get_or l (from + 2 * i + 1) 0 =
+    get_or-set_other e (2 * i) (from + 2 * i + 1) (get_or l (from + 2 * i) 0) 0 (omega arith) ∙ read (from + 2 * i + 1) (omega arith) in
+    rw (a, b) (ap (λ (x : ℕ). set (set e x (get_or l (from + 2 * i) 0)) (x + 1) (get_or l (from + 2 * i + 1) 0)) (sym z) ∙ copy_step l l 0 from i e h)
+
+-- m more nodes moved up below the k that are moved
+up_turn : (l : List ℕ) (to from i m k : ℕ) (e : List ℕ) → from ≤ to → e ≡ sets l (to + 2 * (i + m)) (words (nodes_at l (from + 2 * (i + m)) k))
+    → sets e (to + 2 * i) (words (nodes_at e (from + 2 * i) m)) ≡ sets l (to + 2 * i) (words (nodes_at l (from + 2 * i) (m + k)))
+up_turn l to from i m k e h q =
+    let t : List Node = nodes_at l (from + 2 * i) m in
+    let u : List Node = nodes_at l (from + 2 * (i + m)) k in
+    let z : length t ≡ m = length-nodes_at l (from + 2 * i) m in
+    let d : to + 2 * i + 2 * length t ≡ to + 2 * (i + m) = omega arith in
+    let f : from + 2 * (i + m) ≡ from + 2 * i + 2 * m = omega arith in
+    let r : nodes_at (sets l (to + 2 * (i + m)) (words u)) (from + 2 * i) m ≡ t = nodes_at-below l (to + 2 * (i + m)) (words u) (from + 2 * i) m (omega arith) in
+    ap (λ (x : List ℕ). sets x (to + 2 * i) (words (nodes_at x (from + 2 * i) m))) q
+    ∙ ap (λ (x : List Node). sets (sets l (to + 2 * (i + m)) (words u)) (to + 2 * i) (words x)) r
+    ∙ sets_below l (to + 2 * i) t (to + 2 * (i + m)) u d
+    ∙ ap (λ (x : List Node). sets l (to + 2 * i) (words x))
+    (ap (λ (x : ℕ). t ++ nodes_at l x k) f ∙ sym (nodes_at-append l (from + 2 * i) m k))
+
+-- a turn of the loops that move n nodes up, by m
+pub up_step : (l : List ℕ) (to from n i m : ℕ) (e : List ℕ) → from ≤ to → m ≤ i → i ≤ n → e ≡ sets l (to + 2 * i) (words (nodes_at l (from + 2 * i) (n - i)))
+    → sets e (to + 2 * (i - m)) (words (nodes_at e (from + 2 * (i - m)) m)) ≡ sets l (to + 2 * (i - m)) (words (nodes_at l (from + 2 * (i - m)) (n - (i - m))))
+up_step l to from n i m e h b c q =
+    let x : i ≡ i - m + m = omega arith in
+    let y : m + (n - i) ≡ n - (i - m) = omega arith in
+    up_turn l to from (i - m) m (n - i) e h (q ∙ ap (λ (j : ℕ). sets l (to + 2 * j) (words (nodes_at l (from + 2 * j) (n - i)))) x)
+    ∙ ap (λ (j : ℕ). sets l (to + 2 * (i - m)) (words (nodes_at l (from + 2 * (i - m)) j))) y
+
+-- no turn was made yet, and the last one was
+pub none-up : (l : List ℕ) (i j n : ℕ) → l ≡ sets l i (words (nodes_at l j (n - n)))
+unfolding words nodes_at
+none-up l i j n =
+    let e : n - n ≡ 0 = omega arith in
+    ap (λ (k : ℕ). sets l i (words (nodes_at l j k))) (sym e)
+
+pub up_done : (l : List ℕ) (to from n : ℕ) (e : List ℕ) → e ≡ sets l (to + 2 * 0) (words (nodes_at l (from + 2 * 0) (n - 0))) → e ≡ sets l to (words (nodes_at l from n))
+up_done l to from n e q =
+    let x : to + 2 * 0 ≡ to = omega arith in
+    let y : from + 2 * 0 ≡ from = omega arith in
+    let z : n - 0 ≡ n = omega arith in
+    q ∙ rw (x, y, z)
+
+-- the nodes that were not moved by the turns are moved at once
+pub up_rest : (l : List ℕ) (to from n m : ℕ) (e e' : List ℕ) → from ≤ to → m ≤ n → e ≡ sets l (to + 2 * m) (words (nodes_at l (from + 2 * m) (n - m)))
+    → e' ≡ sets e to (words (nodes_at e from m)) → e' ≡ sets l to (words (nodes_at l from n))
+up_rest l to from n m e e' h b q p =
+    let x : to + 2 * (m - m) ≡ to = omega arith in
+    let y : from + 2 * (m - m) ≡ from = omega arith in
+    let z : n - (m - m) ≡ n = omega arith in
+    let w : m ≤ m = omega arith in
+    p ∙ ap₂ (λ (i j : ℕ). sets e i (words (nodes_at e j m))) (sym x) (sym y) ∙ up_step l to from n m m e h w b q ∙ rw (x, y, z)
+
+pub one-node : (l : List ℕ) (to from : ℕ) → set (set l to (get_or l from 0)) (to + 1) (get_or l (from + 1) 0) ≡ sets l to (words (nodes_at l from 1))
+unfolding words nodes_at
+one-node l to from = ap (λ (k : ℕ). set (set l to (get_or l from 0)) k (get_or l (from + 1) 0)) (add-one to)
+
+pub four-nodes : (l : List ℕ) (to from : ℕ)
+    → set (set (set (set (set (set (set (set l to (get_or l from 0)) (to + 1) (get_or l (from + 1) 0)) (to + 2) (get_or l (from + 2) 0)) (to + 3) (get_or l (from + 3) 0)) (to + 4) (get_or l (from + 4) 0)) (to + 5) (get_or l (from + 5) 0)) (to + 6) (get_or l (from + 6) 0)) (to + 7) (get_or l (from + 7) 0)
+    ≡ sets l to (words (nodes_at l from 4))
+unfolding words nodes_at
+four-nodes l to from = simp towards_suc
 
 -- ---- runs of words written at once
 

@@ -1,9 +1,8 @@
 -- Laws of tables of references. Assumes nothing.
-use Rattle.std.proofs.Math.Seq.{paste}
-use Rattle.std.proofs.Common.{length-take-le, take, drop, ◌≡◌, refl, sym, ap, ap₂, ◌∙◌, subst, ◌≢◌, List, [], ◌∷◌, ◌++◌, append_assoc, ℕ, zero, suc, ◌+◌, ◌*◌, ◌-◌, ◌≤◌, ◌<◌, not-suc-le-zero, arith, length, get_or, eq-eqb, ne_eqb, lt-ltb, le-ltb}
+use Rattle.std.proofs.Common.{◌≡◌, refl, sym, ap, ap₂, ◌∙◌, subst, ◌≢◌, List, [], ◌∷◌, ◌++◌, append_assoc, ℕ, zero, suc, ◌+◌, ◌*◌, ◌-◌, ◌≤◌, ◌<◌, not-suc-le-zero, arith, length, get_or, set, eq-eqb, ne_eqb, lt-ltb, le-ltb}
 use mathlib.Core.Path.{subst⁻¹}
 use native.Mathlib.Decide.{ℕ_discrete}
-use Rattle.std.proofs.lemmas.List.Edits.{sets-eq, sets}
+use Rattle.std.proofs.lemmas.List.Edits.{sets}
 use Rattle.nodes.specs.Nodes.{Ty}
 use Rattle.nodes.proofs.Laws.{getD-sets-below, getD-sets-above, getD-sets-in}
 use Rattle.spelling.specs.declared.Triple.{Triple}
@@ -26,13 +25,16 @@ by-eq a b f g = elim (ℕ_discrete a b) [
   | no e ↦ g e
 ]
 
--- ---- words copied over a part of a table
-pub pasted : (w : List ℕ) (p : ℕ) (s : List ℕ) (n : ℕ) → n ≤ length s → p + n ≤ length w → paste w p s n ≡ sets w p (take n s)
-pasted w p s n h k =
-    let e = length-take-le n s h in
-    ap (λ (m : ℕ). take p w ++ take n s ++ drop (p + m) w) (sym e) ∙ sym (sets-eq (take n s) w p (omega arith))
-
 -- ---- a row is stored
+pub stored : (w : List ℕ) (p x : ℕ) (r : TypeRef) → set (set (set (set (set (set w p x) (p + 1) r.first) (p + 2) r.lines) (p + 3) r.at) (p + 4) r.count) (p + 5) r.base ≡ sets w p (row x r)
+stored w p x r =
+    let a : p + 1 ≡ suc p = omega arith in
+    let b : p + 2 ≡ suc (suc p) = omega arith in
+    let c : p + 3 ≡ suc (suc (suc p)) = omega arith in
+    let d : p + 4 ≡ suc (suc (suc (suc p))) = omega arith in
+    let e : p + 5 ≡ suc (suc (suc (suc (suc p)))) = omega arith in
+    rw (a, b, c, d, e)
+
 module _ (w : List ℕ) (i x : ℕ) (r : TypeRef) (h : 6 * i + 6 ≤ length w) where
   in_row : (k : ℕ) → k < 6 → get_or (sets w (6 * i) (row x r)) (6 * i + k) 0 ≡ get_or (row x r) k 0
   in_row k l = getD-sets-in w (6 * i) (row x r) k l h

@@ -32,7 +32,12 @@ pub fn put(w: &mut [usize], i: usize, name: usize, r: TypeRef)
     ensures { w.new ≡ sets w.old (6 * i) (row name r) }
 {
     let p = 6 * i;
-    w[p..p + 6].copy_from_slice(&[name, r.first, r.lines, r.at, r.count, r.base]);
+    w[p] = name;
+    w[p + 1] = r.first;
+    w[p + 2] = r.lines;
+    w[p + 3] = r.at;
+    w[p + 4] = r.count;
+    w[p + 5] = r.base;
 }
 
 // Looks for a name among n rows in the order of their names: the row of that name, or else the row where it belongs.
@@ -58,7 +63,11 @@ fn shift(w: &mut [usize], j: usize, n: usize)
     requires { (j ≤ n) × (6 * n + 6 ≤ length w.old) }
     ensures { w.new ≡ lifted w.old j n }
 {
-    w.copy_within(6 * j..6 * n, 6 * j + 6);
+    for i in (j..n).rev() {
+        let name = w[6 * i];
+        let r = get(w, i);
+        put(w, i + 1, name, r);
+    }
 }
 
 // Binds a name among the n bindings: the answer is how many there are then.

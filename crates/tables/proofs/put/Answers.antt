@@ -1,11 +1,21 @@
-use Rattle.std.proofs.Common.{refl, ℕ, List, ◌*◌, ◌+◌, ◌-◌, ◌∙◌, arith}
-use Rattle.std.proofs.lemmas.Slice.{put_mid-paste}
-use Rattle.tables.specs.Rows.{row}
-use Rattle.tables.proofs.Tables.{pasted}
+use Rattle.std.proofs.Common.{◌*◌, arith, length-set}
+use Rattle.tables.proofs.Tables.{stored}
 use Rattle.tables.proofs.put.Goals as goal
 
+pub bounds-w-p-2 : goal.bounds-w-p-2
+bounds-w-p-2 c = simp length-set (omega arith)
+
+pub bounds-w-p-3 : goal.bounds-w-p-3
+bounds-w-p-3 c = simp length-set (omega arith)
+
+pub bounds-w-p-4 : goal.bounds-w-p-4
+bounds-w-p-4 c = simp length-set (omega arith)
+
+pub bounds-w-p-5 : goal.bounds-w-p-5
+bounds-w-p-5 c = simp length-set (omega arith)
+
+pub bounds-w-p-6 : goal.bounds-w-p-6
+bounds-w-p-6 c = simp length-set (omega arith)
+
 pub returns : goal.returns
-returns c = let a = c.args in
-    let p : ℕ = 6 * a.i in
-    let r : List ℕ = row a.name a.r in
-    put_mid-paste p (p + 6 - p) a.w.now _ r 6 c.copy_from_slice.ensures.after (omega arith) refl ∙ pasted a.w.now p r 6 (omega arith) c.requires
+returns c = stored c.args.w.now (6 * c.args.i) c.args.name c.args.r
