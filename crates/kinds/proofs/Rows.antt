@@ -11,7 +11,7 @@ use Rattle.kinds.specs.declared.Sort.{Sort}
 use Rattle.kinds.specs.declared.Sort.TheVariants.{Nothing, «Type», Term, Pattern, Arm, Entry, Expected, Goal}
 use Rattle.kinds.specs.declared.Value.{Value}
 use Rattle.kinds.specs.declared.Value.TheVariants.{Unused, Name, Number, Operator}
-use Rattle.kinds.specs.Kinds.{digit_of, same_sort, sort_in, Listed, find, table, row_of, unlisted, nothing, a_type, a_term, a_pattern, an_arm, an_entry, an_expected, a_goal, row_in, is_leaf, begins, head_of, parts_of, Tabled, parts_by}
+use Rattle.kinds.specs.Kinds.{digit_of, value_digit, word_of, same_sort, sort_in, Listed, find, table, row_of, unlisted, nothing, a_type, a_term, a_pattern, an_arm, an_entry, an_expected, a_goal, row_in, is_leaf, begins, head_of, parts_of, Tabled, parts_by}
 use Rattle.kinds.proofs.Table.{tabled, at}
 
 -- the largest kind listed
@@ -96,12 +96,6 @@ nothing-in d = go (eqb d 0) (eqb d 1) (eqb d 2) (eqb d 3) (eqb d 4) (eqb d 5) (e
     go false false false false false false false = refl
 
 -- ---- what a value holds
-abbrev value_digit : Value → ℕ
-value_digit Unused = 0
-value_digit Name = 1
-value_digit Number = 2
-value_digit Operator = 3
-
 abbrev pub is_number : Value → Bool
 is_number Unused = false
 is_number Name = false
@@ -109,25 +103,37 @@ is_number Number = true
 is_number Operator = false
 
 -- ---- the table as words
--- a row's fields as the digits of a word
-abbrev word_of : ℕ → ℕ
-word_of k = let r = row_of k in digit_of r.sort * 1048576 + value_digit r.value * 65536 + cond r.counted 4096 0 + r.types * 256 + r.terms * 16 + digit_of r.each
+abbrev kind_word : ℕ → ℕ
+kind_word k = word_of (row_of k)
 
-pub words-tabled : Tabled (tabled word_of 0 44)
+pub words-tabled : Tabled (tabled kind_word 0 44)
+words-tabled k h = at kind_word 0 44 k h
+
+-- such a word holds the row
+row-held : (k : ℕ) → k < 44 → row_in (kind_word k) ≡ row_of k
 unfolding tabled row_of find table
-words-tabled k h = sym (get_or-map row_in (tabled word_of 0 44) k 0) ∙ at row_of (row_in 0) 44 k h
+row-held k h =
+    ap row_in (sym (words-tabled k h)) ∙ sym (get_or-map row_in (tabled kind_word 0 44) k 0) ∙ at row_of (row_in 0) 44 k h
 
 -- past the words no kind is listed
-pub row-read : (w : List ℕ) (k : ℕ) → length w ≡ 44 → Tabled w → row_in (get_or w k 0) ≡ row_of k
+pub word-read : (w : List ℕ) (k : ℕ) → length w ≡ 44 → Tabled w → get_or w k 0 ≡ word_of (row_of k)
 unfolding row_of table
-row-read w k e h = go (ltb k 44) refl
+word-read w k e h = go (ltb k 44) refl
   where
-    go : (t : Bool) → ltb k 44 ≡ t → row_in (get_or w k 0) ≡ row_of k
+    go : (t : Bool) → ltb k 44 ≡ t → get_or w k 0 ≡ word_of (row_of k)
     go true q = h k (ltb-true k 44 q)
     go false q =
         let l = ltb-false k 44 q in
         let z : get_or w k 0 ≡ 0 = get_or-eq_default w 0 (omega arith) in
-        rw z (sym (above k table l))
+        rw (z, above k table l) refl
+
+pub word-row : (k : ℕ) → row_in (word_of (row_of k)) ≡ row_of k
+unfolding row_of table
+word-row k = go (ltb k 44) refl
+  where
+    go : (t : Bool) → ltb k 44 ≡ t → row_in (word_of (row_of k)) ≡ row_of k
+    go true q = row-held k (ltb-true k 44 q)
+    go false q = let l = ltb-false k 44 q in rw (above k table l) (refl {a = unlisted})
 
 -- its last three digits are those of what follows
 two_digits : (v : ℕ) → v % 256 ≡ 16 * (v / 16 % 16) + v % 16

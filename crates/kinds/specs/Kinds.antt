@@ -62,7 +62,7 @@ unused = Unused
 abbrev name : Value
 name = Name
 
-abbrev number : Value
+abbrev pub number : Value
 number = Number
 
 abbrev operator : Value
@@ -70,6 +70,12 @@ operator = Operator
 
 abbrev pub value_in : ℕ → Value
 value_in d = cond (eqb d 0) unused (cond (eqb d 1) name (cond (eqb d 2) number operator))
+
+abbrev pub value_digit : Value → ℕ
+value_digit Unused = 0
+value_digit Name = 1
+value_digit Number = 2
+value_digit Operator = 3
 
 -- whether a line has a count
 abbrev counted : Bool
@@ -87,6 +93,12 @@ abbrev pub row_in : ℕ → Row
 row_in w =
     row (sort_in (w / 1048576)) (value_in (w / 65536 % 16)) (not (eqb (w / 4096 % 16) 0)) (w / 256 % 16) (w / 16 % 16)
     (sort_in (w % 16))
+
+-- the one word that the rows by kind have for a row
+abbrev pub word_of : Row → ℕ
+word_of r =
+    digit_of r.sort * 1048576 + value_digit r.value * 65536 + cond r.counted 4096 0 + r.types * 256 + r.terms * 16
+    + digit_of r.each
 
 pub record Listed : Type 0 where
   pub kind : ℕ
@@ -178,6 +190,6 @@ parts_in r n = r.types + r.terms + each_parts r.each n
 unfoldable pub parts_of : Triple → ℕ
 parts_of t = parts_in (row_of t.kind) t.count
 
--- words that hold the rows of the kinds 0 to 43, which are all that the table has
+-- the words of the rows of the kinds 0 to 43, which are all that the table has
 abbrev pub Tabled : List ℕ → Type 0
-Tabled w = (k : ℕ) → k < 44 → row_in (get_or w k 0) ≡ row_of k
+Tabled w = (k : ℕ) → k < 44 → get_or w k 0 ≡ word_of (row_of k)

@@ -2,7 +2,7 @@
 #![tactic(auto)]
 
 ghost use Rattle.std.specs.Prelude.{◌≡◌, ℕ, ◌<◌, ◌≤◌};
-ghost use Rattle.kinds.specs.Kinds.{sort_in, value_in, row_in, row_of, most_count, value_ok, count_ok, fields_ok, is_leaf, begins as begins_with, head_of, Tabled};
+ghost use Rattle.kinds.specs.Kinds.{sort_in, value_in, row_in, row_of, word_of, most_count, value_ok, count_ok, fields_ok, is_leaf, begins as begins_with, head_of, Tabled};
 
 use sizes::HIGHEST_NAME;
 use spelling::Triple;
@@ -150,7 +150,8 @@ pub fn table_words() -> [u32; 44]
 // The row of a kind as its word, from such words: most lines need few of its fields.
 pub fn word_in(words: &[u32; 44], kind: u64) -> u32
     requires { Tabled words.now }
-    ensures { row_in result ≡ row_of kind }
+    ensures row { row_in result ≡ row_of kind }
+    ensures word { result ≡ word_of (row_of kind) }
 {
     words.get(kind as usize).copied().unwrap_or(0)
 }
