@@ -84,6 +84,11 @@ read (l ∷ ls) (x ∷ ahead) at = let r = read ls (due x l ++ ahead) (at + 1) i
 unfoldable pub read_at : List ℕ → List Item → ℕ → Result ℕ SheetError
 read_at s ahead at = read (lines_from s at (length s / line_length - at)) ahead at
 
+-- a reader's error is the line alone
+abbrev pub unfit : Result ℕ ℕ → Result ℕ SheetError
+unfit (Ok k) = Ok k
+unfit (Err l) = Err (Unfit l)
+
 -- the bytes of the lines that were read, from the line at `at` on
 abbrev pub read_bytes : List ℕ → ℕ → Result ℕ SheetError → List ℕ
 read_bytes s at (Ok k) = take (line_length * k - line_length * at) (drop (line_length * at) s)

@@ -4,7 +4,7 @@
 ghost use Rattle.std.specs.Prelude.{◌≡◌, [], ◌∷◌, ◌+◌, ◌*◌, ◌-◌, ◌/◌, ◌≤◌, ◌<◌, length, replicate};
 ghost use Rattle.sizes.specs.Sizes.{line_length};
 ghost use Rattle.spelling.specs.Spelling.{line_at};
-ghost use Rattle.grammar.specs.Grammar.{part, entries, in_order, declared_by, arms, following, read_at, sub_term};
+ghost use Rattle.grammar.specs.Grammar.{part, entries, in_order, declared_by, arms, following, read_at, unfit, sub_term};
 ghost use Rattle.grammar.specs.Check.{read_sheet, refusal_number, refusal_line};
 
 use kinds::{Parts, Sort, begins, head_of};
@@ -45,31 +45,34 @@ impl SheetError {
     }
 }
 
-// One whole part of a sort.
+// One whole part of a sort. The readers' error is the line alone that is Unfit, so that two registers hold what they
+// return; and those of this cycle are inlined into this one: their stack goes with the lines.
 #[cycle(part)]
-fn read_part(s: &[u8], at: usize, sort: Sort) -> Result<usize, SheetError>
+fn read_part(s: &[u8], at: usize, sort: Sort) -> Result<usize, usize>
     requires { at ≤ length s.now / line_length }
-    ensures { result ≡ read_at s.now (part sort ∷ []) at }
+    ensures { unfit result ≡ read_at s.now (part sort ∷ []) at }
 {
-    let t = line_at(s, at).ok_or(SheetError::Unfit(at + 1))?;
+    let t = line_at(s, at).ok_or(at + 1)?;
     read_begun(s, at, t, sort)
 }
 
 // The part of a sort that begins with the line t, which stands at `at`.
 #[cycle(part)]
-fn read_begun(s: &[u8], at: usize, t: Triple, sort: Sort) -> Result<usize, SheetError>
+#[inline(always)]
+fn read_begun(s: &[u8], at: usize, t: Triple, sort: Sort) -> Result<usize, usize>
     requires { (at ≤ length s.now / line_length) × (line_at s.now at ≡ Some t) }
-    ensures { result ≡ read_at s.now (part sort ∷ []) at }
+    ensures { unfit result ≡ read_at s.now (part sort ∷ []) at }
 {
-    let parts = head_of(t, sort).ok_or(SheetError::Unfit(at + 1))?;
+    let parts = head_of(t, sort).ok_or(at + 1)?;
     read_follow(s, at + 1, parts)
 }
 
 // As many parts of a sort as count says.
 #[cycle(part)]
-fn read_parts(s: &[u8], at: usize, sort: Sort, count: u64) -> Result<usize, SheetError>
+#[inline(always)]
+fn read_parts(s: &[u8], at: usize, sort: Sort, count: u64) -> Result<usize, usize>
     requires { at ≤ length s.now / line_length }
-    ensures { result ≡ read_at s.now (replicate count (part sort)) at }
+    ensures { unfit result ≡ read_at s.now (replicate count (part sort)) at }
 {
     let mut next = at;
     for _ in 0..count {
@@ -80,9 +83,10 @@ fn read_parts(s: &[u8], at: usize, sort: Sort, count: u64) -> Result<usize, Shee
 
 // As many arms as count says, each a pattern and a term.
 #[cycle(part)]
-fn read_arms(s: &[u8], at: usize, count: u64) -> Result<usize, SheetError>
+#[inline(always)]
+fn read_arms(s: &[u8], at: usize, count: u64) -> Result<usize, usize>
     requires { at ≤ length s.now / line_length }
-    ensures { result ≡ read_at s.now (arms count) at }
+    ensures { unfit result ≡ read_at s.now (arms count) at }
 {
     let mut next = at;
     for _ in 0..count {
@@ -94,9 +98,10 @@ fn read_arms(s: &[u8], at: usize, count: u64) -> Result<usize, SheetError>
 
 // The parts that follow a line: types, then terms, then count times each.
 #[cycle(part)]
-fn read_follow(s: &[u8], at: usize, p: Parts) -> Result<usize, SheetError>
+#[inline(always)]
+fn read_follow(s: &[u8], at: usize, p: Parts) -> Result<usize, usize>
     requires { at ≤ length s.now / line_length }
-    ensures { result ≡ read_at s.now (following p.types p.terms p.each p.count) at }
+    ensures { unfit result ≡ read_at s.now (following p.types p.terms p.each p.count) at }
 {
     let terms = read_parts(s, at, Sort::Type, p.types)?;
     let rest = read_parts(s, terms, Sort::Term, p.terms)?;
@@ -139,19 +144,25 @@ fn declared_by(t: Triple, k: u64, last: u64) -> Option<Declared>
 }
 
 // The rest of a plan, after an entry of kind k and the name last.
-fn read_entries(s: &[u8], at: usize, k: u64, last: u64) -> Result<usize, SheetError>
+fn read_entries(s: &[u8], at: usize, k: u64, last: u64) -> Result<usize, usize>
     requires { at ≤ length s.now / line_length }
-    ensures { result ≡ read_at s.now (entries k last ∷ []) at }
+    ensures { unfit result ≡ read_at s.now (entries k last ∷ []) at }
 {
-    let t = line_at(s, at).ok_or(SheetError::Unfit(at + 1))?;
-    match declared_by(t, k, last).ok_or(SheetError::Unfit(at + 1))? {
-        Declared::Named { kind, name } => {
-            let next = read_begun(s, at, t, Sort::Entry)?;
-            read_entries(s, next, kind, name)
-        }
-        Declared::Expected => {
-            let next = read_begun(s, at, t, Sort::Expected)?;
-            read_part(s, next, Sort::Goal)
+    let mut next = at;
+    let mut kind_before = k;
+    let mut name_before = last;
+    loop {
+        let t = line_at(s, next).ok_or(next + 1)?;
+        match declared_by(t, kind_before, name_before).ok_or(next + 1)? {
+            Declared::Named { kind, name } => {
+                next = read_begun(s, next, t, Sort::Entry)?;
+                kind_before = kind;
+                name_before = name;
+            }
+            Declared::Expected => {
+                let goal = read_begun(s, next, t, Sort::Expected)?;
+                return read_part(s, goal, Sort::Goal);
+            }
         }
     }
 }
@@ -160,7 +171,7 @@ fn read_entries(s: &[u8], at: usize, k: u64, last: u64) -> Result<usize, SheetEr
 pub fn read_sheet(s: &[u8]) -> Result<usize, SheetError>
     ensures { result ≡ read_sheet s.now }
 {
-    let end = read_entries(s, 0, 1, 0)?;
+    let end = read_entries(s, 0, 1, 0).map_err(SheetError::Unfit)?;
     if end != s.len() / LINE_LENGTH {
         return Err(SheetError::Unfit(end + 1));
     }

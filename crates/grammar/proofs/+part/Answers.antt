@@ -1,6 +1,5 @@
 use Rattle.std.proofs.Common.{sym, arith, ◌≡◌, ◌∙◌, ◌+◌, Some, None}
 use Rattle.std.proofs.lemmas.Result.{err_from_is_err_and}
-use Rattle.grammar.specs.declared.SheetError.TheVariants.{Unfit}
 use Rattle.grammar.specs.Grammar.{part}
 use Rattle.grammar.proofs.Steps.{one_read, one-stop, all_read, arm-stop, body-stop, arm_read, arms-read, misspelt, on_line, no_part, parted, types-stop, terms-stop, whole-parts, whole-arms, whole-none, ends-within}
 use Rattle.grammar.proofs.+part.Goals as goal
@@ -11,7 +10,7 @@ read_part-returns-in_err-t t c =
     let a = c.args in
     let p = err_from_is_err_and c.from_residual.result c.from_residual.ensures.1 in
     let n : c.line_at.result ≡ None = grind arith in
-    let d : c.in_err-t.field-0.0 ≡ Unfit (a.at + 1) = grind arith in
+    let d : c.in_err-t.field-0.0 ≡ a.at + 1 = grind arith in
     rw (p.1, p.2, d) (misspelt a.s.now (part a.sort) a.at (sym c.line_at.ensures ∙ n))
 
 pub read_begun-returns-in_err-parts : goal.read_begun-returns-in_err-parts
@@ -19,7 +18,7 @@ read_begun-returns-in_err-parts t c =
     let a = c.args in
     let p = err_from_is_err_and c.from_residual.result c.from_residual.ensures.1 in
     let n : c.head_of.result ≡ None = grind arith in
-    let d : c.in_err-parts.field-0.0 ≡ Unfit (a.at + 1) = grind arith in
+    let d : c.in_err-parts.field-0.0 ≡ a.at + 1 = grind arith in
     rw (p.1, p.2, d) (no_part a.s.now a.sort a.at a.t c.requires.1 (sym c.head_of.ensures ∙ n))
 
 pub read_begun-read_follow-requires : goal.read_begun-read_follow-requires

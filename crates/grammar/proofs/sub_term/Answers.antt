@@ -1,5 +1,5 @@
-use Rattle.std.proofs.Common.{sym, arith, ◌∙◌}
-use Rattle.grammar.specs.Grammar.{sub_term}
+use Rattle.std.proofs.Common.{sym, ap, arith, ◌∙◌}
+use Rattle.grammar.specs.Grammar.{unfit, sub_term}
 use Rattle.grammar.proofs.Laws.{lacking}
 use Rattle.grammar.proofs.Steps.{ends-within}
 use Rattle.grammar.proofs.sub_term.Goals as goal
@@ -22,8 +22,8 @@ slice_bounds-result-end-in-Ok c = let w = ends-within c.args.s.now _ c.args.at (
 
 pub returns-in-Ok : goal.returns-in-Ok
 unfolding sub_term
-returns-in-Ok c = rw (sym c.read_part.ensures ∙ c.in-Ok.is)
+returns-in-Ok c = rw (sym c.read_part.ensures ∙ ap unfit c.in-Ok.is)
 
 pub returns-in-Err : goal.returns-in-Err
 unfolding sub_term
-returns-in-Err c = rw (sym c.read_part.ensures ∙ c.in-Err.is)
+returns-in-Err c = rw (sym c.read_part.ensures ∙ ap unfit c.in-Err.is)
