@@ -95,12 +95,15 @@ pub fn first_misspelt(s: &[u8]) -> usize
     ensures { result ≡ first_misspelt (lines_of s.now) }
 {
     let lines = s.len() / LINE_LENGTH;
-    for i in 0..lines {
-        if next_of_sheet(s, i).line.is_none() {
+    let mut i = 0;
+    while i < lines {
+        let read = next_of_sheet(s, i);
+        if read.line.is_none() {
             return i;
         }
+        i = read.next;
     }
-    lines
+    i
 }
 
 // What a sheet is refused for that the grammar refuses for e: a misspelt line anywhere comes before.
