@@ -2,7 +2,9 @@
 #![tactic(auto)]
 
 ghost use Rattle.std.specs.Prelude.{◌≤◌, length};
+ghost use Rattle.std.specs.Fn.{CalledAt};
 ghost use Rattle.input.specs.Filled.{Filled};
+ghost use Rattle.input.specs.Handed.{Handed};
 
 use std::env::FillError;
 use std::io::Read;
@@ -37,16 +39,22 @@ pub fn fill(rt: &HostRuntime, buf: &mut [u8], at: usize) -> io::Result<usize>
     fill_from(&mut rt.stdin(), buf, at)
 }
 
-// Hands each argument of the program to `each`, as the name of a file. Of one that is no text, or too long, it says so
-// on standard error.
-pub fn each_file<P: Env + Eprint, F: FnMut(&str)>(rt: &P, program: &str, mut each: F)
-    requires { F.IsAlwaysCallable each }
+// Hands each argument of the program to `each`, as the name of a file, and answers how many it handed. Of one that is
+// no text, or too long, it says so on standard error.
+pub fn each_file<P: Env + Eprint, F: FnMut(&str)>(rt: &P, program: &str, each: &mut F) -> usize
+    requires { F.IsAlwaysCallable each.old }
+    ensures handed { Handed (CalledAt F.FnMut) each.old each.new result }
+    ensures callable { F.IsAlwaysCallable each.new }
 {
     let mut buf = [0u8; NAME_BYTES];
+    let mut names = 0;
     for at in 1..usize::MAX {
         match rt.arg(at, &mut buf) {
             Ok(bytes) => match str::from_utf8(&buf[..bytes]) {
-                Ok(name) => each(name),
+                Ok(name) => {
+                    each(name);
+                    names += 1;
+                }
                 Err(_) => {
                     let _told = eprintln!(rt; "{program}: the name of a file is no text");
                 }
@@ -54,7 +62,8 @@ pub fn each_file<P: Env + Eprint, F: FnMut(&str)>(rt: &P, program: &str, mut eac
             Err(FillError::TooLong) => {
                 let _told = eprintln!(rt; "{program}: the name of a file is too long");
             }
-            Err(FillError::NotPresent) => return,
+            Err(FillError::NotPresent) => break,
         }
     }
+    names
 }

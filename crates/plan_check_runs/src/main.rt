@@ -56,9 +56,13 @@ fn main(rt: HostRuntime) {
         report: &mut report,
         text: [0; ANSWER_BYTES],
     };
-    each_file(&rt, "plan_check_runs", |name| {
-        if let Err(why) = tell_file(&rt, name, &mut sheet, &mut desk) {
-            let _told = eprintln!(rt; "{name}: {why}");
-        }
-    });
+    let _names = each_file(
+        &rt,
+        "plan_check_runs",
+        &mut |name| {
+            if let Err(why) = tell_file(&rt, name, &mut sheet, &mut desk) {
+                let _told = eprintln!(rt; "{name}: {why}");
+            }
+        },
+    );
 }

@@ -26,9 +26,13 @@ fn main(rt: HostRuntime) {
         plan: Plan::new(),
         sheet: [0; SHEET_BYTES],
     };
-    each_file(&rt, "plan_write_runs", |name| {
-        if write_file(&rt, name, &mut desk).is_err() {
-            let _told = eprintln!(rt; "{name}: not read");
-        }
-    });
+    let _names = each_file(
+        &rt,
+        "plan_write_runs",
+        &mut |name| {
+            if write_file(&rt, name, &mut desk).is_err() {
+                let _told = eprintln!(rt; "{name}: not read");
+            }
+        },
+    );
 }

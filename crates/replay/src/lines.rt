@@ -1,6 +1,7 @@
 // The lines of standard input, which is held part by part.
 
-ghost use Rattle.std.specs.Prelude.{◌≡◌, ◌≤◌, OnOk, position, ◌==◌};
+ghost use Rattle.std.specs.Prelude.{◌≡◌, ◌≤◌, OnOk, position, ◌==◌, true};
+ghost use Rattle.nodes.specs.Nodes.{zeros};
 ghost use Rattle.replay.specs.declared.line.TheConstants.{TEXT};
 ghost use Rattle.replay.specs.Lines.{FirstLine, Refilled, NextLine};
 
@@ -24,7 +25,12 @@ fn find_lf(text: &[u8]) -> Option<usize>
 }
 
 impl Lines {
-    pub fn new() -> Self {
+    // Nothing is read.
+    #[tactic(auto, unfolding(nodes::specs::Nodes::zeros))]
+    pub fn new() -> Self
+        ensures unread { result.unread ≡ record { at = 0; end = 0; more = true } }
+        ensures text { result.text ≡ zeros TEXT }
+    {
         Lines {
             text: [0; TEXT],
             unread: Unread {

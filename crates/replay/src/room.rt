@@ -1,8 +1,10 @@
 // The program's buffers, and the verdict on a record that is replayed in them.
 
-ghost use Rattle.std.specs.Prelude.{◌≡◌, ◌≤◌, ◌↔◌, IsTrue, length};
+ghost use Rattle.std.specs.Prelude.{◌≡◌, ◌+◌, ◌≤◌, ◌↔◌, IsTrue, length};
+ghost use Rattle.sizes.specs.Sizes.{book_size, usual_report};
+ghost use Rattle.nodes.specs.Nodes.{zeros};
 ghost use Rattle.judgment.specs.Result.{numbers};
-ghost use Rattle.replay.specs.Recorded.{wanted, dirt};
+ghost use Rattle.replay.specs.Recorded.{book_from, wanted, sheet_room, dirt};
 ghost use Rattle.replay.specs.Replay.{Wanted, buffers_of, dirty, called_on, left_by, VerdictOf};
 
 use crate::record::{
@@ -60,7 +62,11 @@ fn call(p: Plan, sheet: &[u8], board: &mut [u32], book: &mut [u32], report: &mut
 }
 
 impl Room {
-    pub fn new() -> Self {
+    // Nothing is written.
+    #[tactic(auto, unfolding(nodes::specs::Nodes::zeros))]
+    pub fn new() -> Self
+        ensures { result ≡ record { sheet = zeros sheet_room; board = zeros book_from; book = zeros (book_size + 8); report = zeros (usual_report + 4); want = zeros wanted } }
+    {
         Room {
             sheet: [0; SHEET_ROOM],
             board: [0; BOARD_ROOM],
