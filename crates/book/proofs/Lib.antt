@@ -5,3 +5,4 @@ pub mod Levels
 pub mod Comparing
 pub mod Links
 pub mod Places
+pub mod Ends

@@ -93,6 +93,6 @@ module _ (ls : List Triple) (first n : ℕ) (stands : first + n ≤ length ls) w
     unfolding front_of
     front-stop e = sym (ap length (front-names (take n (drop first ls))) ∙ F ∙ ap (λ (ts : List Triple). i + length (front_of ts)) cons ∙ rw (ne_eqb _ 14 e) (omega arith))
 
-  pub front-end : (i : ℕ) → i ≡ n → Fronting ls first n i → n ≡ length (front_names (nodes_of (take n (drop first ls))))
+  pub front-end : (i : ℕ) → n ≤ i → Fronting ls first n i → i ≡ length (front_names (nodes_of (take n (drop first ls))))
   unfolding front_of
   front-end i h F = let z : n - i ≡ 0 = omega arith in sym (ap length (front-names (take n (drop first ls))) ∙ F ∙ rw z (omega arith))

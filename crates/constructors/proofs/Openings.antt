@@ -128,12 +128,21 @@ module _ (d : List ℕ) (a : ℕ) where
   length-open at zero = refl
   length-open at (suc n) = ap suc (length-open (at + 1) n)
 
+  -- one node, and those after it
+  pub open_turn : (o : List ℕ) (p at left : ℕ) → 0 < left
+      → sets o p (words (open_lines d a at left))
+      ≡ sets (set (set o p (kind (open_node a (binder_at d at) (get_or (rows d) at no_triple)))) (p + 1) (number (open_node a (binder_at d at) (get_or (rows d) at no_triple)))) (p + 2) (words (open_lines d a (at + 1) (left - 1)))
+  unfolding open_lines
+  open_turn o p at left h =
+      let e : left ≡ suc (left - 1) = omega arith in
+      ap (λ (n : ℕ). sets o p (words (open_lines d a at n))) e ∙ put-node o p (open_node a (binder_at d at) (get_or (rows d) at no_triple)) (open_lines d a (at + 1) (left - 1))
+
   -- the n lines from line `at` on: those before the i-th are written
-  pub open_turn : (o : List ℕ) (at n i : ℕ) → i < n
+  pub open-place : (o : List ℕ) (at n i : ℕ) → i < n
       → sets o (2 * i) (words (open_lines d a (at + i) (n - i)))
       ≡ sets (set (set o (2 * i) (kind (open_node a (binder_at d (at + i)) (get_or (rows d) (at + i) no_triple)))) (2 * i + 1) (number (open_node a (binder_at d (at + i)) (get_or (rows d) (at + i) no_triple)))) (2 * (i + 1)) (words (open_lines d a (at + (i + 1)) (n - (i + 1))))
   unfolding open_lines
-  open_turn o at n i h =
+  open-place o at n i h =
       let e : n - i ≡ suc (n - (i + 1)) = omega arith in
       let p : 2 * i + 2 ≡ 2 * (i + 1) = omega arith in
       let z : at + i + 1 ≡ at + (i + 1) = omega arith in

@@ -140,11 +140,11 @@ module _ (ls : List Triple) (i end : ℕ) (u : List ℕ) where
   mark-other e n = let z = ne_eqb (get_or ls i no_triple).kind 14 (λ q. n (ap (λ (v : Triple). v.kind) e ∙ q)) in rw (front-none ls i (end - i) z)
 
   pub mark-next : i < end → {t : Triple} → t ≡ get_or ls i no_triple → t.kind ≡ 14 → {v : List ℕ} → v ≡ set u t.value (i + 1)
-      → put_names v (i + 1) (front_of (take (end - (i + 1)) (drop (i + 1) ls))) ≡ whole
+      → (put_names v (i + 1) (front_of (take (end - (i + 1)) (drop (i + 1) ls))) ≡ whole) × (length v ≡ length u)
   unfolding put_names
   mark-next h {t} e k {v} s =
       let z : eqb (get_or ls i no_triple).kind 14 ≡ true = eq-eqb (get_or ls i no_triple).kind 14 (ap (λ (v : Triple). v.kind) (sym e) ∙ k) in
       let n : end - i ≡ suc (end - (i + 1)) = omega arith in
       let f : front_of (take (end - i) (drop i ls)) ≡ t.value ∷ front_of (take (end - (i + 1)) (drop (i + 1) ls)) =
       ap (λ (m : ℕ). front_of (take m (drop i ls))) n ∙ front-next ls i (end - (i + 1)) ∙ rw (z, e, add-one) in
-      ap (λ (w : List ℕ). put_names w (i + 1) (front_of (take (end - (i + 1)) (drop (i + 1) ls)))) s ∙ sym (ap (put_names u i) f)
+      (ap (λ (w : List ℕ). put_names w (i + 1) (front_of (take (end - (i + 1)) (drop (i + 1) ls)))) s ∙ sym (ap (put_names u i) f), ap length s ∙ length-set u t.value (i + 1))

@@ -221,7 +221,7 @@ module _ (s : List ℕ) (h : length_ok (length s) ≡ true) where
       rw h (plan-first s n w (fitting (read_sheet s)) ∙ ap fitting w)
 
   -- whether it is a plan is whether its lines are what is due
-  plan-forms : is_plan (check s) ≡ forms (triples s) (entries 1 0 ∷ [])
+  pub plan-forms : is_plan (check s) ≡ forms (triples s) (entries 1 0 ∷ [])
   plan-forms = go (forms (triples s) (entries 1 0 ∷ [])) refl (check s) refl
     where
       go : (b : Bool) → forms (triples s) (entries 1 0 ∷ []) ≡ b → (c : (Result Unit SheetError)) → check s ≡ c → is_plan c ≡ b

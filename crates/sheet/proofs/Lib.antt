@@ -14,3 +14,4 @@ mod Walks
 pub mod Binders
 pub mod Bound
 pub mod Binding
+pub mod OneLine

@@ -20,7 +20,7 @@ gone (Number n m) = n
 gone Bad = true
 
 -- none comes with another byte
-abbrev lost : Field → Bool
+abbrev pub lost : Field → Bool
 lost Blank = false
 lost Minus = true
 lost (Number n m) = n || eqb m 0

@@ -3,3 +3,4 @@ pub mod Fields
 pub mod Texts
 pub mod Tests
 pub mod Few
+pub mod Bytes

@@ -58,7 +58,8 @@ nowhere = record { kind = 1; negative = false; value = 0; count = 0 }
 abbrev pub tame : Triple → Triple
 tame t = cond (sayable t) t nowhere
 
--- the reader's verdict on these lines: Refused, counted from 1, is the first that can't continue a plan, or the first that is lacking
+-- the reader's verdict on these lines: the line of Unfit, counted from 1, is the first that can't continue a plan, or
+-- the first that is lacking
 unfoldable pub read_triples : List Triple → Result ℕ SheetError
 read_triples ts = end_of (length ts) (read (map said ts) (entries 1 0 ∷ []) 0)
 

@@ -2,7 +2,7 @@ use Rattle.std.proofs.Common.{◌+◌, ◌*◌, ◌-◌, ◌<◌, sym, ◌∙◌
 use Rattle.sheet.specs.Rows.{rows}
 use Rattle.sheet.proofs.RowLaws.{length-rows, row-kind, row_count}
 use Rattle.sheet.proofs.Copies.{copy-narrow}
-use Rattle.constructors.proofs.Openings.{part-narrow, open_turn, open-end}
+use Rattle.constructors.proofs.Openings.{part-narrow, open-place, open-end}
 use Rattle.constructors.proofs.apply_type_substitutions.Goals as goal
 
 pub overflow_add-at : goal.overflow_add-at
@@ -25,7 +25,7 @@ open_node-q-requires c = let a = c.args in
 pub loop-i-preserved : goal.loop-i-preserved
 loop-i-preserved c = let L = c.loop-i in
     let a = c.args in
-    L.invariant ∙ rw (c.open_node-q.ensures, c.binder_at.ensures.0, c.triple_at.ensures) (open_turn a.s.now a.base L.out a.line a.n L.i c.loop-i-test.true)
+    L.invariant ∙ rw (c.open_node-q.ensures, c.binder_at.ensures.0, c.triple_at.ensures) (open-place a.s.now a.base L.out a.line a.n L.i c.loop-i-test.true)
 
 pub returns : goal.returns
 returns c = let L = c.loop-i in

@@ -1,4 +1,4 @@
-use Rattle.std.proofs.Common.{sym, ap, ◌∙◌, arith}
+use Rattle.std.proofs.Common.{◌≡◌, sym, ap, ◌∙◌, arith}
 use Rattle.spelling.specs.declared.Triple.{Triple}
 use Rattle.sheet.proofs.RowLaws.{length-rows}
 use Rattle.constructors.proofs.Binders.{front-turn, front-stop, front-end}
@@ -14,4 +14,8 @@ pub loop-i-preserved : goal.loop-i-preserved
 loop-i-preserved c = let L = c.loop-i in front-turn _ _ _ c.requires L.i c.loop-i-test.true L.invariant (ap (λ (t : Triple). t.kind) (sym c.triple_at.ensures) ∙ c.if-triple_at-ne14.false)
 
 pub returns : goal.returns
-returns c = let L = c.loop-i in front-end _ _ _ c.requires L.i (let z = c.loop-i-test.false in omega arith) L.invariant
+returns c =
+    let L = c.loop-i in
+    let z = c.loop-i-test.false in
+    let e : c.args.n ≡ L.i = omega arith in
+    e ∙ front-end _ _ _ c.requires L.i (omega arith) L.invariant

@@ -13,7 +13,7 @@ pub loop-i-preserved : goal.loop-i-preserved
 loop-i-preserved c =
     let L = c.loop-i in
     let a = c.args in
-    mark-next (rows a.s.now) L.i a.end L.last c.loop-i-test.true c.triple_at-t.ensures c.if-t-ne14.false c.set_name.ensures ∙ L.invariant
+    (mark-next (rows a.s.now) L.i a.end L.last c.loop-i-test.true c.triple_at-t.ensures c.if-t-ne14.false c.set_name.ensures).0 ∙ L.invariant
 
 pub returns : goal.returns
 returns c =
