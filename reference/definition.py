@@ -34,7 +34,7 @@ use Rattle.spelling.specs.declared.Triple.{Triple}
 use Rattle.judgment.specs.Solutions.{Solution, ◌≔◌, Solutions}
 use Rattle.judgment.specs.Board.{up_to, unlimited}
 use Rattle.judgment.specs.Levels.{Levels, Mode, first_call, strict_call, scope_of}
-use Rattle.judgment.specs.Result.{Result, numbers, limits_for}
+use Rattle.judgment.specs.Result.{Judged, numbers, limits_for}
 """
 ROW = """
 abbrev t : ℕ → Bool → ℕ → ℕ → Triple

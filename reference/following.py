@@ -48,15 +48,11 @@ THREES = {0: (3003, 2, 1), 1: (3000, 1, 0), 2: (2999, 1, 3001), 999: (3007, 3, 1
 LOOKED_UP = [(17, n) for n in (0, 1, 2, 3, 998, 999, 1000, 1001, 65535, 65536, 65537, 66535, 66536, 131072, 2**31, 2**32 - 1)]
 LOOKED_UP += [(kind, 0) for kind in (0, 1, 11, 12, 13, 14, 15, 16, 18, 65553)]
 
-PLACES = """-- Where the solution of a node stands, for numbers of 32 bits and words as they come, by computation. The answers are those of `place` in
--- reference/following.py, which makes this file. Assumes nothing.
-use mathlib.Core.Path.{◌≡◌, refl}
-use mathlib.Core.List.{List, [], ◌∷◌, ◌++◌, map}
-use Prim.Native.Nat.{ℕ}
-use lib.ListN.{replicate}
+PLACES = """-- Where the solution of a node stands, for numbers of 32 bits and words as they come, by computation. The answers are
+-- those of `place` in reference/following.py, which makes this file. Assumes nothing.
+use Rattle.std.proofs.Common.{Option, Some, None, ◌≡◌, refl, List, [], ◌∷◌, ◌++◌, map, ℕ, replicate}
+use Rattle.nodes.specs.declared.Place.{Place}
 use Rattle.nodes.specs.Nodes.{Node, node, kind, number}
-use Rattle.book.specs.declared.Found.{Found}
-use Rattle.book.specs.declared.Found.TheVariants.{At, Nothing}
 use Rattle.book.specs.Book.{place_of}
 """
 
@@ -185,10 +181,10 @@ def words(threes):
 
 def placed():
     def told(place):
-        return "Nothing" if place is None else f"At (record {{ start = {place[0]}; count = {place[1]} }})"
+        return "None" if place is None else f"Some (record {{ start = {place[0]}; count = {place[1]} }})"
 
     return (f"\nabbrev words : List ℕ\nwords = {words(THREES)}\n"
-            f"\nabbrev told : List (Node × Found)\ntold =\n{listed(f'(node {k} {n}, {told(place(THREES, k, n))})' for k, n in LOOKED_UP)}"
+            f"\nabbrev told : List (Node × (Option Place))\ntold =\n{listed(f'(node {k} {n}, {told(place(THREES, k, n))})' for k, n in LOOKED_UP)}"
             f"\npub places : map (λ q. place_of words (kind q.0) (number q.0)) told ≡ map (λ q. q.1) told\n"
             f"unfolding place_of\nplaces = refl\n")
 

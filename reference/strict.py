@@ -31,7 +31,7 @@ NAMES = {
     "judgment.specs.Solutions": "◌≔◌",
     "judgment.specs.Board": "up_to Limits",
     "judgment.specs.Levels": "Levels Mode first_call strict_call scope_of",
-    "judgment.specs.Result": "numbers Result limits_for padded place_from threes_from node_words book_words",
+    "judgment.specs.Result": "numbers Judged limits_for padded place_from threes_from node_words book_words",
 }
 FORMS = """use Rattle.judgment.proofs.Wall.{l, Row}
 
@@ -43,7 +43,7 @@ abbrev levels_from : Levels → ℕ → ℕ → List ℕ
 levels_from v k zero = []
 levels_from v k (suc n) = v k ∷ levels_from v (k + 1) n
 
-abbrev row_of_result : Result → LevelRow
+abbrev row_of_result : Judged → LevelRow
 row_of_result r = ((numbers r.answer, r.report, r.solutions), levels_from r.levels 0 r.answer.fresh)
 
 unfoldable pub level_row : Mode → ℕ → List Triple → LevelRow
