@@ -5,7 +5,7 @@
  * keeps nothing between calls, so calls with buffers of their own may run at
  * the same time. Of the sheets that were measured, a plan took at most 0.38 MB of
  * stack, however deeply it is nested, and a sheet that is none (4 or 5) at most
- * 0.74 MB, beside the buffers. Writing took at most 0.67 MB, a plan or none.
+ * 0.33 MB, beside the buffers. Writing took at most 0.26 MB, a plan or none.
  */
 #ifndef KIRVOGHUS_H
 #define KIRVOGHUS_H
