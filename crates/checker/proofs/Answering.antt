@@ -1,9 +1,8 @@
 -- The entry call by its tests, one after the other. Assumes nothing.
-use Rattle.grammar.specs.declared.SheetError.TheVariants.{Length, Misspelt, Unfit}
+use Rattle.grammar.specs.declared.SheetError.TheVariants.{Length}
 use Rattle.grammar.specs.declared.SheetError.{SheetError}
 use Rattle.std.specs.Prelude.{Result, Ok, Err}
 use mathlib.Core.Path.{◌≡◌, refl, sym, ap, ◌∙◌}
-use mathlib.Core.Logic.{◌⊎◌, inl, inr}
 use mathlib.Core.Bool.{Bool, true, false, ◌||◌}
 use mathlib.Core.List.{List, ◌++◌}
 use Prim.Native.Nat.{ℕ, ◌*◌, ◌≤◌, ◌<◌}

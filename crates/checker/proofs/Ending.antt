@@ -1,7 +1,5 @@
 -- Steps to the end of a run: what is left from here is the whole. Assumes nothing.
-use Rattle.operations.proofs.Latch.{not-halted}
-use Rattle.std.specs.Prelude.{Option, Some, None}
-use Rattle.judgment.specs.declared.TypeError.{TypeError}
+use Rattle.operations.proofs.Latch.{not-halted, halted}
 use mathlib.Core.Path.{◌≡◌, refl, sym, ap, ap₂, ◌∙◌}
 use mathlib.Core.Bool.{Bool, true, false, ◌&&◌, and-eq-true_iff}
 use mathlib.Core.List.{List}
@@ -22,8 +20,9 @@ use Rattle.judgment.specs.Result.{limits_for}
 use Rattle.judgment.proofs.Left.{left_of, left-turn, left-empty, left_cut}
 use Rattle.board.specs.Board.{entry_at, entries_of}
 use Rattle.book.specs.Book.{sols, levels_of}
+use Rattle.operations.specs.declared.Halt.{Halt}
 use Rattle.operations.specs.declared.Run.{Run}
-use Rattle.operations.specs.State.{outcome_by, outcome_of, state_of, going, mode_of}
+use Rattle.operations.specs.State.{refusal_of, outcome_by, outcome_of, state_of, going, mode_of}
 use Rattle.applying.specs.Applying.{env_on}
 use Rattle.stepping.specs.Rooms.{Room}
 use Rattle.stepping.specs.Stepping.{Standing, Stepping}
@@ -81,15 +80,19 @@ loop-turn {strict} {m} {s} {C} {T} {b} {k} {c} {x} {b'} {k'} {q} {x'} f h r =
     }
 
 -- no more is taken
-ended : (L : Levels → Limits) (E : Env) (C : ℕ) (ls : List Triple) (b rep : List ℕ) (h : Option TypeError) (i m : ℕ) (v : Levels) (σ : Solutions) (n : ℕ) → (going h && (ltb 0 i && ltb m C)) ≡ false
-    → left_of L E C m v (outcome_by h rep (state (entries_of ls b i) σ n)) ≡ record { end = end_by h i rep; taken = m; last = state (entries_of ls b i) σ n; levels = v }
-ended L E C ls b rep (Some x) i m v σ n e = refl
-ended L E C ls b rep None i m v σ n e = end-entries L E C ls b i m v σ n (λ l. go (ltb 0 i) (ltb m C) refl refl l e)
+ended : (L : Levels → Limits) (E : Env) (C : ℕ) (ls : List Triple) (b rep : List ℕ) (h : Halt) (i m : ℕ) (v : Levels) (σ : Solutions) (n : ℕ) → (going h && (ltb 0 i && ltb m C)) ≡ false
+    → left_of L E C m v (outcome_by (refusal_of h) rep (state (entries_of ls b i) σ n)) ≡ record { end = end_by (refusal_of h) i rep; taken = m; last = state (entries_of ls b i) σ n; levels = v }
+ended L E C ls b rep h i m v σ n e = by (going h) refl
   where
     go : (x y : Bool) → ltb 0 i ≡ x → ltb m C ≡ y → 0 < i → (x && y) ≡ false → C ≤ m
     go true true p q l z = absurd (let u : ◌≡◌ {A = ℕ} 0 1 = cc in omega arith)
     go true false p q l z = ltb-false m C q
     go false y p q l z = absurd (let u = ltb-false 0 i p in omega arith)
+
+    by : (g : Bool) → going h ≡ g
+        → left_of L E C m v (outcome_by (refusal_of h) rep (state (entries_of ls b i) σ n)) ≡ record { end = end_by (refusal_of h) i rep; taken = m; last = state (entries_of ls b i) σ n; levels = v }
+    by true g = rw (not-halted h g) (end-entries L E C ls b i m v σ n (λ l. go (ltb 0 i) (ltb m C) refl refl l (rw g at e)))
+    by false g = rw (halted h g) refl
 
 pub loop-end : {strict : Bool} {m : ℕ} {s : List ℕ} {C : ℕ} {T : Told} {b k rep : List ℕ} {c : Run} → Loop strict m s C T b k rep c → takes_more c C ≡ false
     → T ≡ record { end = end_of rep c; taken = c.counters.taken; last = state_of (rows s) b k c; levels = levels_of k }

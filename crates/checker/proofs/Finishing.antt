@@ -30,7 +30,7 @@ use Rattle.judgment.proofs.Words.{length-board}
 use Rattle.book.specs.Book.{sols, levels_of, levels_written}
 use Rattle.book.proofs.Words.{words-at, book-words, length-written}
 use Rattle.operations.specs.declared.Run.{Run}
-use Rattle.operations.specs.State.{reported, state_of, WellFormed}
+use Rattle.operations.specs.State.{reported, refusal_of, state_of, WellFormed}
 use Rattle.applying.specs.Applying.{env_on}
 use Rattle.ending.specs.Ending.{end_by, end_of, report_end, answer_by}
 use Rattle.checker.specs.Calling.{Ran}
@@ -168,7 +168,7 @@ end-clears h e q = let x = end-within h e in omega arith
 -- ---- all of it
 pub ran : (m : Mode) (s : List ℕ) (C limit : ℕ) {b k : List ℕ} (rep : List ℕ) (c : Run) {b' k' rep' : List ℕ} {a : Answer} {plain : Bool} {size n : ℕ}
     → WellFormed b k c × (told 0 own_levels (run_from (limits_for m limit) (env_on s) C own_levels (start_of (rows s))) ≡ record { end = end_of rep c; taken = c.counters.taken; last = state_of (rows s) b k c; levels = levels_of k })
-    → length k ≡ book_size → k' ≡ levels_written k c.counters.fresh → length rep ≡ report_stride * limit → b' ≡ board_words → size ≡ length rep → n ≡ report_end size c.halt → rep' ≡ sets rep n (zeros (size - n))
+    → length k ≡ book_size → k' ≡ levels_written k c.counters.fresh → length rep ≡ report_stride * limit → b' ≡ board_words → size ≡ length rep → n ≡ report_end size (refusal_of c.halt) → rep' ≡ sets rep n (zeros (size - n))
     → plain ≡ plain_plan (rows s) → ((rep : List ℕ) → a ≡ answer_by plain (end_of rep c) c.counters.taken c.counters.fresh) → Ran limit (judge (limits_for m limit) C (rows s)) b' k' rep' a
 unfolding plan_of
 ran m s C limit {b} {k} rep c {size} {n} h lk ek lr eb es en er ep ea =
@@ -178,6 +178,6 @@ ran m s C limit {b} {k} rep c {size} {n} h lk ek lr eb es en er ep ea =
       answer = ea rep ∙ ap (λ (p : Bool). answer_by p (end_of rep c) c.counters.taken c.counters.fresh) ep ∙ sym (ap (λ (r : Judged). r.answer) j);
       board = eb;
       book = ek ∙ whole-book h.0 lk ∙ sym (ap (λ (r : Judged). book_words r.solutions r.levels r.answer.fresh) j);
-      report = er ∙ ap (λ (m : ℕ). sets rep m (zeros (size - m))) en ∙ ap (λ (m : ℕ). sets rep (report_end m c.halt) (zeros (m - report_end m c.halt))) z
-          ∙ ended-report limit rep lr c.halt c.counters.board.entries ∙ sym (ap (λ (r : Judged). report_words limit r.report) j);
+      report = er ∙ ap (λ (m : ℕ). sets rep m (zeros (size - m))) en ∙ ap (λ (m : ℕ). sets rep (report_end m (refusal_of c.halt)) (zeros (m - report_end m (refusal_of c.halt)))) z
+          ∙ ended-report limit rep lr (refusal_of c.halt) c.counters.board.entries ∙ sym (ap (λ (r : Judged). report_words limit r.report) j);
     }

@@ -1,5 +1,4 @@
 -- A sheet that is taken, and its rows: what is known of the one is known of the other. Assumes nothing.
-use Rattle.grammar.specs.declared.SheetError.TheVariants.{Length, Misspelt, Unfit}
 use Rattle.grammar.specs.declared.SheetError.{SheetError}
 use Rattle.std.specs.Prelude.{Result, Ok, Err}
 use mathlib.Core.Path.{◌≡◌, refl, sym, ap, ◌∙◌, subst}

@@ -1,6 +1,4 @@
 -- Where the run of a sheet starts, in words. Assumes nothing.
-use Rattle.std.specs.Prelude.{Option, Some, None}
-use Rattle.judgment.specs.declared.TypeError.{TypeError}
 use mathlib.Core.Path.{◌≡◌, refl, sym, ap, ap₂, ◌∙◌, subst, subst⁻¹}
 use mathlib.Core.List.{List, [], ◌∷◌, ◌++◌, append-nil}
 use Prim.Native.Nat.{ℕ, ◌+◌, ◌*◌, ◌-◌, ◌≤◌, ◌<◌}
@@ -24,7 +22,7 @@ use Rattle.sheet.specs.Rows.{rows}
 use Rattle.sheet.specs.Form.{Forms, IsPart}
 use Rattle.sheet.proofs.Forming.{split}
 use Rattle.sheet.proofs.TypeLines.{type-narrow}
-use mathlib.Core.Bool.{Bool, true, false, cond, true≢false}
+use mathlib.Core.Bool.{Bool, true, false, true≢false}
 use Rattle.judgment.specs.Board.{Limits, State, Outcome, finished, refused}
 use Rattle.judgment.specs.Run.{run_from}
 use Rattle.judgment.proofs.Plans.{plan-inv}
@@ -42,8 +40,10 @@ use Rattle.book.proofs.Levels.{new-levels, new-level-words}
 use Rattle.book.proofs.Words.{new-sols, new-booked, zero-at}
 use Rattle.inference.proofs.Heads.{part-within}
 use Rattle.inference.proofs.Written.{length-type_on, copied}
+use Rattle.operations.specs.declared.Halt.{Halt}
 use Rattle.operations.specs.declared.Run.{Run}
-use Rattle.operations.specs.State.{outcome_by, outcome_of, state_of, WellFormed, going}
+use Rattle.operations.specs.State.{no_halt, refusal_of, outcome_of, state_of, WellFormed, going}
+use Rattle.operations.proofs.Latch.{not-halted, halted}
 use Rattle.stepping.specs.Stepping.{Read, longest, Standing}
 use Rattle.judgment.specs.Chain.{told}
 use Rattle.checker.specs.Calling.{StartAsk}
@@ -115,7 +115,7 @@ module _ (s : List ℕ) (h : Read s) where
     words-after = laid b none 5 (places_of ls).term T []
 
     abbrev begun : Run
-    begun = record { counters = record { taken = 0; fresh = 0; board = grown none (n + 0) }; book = record { nodes = 0 }; halt = None }
+    begun = record { counters = record { taken = 0; fresh = 0; board = grown none (n + 0) }; book = record { nodes = 0 }; halt = no_halt }
 
     few : 0 + (length T + 0) ≤ most_nodes
     few =
@@ -142,7 +142,7 @@ module _ (s : List ℕ) (h : Read s) where
     pub begun-outcome : (rep : List ℕ) → outcome_of ls words-after (sets k 0 (book_words [] own_levels 0)) rep begun ≡ finished (start_of ls)
     unfolding entry_of
     begun-outcome rep =
-        rw (laid-entries (new-stacked b lb) 5 (places_of ls).term T [] (omega arith) few ls, no-entries ls b, new-sols k lk, term_is, tn, type-is) refl
+        rw (not-halted no_halt refl, laid-entries (new-stacked b lb) 5 (places_of ls).term T [] (omega arith) few ls, no-entries ls b, new-sols k lk, term_is, tn, type-is) refl
 
 -- what the code reads and writes, one after the other
 module _ {s b k t : List ℕ} (a : StartAsk s b k t) {p : Places} (ep : p ≡ places_of (rows s)) {e : ℕ} (ee : e ≡ part_line (rows s) p.expected 1) where
@@ -174,7 +174,7 @@ module _ {s b k t : List ℕ} (a : StartAsk s b k t) {p : Places} (ep : p ≡ pl
         let z : T ≡ nodes_of (take (part_line (rows s) (places_of (rows s)).expected 1 - (places_of (rows s)).expected) (drop (places_of (rows s)).expected (rows s))) = rw (ee, ep) refl in
         y ∙ z
 
-    pub begun-is : {b' k' : List ℕ} {q : Board} {bk : Book} → (b' ≡ laid b d 5 p.term (nodes_at t' 0 (e - p.expected)) (nodes_at t' 0 0)) × (q ≡ grown d (e - p.expected + 0)) → k' ≡ sets k 0 (book_words [] own_levels 0) → bk ≡ record { nodes = 0 } → {h : Option TypeError} → h ≡ None
+    pub begun-is : {b' k' : List ℕ} {q : Board} {bk : Book} → (b' ≡ laid b d 5 p.term (nodes_at t' 0 (e - p.expected)) (nodes_at t' 0 0)) × (q ≡ grown d (e - p.expected + 0)) → k' ≡ sets k 0 (book_words [] own_levels 0) → bk ≡ record { nodes = 0 } → {h : Halt} → h ≡ no_halt
         → (let r : Run = record { counters = record { taken = 0; fresh = 0; board = q }; book = bk; halt = h } in WellFormed b' k' r × (r.counters.taken ≡ 0) × (levels_of k' ≡ own_levels) × ((rep : List ℕ) → outcome_of (rows s) b' k' rep r ≡ finished (start_of (rows s))))
     unfolding nodes_at
     begun-is u ek eb eh =
@@ -193,22 +193,21 @@ goes_on (finished s) = true
 goes_on (refused e ts s) = false
 
 pub start_is : (s b k : List ℕ) (c : Run) → WellFormed b k c × (c.counters.taken ≡ 0) × (levels_of k ≡ own_levels) × ((rep : List ℕ) → outcome_of (rows s) b k rep c ≡ finished (start_of (rows s))) → (going c.halt ≡ true) × (state_of (rows s) b k c ≡ start_of (rows s))
-start_is s b k c q = go c.halt (q.3 [])
+start_is s b k c q = go (going c.halt) refl
   where
-    go : (h : Option TypeError) → outcome_by h [] (state_of (rows s) b k c) ≡ finished (start_of (rows s))
-        → (going h ≡ true) × (state_of (rows s) b k c ≡ start_of (rows s))
-    go None e = (refl, ap state_in e)
-    go (Some x) e = absurd (true≢false (sym (ap goes_on e)))
+    go : (g : Bool) → going c.halt ≡ g → (going c.halt ≡ true) × (state_of (rows s) b k c ≡ start_of (rows s))
+    go true g = (g, ap state_in (rw (not-halted c.halt g) at (q.3 [])))
+    go false g = absurd (true≢false (sym (ap goes_on (rw (halted c.halt g) at (q.3 [])))))
 
 pub start-stands : (m : ℕ) (s b k : List ℕ) (c : Run) → Read s → WellFormed b k c × (c.counters.taken ≡ 0) × (levels_of k ≡ own_levels) × ((rep : List ℕ) → outcome_of (rows s) b k rep c ≡ finished (start_of (rows s))) → Standing m s b k c × (going c.halt ≡ true)
 start-stands m s b k c h q =
     let p = plan_of (rows s) in
     let w = read_whole h in
     let e = start_is s b k c q in
-    let o = of-outcome ⊥ c.halt [] (entries_of (rows s) b c.counters.board.entries) (sols k) c.counters.fresh
+    let o = of-outcome ⊥ (refusal_of c.halt) [] (entries_of (rows s) b c.counters.board.entries) (sols k) c.counters.fresh
     (subst⁻¹ (OutcomeOK ⊥) (q.3 []) (record { inv = plan-inv p (read-good h); entries = (w.1, tt); solutions = tt })) in
     let z = longest m s in
-    let v = of-short z c.halt [] (entries_of (rows s) b c.counters.board.entries) (sols k) c.counters.fresh
+    let v = of-short z (refusal_of c.halt) [] (entries_of (rows s) b c.counters.board.entries) (sols k) c.counters.fresh
     (subst⁻¹ (OutcomeShort z) (q.3 []) ((plan-short z (rows s) (le-max_right m (length (rows s)))).1, tt)) in
     (record { plan = h; formed = q.0; good = o; short = v }, e.0)
 

@@ -25,7 +25,7 @@ use ending::{answer, report_end, takes_more};
 use inferring::has_case;
 use judgment::Answer;
 use nodes::clear_words;
-use operations::{Counters, Run};
+use operations::{Counters, Halt, Run};
 use reading::check_sheet;
 use sheet::{copy_type, find_places, is_plain, line_count, part_line, read_plan};
 use sizes::{
@@ -139,7 +139,7 @@ fn start(board: &mut [u32], book: &mut [u32], s: &[u64], t: &mut [u32]) -> Run
             board,
         },
         book: Book::new(),
-        halt: None,
+        halt: Halt::none(),
     }
 }
 

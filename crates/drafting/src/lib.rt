@@ -7,7 +7,7 @@ ghost use Rattle.drafting.specs.Drafting.{below, diagnosis, tells_triple, whole,
 
 use input::fill_from;
 use judgment::Answer;
-use kinds::{Sort, fields_ok, table_words, unpacked, word_in};
+use kinds::{Sort, fields_ok, row_in, table_words, word_in};
 use listing::{Fault, Plan};
 use sizes::{LINE_LENGTH, SHEET_BYTES, TRIPLE_WORDS};
 use spelling::Triple;
@@ -91,7 +91,7 @@ fn diagnose(t: Triple) -> Wrong
 {
     let words = table_words();
     let word = word_in(&words, t.kind);
-    let row = unpacked(word);
+    let row = row_in(word);
     if row.sort == Sort::Nothing {
         return Wrong::NoKind;
     }

@@ -6,7 +6,7 @@ use Rattle.judgment.specs.declared.Answer.{Answer}
 use Rattle.judgment.specs.Run.{End, accepted, ceiling, refused_by}
 use Rattle.judgment.specs.Result.{end_number, end_details}
 use Rattle.operations.specs.declared.Run.{Run}
-use Rattle.operations.specs.State.{reported, going}
+use Rattle.operations.specs.State.{reported, going, refusal_of}
 
 -- not refused, an entry remains, and the ceiling is not reached
 abbrev pub takes_more : Run → ℕ → Bool
@@ -22,7 +22,7 @@ end_by None n rep = end_at n
 end_by (Some e) n rep = refused_by e (nodes_at rep 0 (reported e))
 
 abbrev pub end_of : List ℕ → Run → End
-end_of rep c = end_by c.halt c.counters.board.entries rep
+end_of rep c = end_by (refusal_of c.halt) c.counters.board.entries rep
 
 -- the word after an end's types in a report of so many words; a type that does not fit is cut off
 unfoldable pub report_end : ℕ → Option TypeError → ℕ

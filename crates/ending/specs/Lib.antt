@@ -1,2 +1,1 @@
 pub mod Ending
-pub mod Errors

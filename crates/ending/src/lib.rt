@@ -3,12 +3,12 @@
 
 ghost use Rattle.std.specs.Prelude.{◌≡◌, ◌<◌, ◌^◌, List, ℕ};
 ghost use Rattle.judgment.specs.Result.{end_number, end_details};
-ghost use Rattle.operations.specs.State.{reported};
+ghost use Rattle.operations.specs.State.{reported, refusal_of};
 ghost use Rattle.ending.specs.Ending.{takes_more, end_by, end_of, report_end, answer_by};
 
 use judgment::{Answer, Details, TypeError, error_details, error_number};
 use nodes::wide;
-use operations::{Run, is_going};
+use operations::{Halt, Run, is_going};
 
 // An entry is to be taken: the run was not refused, one remains, and the ceiling is not reached.
 pub fn takes_more(c: Run, ceiling: u32) -> bool
@@ -30,10 +30,10 @@ fn reported_nodes(e: TypeError) -> usize
 }
 
 // The word after its types in a report of so many words.
-pub fn report_end(halt: Option<TypeError>, size: usize) -> usize
-    ensures { result ≡ report_end size halt }
+pub fn report_end(h: Halt, size: usize) -> usize
+    ensures { result ≡ report_end size (refusal_of h) }
 {
-    let Some(e) = halt else { return 0 };
+    let Some(e) = h.refusal() else { return 0 };
     (2 * reported_nodes(e)).min(size)
 }
 
@@ -59,9 +59,10 @@ pub fn answer(c: Run, plain: bool) -> Answer
     ensures { (rep : List ℕ) → result ≡ answer_by plain (end_of rep c) c.counters.taken c.counters.fresh }
 {
     let n = c.counters;
-    let Details(detail1, detail2) = end_details(c.halt);
+    let halt = c.halt.refusal();
+    let Details(detail1, detail2) = end_details(halt);
     Answer {
-        number: end_number(c.halt, n.board.entries),
+        number: end_number(halt, n.board.entries),
         line: 0,
         taken: n.taken,
         fresh: n.fresh,

@@ -1,5 +1,5 @@
 -- What holds of every row of the table. Assumes nothing.
-use Rattle.std.proofs.Common.{Option, Some, None, ◌≡◌, refl, sym, ap, ◌∙◌, ◌⊎◌, inl, inr, Bool, true, false, not, cond, ◌&&◌, ◌||◌, List, [], ◌∷◌, ℕ, ◌+◌, ◌*◌, ◌/◌, ◌%◌, ◌≤◌, ◌<◌, max, arith, eqb, leb, ltb, length, get_or, eq-eqb, ne_eqb, leb-true, eqb-true}
+use Rattle.std.proofs.Common.{Option, Some, None, ◌≡◌, refl, sym, ap, ◌∙◌, ◌⊎◌, inl, inr, Bool, true, false, not, cond, ◌&&◌, ◌||◌, List, [], ◌∷◌, ℕ, zero, suc, ◌+◌, ◌*◌, ◌/◌, ◌%◌, ◌≤◌, ◌<◌, max, arith, eqb, leb, ltb, length, get_or, eq-eqb, ne_eqb, leb-true, eqb-true}
 use Rattle.kinds.specs.declared.Parts.{Parts}
 use mathlib.Core.Path.{subst⁻¹}
 use mathlib.Core.Bool.{and-eq-true_iff}
@@ -11,7 +11,7 @@ use Rattle.kinds.specs.declared.Sort.{Sort}
 use Rattle.kinds.specs.declared.Sort.TheVariants.{Nothing, «Type», Term, Pattern, Arm, Entry, Expected, Goal}
 use Rattle.kinds.specs.declared.Value.{Value}
 use Rattle.kinds.specs.declared.Value.TheVariants.{Unused, Name, Number, Operator}
-use Rattle.kinds.specs.Kinds.{digit_of, value_digit, word_of, same_sort, sort_in, Listed, find, table, row_of, unlisted, nothing, a_type, a_term, a_pattern, an_arm, an_entry, an_expected, a_goal, row_in, is_leaf, begins, head_of, parts_of, Tabled, parts_by}
+use Rattle.kinds.specs.Kinds.{digit_of, word_of, same_sort, sort_in, sort_numbered, fields_ok, begins_for, head_for, Listed, find, table, row_of, unlisted, nothing, a_type, a_term, a_pattern, an_arm, an_entry, an_expected, a_goal, row_in, is_leaf, begins, head_of, parts_of, Tabled, parts_by}
 use Rattle.kinds.proofs.Table.{tabled, at}
 
 -- the largest kind listed
@@ -80,6 +80,28 @@ true-same x y e = eq-eqb (digit_of x) (digit_of y) (ap digit_of e)
 
 pub ne_same : (x y : Sort) → (x ≡ y → ⊥) → same_sort x y ≡ false
 ne_same x y n = ne_eqb (digit_of x) (digit_of y) (λ e. n (sym (sort-digit x) ∙ ap sort_in e ∙ sort-digit y))
+
+-- and the other way, for the numbers that they have
+digit-sort : (n : ℕ) → n ≤ 7 → digit_of (sort_in n) ≡ n
+digit-sort zero h = refl
+digit-sort (suc zero) h = refl
+digit-sort (suc (suc zero)) h = refl
+digit-sort (suc (suc (suc zero))) h = refl
+digit-sort (suc (suc (suc (suc zero)))) h = refl
+digit-sort (suc (suc (suc (suc (suc zero))))) h = refl
+digit-sort (suc (suc (suc (suc (suc (suc zero)))))) h = refl
+digit-sort (suc (suc (suc (suc (suc (suc (suc zero))))))) h = refl
+digit-sort (suc (suc (suc (suc (suc (suc (suc (suc n)))))))) h = absurd (omega arith)
+
+few-sorts : (x : Sort) → digit_of x ≤ 7
+few-sorts Nothing = omega arith
+few-sorts «Type» = omega arith
+few-sorts Term = omega arith
+few-sorts Pattern = omega arith
+few-sorts Arm = omega arith
+few-sorts Entry = omega arith
+few-sorts Expected = omega arith
+few-sorts Goal = omega arith
 
 nothing-in : (d : ℕ) → same_sort (sort_in d) nothing ≡ eqb d 0
 nothing-in d = go (eqb d 0) (eqb d 1) (eqb d 2) (eqb d 3) (eqb d 4) (eqb d 5) (eqb d 6)
@@ -226,3 +248,20 @@ begins-head f some none x t = go (begins x t)
     go : (b : Bool) → b ≡ f (cond b (Some (parts_by (row_of t.kind) t.count)) None)
     go true = sym (some (parts_by (row_of t.kind) t.count))
     go false = sym none
+
+-- of the sort that has the number n a part begins with a line whose row's sort has it; above 7 there is none
+pub begins-numbered : (n : ℕ) (t : Triple) → begins_for (sort_numbered n) t ≡ (eqb (digit_of (row_of t.kind).sort) n && fields_ok (row_of t.kind) t)
+unfolding begins
+begins-numbered n t = go (ltb 7 n) refl
+  where
+    x : Sort
+    x = (row_of t.kind).sort
+
+    go : (b : Bool) → ltb 7 n ≡ b → begins_for (cond b None (Some (sort_in n))) t ≡ (eqb (digit_of x) n && fields_ok (row_of t.kind) t)
+    go true q = let l = ltb-true 7 n q in let h = few-sorts x in rw (ne_eqb (digit_of x) n (omega arith)) refl
+    go false q = let l = ltb-false 7 n q in rw (digit-sort n (omega arith)) refl
+
+pub head-begun : (o : Option Sort) (t : Triple) → head_for o t ≡ cond (begins_for o t) (Some (parts_by (row_of t.kind) t.count)) None
+unfolding head_of
+head-begun None t = refl
+head-begun (Some x) t = refl

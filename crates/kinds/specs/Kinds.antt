@@ -1,9 +1,10 @@
 -- The kinds of document 01: the plan's own lines 1 to 4, types 11 to 16, terms 21 to 30, patterns 41 to 43; what a
 -- line's fields hold, and which parts follow it. Assumes nothing: these are definitions.
 use Rattle.kinds.specs.declared.Parts.{Parts}
-use Rattle.std.specs.Prelude.{◌≡◌, Bool, true, false, not, cond, ◌&&◌, List, [], ◌∷◌, ℕ, ◌+◌, ◌*◌, ◌/◌, ◌%◌, ◌<◌, get_or, leb, eqb, Option, Some, None}
+use Rattle.std.specs.Prelude.{◌≡◌, Bool, true, false, not, cond, ◌&&◌, List, [], ◌∷◌, ℕ, ◌+◌, ◌*◌, ◌/◌, ◌%◌, ◌<◌, get_or, leb, ltb, eqb, Option, Some, None}
 use Rattle.sizes.specs.Sizes.{highest_name}
 use Rattle.spelling.specs.declared.Triple.{Triple}
+use Rattle.kinds.specs.declared.Digits.{Digits}
 use Rattle.kinds.specs.declared.Row.{Row}
 use Rattle.kinds.specs.declared.Sort.{Sort}
 use Rattle.kinds.specs.declared.Sort.TheVariants.{Nothing, «Type», Term, Pattern, Arm, Entry, Expected, Goal}
@@ -55,6 +56,10 @@ sort_in d =
     cond (eqb d 0) nothing (cond (eqb d 1) a_type (cond (eqb d 2) a_term (cond (eqb d 3) a_pattern
     (cond (eqb d 4) an_arm (cond (eqb d 5) an_entry (cond (eqb d 6) an_expected a_goal))))))
 
+-- the sort that has the number n, if one has
+abbrev pub sort_numbered : ℕ → Option Sort
+sort_numbered n = cond (ltb 7 n) None (Some (sort_in n))
+
 -- what a value holds
 abbrev unused : Value
 unused = Unused
@@ -88,11 +93,22 @@ uncounted = false
 abbrev pub row : Sort → Value → Bool → ℕ → ℕ → Sort → Row
 row s v c ty te e = record { sort = s; value = v; counted = c; types = ty; terms = te; each = e }
 
--- the row that a word holds, a hexadecimal digit a field
+-- the hexadecimal digits of a word, one for each field of a row
+abbrev pub digits_in : ℕ → Digits
+digits_in w = record {
+  sort = w / 1048576;
+  value = w / 65536 % 16;
+  count = w / 4096 % 16;
+  types = w / 256 % 16;
+  terms = w / 16 % 16;
+  each = w % 16;
+}
+
+-- the row that a word holds
 abbrev pub row_in : ℕ → Row
 row_in w =
-    row (sort_in (w / 1048576)) (value_in (w / 65536 % 16)) (not (eqb (w / 4096 % 16) 0)) (w / 256 % 16) (w / 16 % 16)
-    (sort_in (w % 16))
+    let d = digits_in w in
+    row (sort_in d.sort) (value_in d.value) (not (eqb d.count 0)) d.types d.terms (sort_in d.each)
 
 -- the one word that the rows by kind have for a row
 abbrev pub word_of : Row → ℕ
@@ -175,6 +191,15 @@ parts_by r n = record { types = r.types; terms = r.terms; each = r.each; count =
 -- what must follow it, if it begins such a part
 unfoldable pub head_of : Sort → Triple → Option Parts
 head_of x t = cond (begins x t) (Some (parts_by (row_of t.kind) t.count)) None
+
+-- the same of the sort that is asked for, if it is one: no line begins a part of none
+abbrev pub begins_for : Option Sort → Triple → Bool
+begins_for None t = false
+begins_for (Some x) t = begins x t
+
+abbrev pub head_for : Option Sort → Triple → Option Parts
+head_for None t = None
+head_for (Some x) t = head_of x t
 
 -- nothing follows a line of the row r
 abbrev pub is_leaf : Row → Bool

@@ -1,8 +1,9 @@
 // The table by kind: which sort of part a line begins, what its fields hold, and which parts follow it (core.rs).
 #![tactic(auto)]
 
-ghost use Rattle.std.specs.Prelude.{◌≡◌, ℕ, ◌<◌, ◌≤◌};
-ghost use Rattle.kinds.specs.Kinds.{sort_in, value_in, row_in, row_of, word_of, most_count, value_ok, count_ok, fields_ok, is_leaf, begins as begins_with, head_of, Tabled};
+ghost use Rattle.std.specs.Prelude.{◌≡◌, ℕ, ◌<◌, ◌≤◌, Option, Some};
+ghost use Rattle.kinds.specs.declared.Sort.{Sort};
+ghost use Rattle.kinds.specs.Kinds.{sort_in, sort_numbered, value_in, digits_in, row_in, row_of, word_of, most_count, value_ok, count_ok, fields_ok, is_leaf, begins_for, head_for, Tabled};
 
 use sizes::HIGHEST_NAME;
 use spelling::Triple;
@@ -19,6 +20,33 @@ pub enum Sort {
     Entry,
     Expected,
     Goal,
+}
+
+// What a sort is asked for by: itself, or its number in that order. A number above 7 is of no sort.
+pub trait AsSort {
+    ghost sort_of: { Self → Option Sort };
+
+    fn as_sort(self) -> Option<Sort>
+        ensures { result ≡ sort_of self };
+}
+
+impl AsSort for Sort {
+    ghost sort_of = { λ x. Some x };
+
+    fn as_sort(self) -> Option<Sort> {
+        Some(self)
+    }
+}
+
+impl AsSort for u64 {
+    ghost sort_of = { sort_numbered };
+
+    fn as_sort(self) -> Option<Sort> {
+        if 7 < self {
+            return None;
+        }
+        Some(sort_in(self))
+    }
 }
 
 // What a value holds, in the same order.
@@ -43,6 +71,17 @@ pub struct Row {
     pub terms: u64,
     // What then follows as many times as the count says.
     pub each: Sort,
+}
+
+// The digits of a row's word, one for each field of Row, whatever the word is.
+#[derive(Clone, Copy)]
+pub struct Digits {
+    pub sort: u64,
+    pub value: u64,
+    pub count: u64,
+    pub types: u64,
+    pub terms: u64,
+    pub each: u64,
 }
 
 // The rows by kind, a hexadecimal digit a field, in the order of Row. A constant array is laid down anew at each use,
@@ -95,7 +134,7 @@ const TABLE: [u32; 44] = [
 ];
 
 // The last of the sorts stands for each digit from its own on.
-fn sort_in(digit: u32) -> Sort
+fn sort_in(digit: u64) -> Sort
     ensures { result ≡ sort_in digit }
 {
     match digit {
@@ -110,7 +149,7 @@ fn sort_in(digit: u32) -> Sort
     }
 }
 
-fn value_in(digit: u32) -> Value
+fn value_in(digit: u64) -> Value
     ensures { result ≡ value_in digit }
 {
     match digit {
@@ -121,23 +160,38 @@ fn value_in(digit: u32) -> Value
     }
 }
 
-pub fn unpacked(word: u32) -> Row
-    ensures { result ≡ row_in word }
+pub fn unpacked(word: u32) -> Digits
+    ensures { result ≡ digits_in word }
 {
-    Row {
-        sort: sort_in(word / 0x100000),
-        value: value_in(word / 0x10000 % 16),
-        counted: word / 0x1000 % 16 != 0,
+    Digits {
+        sort: (word / 0x100000) as u64,
+        value: (word / 0x10000 % 16) as u64,
+        count: (word / 0x1000 % 16) as u64,
         types: (word / 0x100 % 16) as u64,
         terms: (word / 0x10 % 16) as u64,
-        each: sort_in(word % 16),
+        each: (word % 16) as u64,
+    }
+}
+
+// The row whose word that is.
+pub fn row_in(word: u32) -> Row
+    ensures { result ≡ row_in word }
+{
+    let d = unpacked(word);
+    Row {
+        sort: sort_in(d.sort),
+        value: value_in(d.value),
+        counted: d.count != 0,
+        types: d.types,
+        terms: d.terms,
+        each: sort_in(d.each),
     }
 }
 
 fn row_at(kind: u64) -> Row
     ensures { result ≡ row_of kind }
 {
-    unpacked(word_in(&TABLE, kind))
+    row_in(word_in(&TABLE, kind))
 }
 
 // The rows by kind as words, for a caller that looks up many: it makes them once and lends them.
@@ -197,7 +251,7 @@ fn row_takes(row: Row, t: Triple) -> bool
 pub fn fields_ok(word: u32, t: Triple) -> bool
     ensures { result ≡ fields_ok (row_in word) t }
 {
-    row_takes(unpacked(word), t)
+    row_takes(row_in(word), t)
 }
 
 // What must follow a line: types, then terms, then count times each.
@@ -211,9 +265,10 @@ pub struct Parts {
 
 // What must follow the line; None where no part of the sort begins with it.
 #[tactic(auto, unfolding(crate::specs::Kinds::head_of, crate::specs::Kinds::begins))]
-pub fn head_of(t: Triple, sort: Sort) -> Option<Parts>
-    ensures { result ≡ head_of sort t }
+pub fn head_of<S: AsSort>(t: Triple, sort: S) -> Option<Parts>
+    ensures { result ≡ head_for (S.sort_of sort) t }
 {
+    let sort = sort.as_sort()?;
     let row = row_at(t.kind);
     (row.sort == sort && row_takes(row, t)).then_some(Parts {
         types: row.types,
@@ -225,8 +280,8 @@ pub fn head_of(t: Triple, sort: Sort) -> Option<Parts>
 
 // A part of the sort begins with this line.
 #[tactic(auto, unfolding(crate::specs::Kinds::head_of))]
-pub fn begins(t: Triple, sort: Sort) -> bool
-    ensures { result ≡ begins_with sort t }
+pub fn begins<S: AsSort>(t: Triple, sort: S) -> bool
+    ensures { result ≡ begins_for (S.sort_of sort) t }
 {
     head_of(t, sort).is_some()
 }

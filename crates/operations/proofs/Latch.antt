@@ -1,6 +1,5 @@
 -- A run that was refused stays; what each operation leaves of one that goes on. Assumes nothing.
-use Rattle.std.proofs.Common.{Option, Some, None, ◌≡◌, refl, sym, ap, ap₂, ◌∙◌, subst, ◌≢◌, Bool, true, false, ◌||◌, true≢false, List, [], ◌∷◌, ℕ, ◌+◌, ◌*◌, ◌≤◌, ◌<◌, add-one, arith, length, ltb, leb-true, ltb-true, lt-ltb, le-ltb}
-use Rattle.std.specs.Option.{option_or}
+use Rattle.std.proofs.Common.{Some, None, ◌≡◌, refl, sym, ap, ap₂, ◌∙◌, subst, ◌≢◌, Bool, true, false, ◌||◌, List, [], ◌∷◌, ℕ, ◌+◌, ◌*◌, ◌≤◌, ◌<◌, add-one, arith, length, ltb, leb-true, ltb-true, lt-ltb, le-ltb}
 use Rattle.sizes.specs.Sizes.{most_nodes, most_numbers, book_base}
 use Rattle.nodes.specs.Nodes.{Ty, nodes_at}
 use Rattle.nodes.specs.Lists.{All}
@@ -8,7 +7,7 @@ use Rattle.nodes.proofs.Laws.{length-nodes_at}
 use Rattle.nodes.proofs.ListLaws.{cond_ind}
 use Rattle.spelling.specs.declared.Triple.{Triple}
 use Rattle.judgment.specs.declared.TypeError.{TypeError}
-use Rattle.judgment.specs.declared.TypeError.TheVariants.{BoardFull, NoFreshNumber, SolutionsFull, OutOfScope}
+use Rattle.judgment.specs.declared.TypeError.TheVariants.{UnboundVariable, UnboundDataConstructor, NotAFunction, ArityMismatch, SubtypingError, TypeUnificationError, InstantiationError, IntrinsicArityMismatch, UnknownIntrinsic, BoardFull, TypeTooLong, NoFreshNumber, SolutionsFull, OutOfScope}
 use Rattle.judgment.specs.Types.{is_node, occurs}
 use Rattle.judgment.proofs.TypeLaws.{is_node-true}
 use Rattle.judgment.specs.Solutions.{find, solution_nodes, write_out}
@@ -28,13 +27,45 @@ use Rattle.book.specs.Book.{start_of, sols, level_word_of, level_of, levels_of, 
 use Rattle.book.specs.Book.{fitting as fits_book, given, grown as book_grown}
 use Rattle.book.proofs.Holdings.{nodes-count, given-sols, given-booked, start-old}
 use Rattle.book.proofs.Levels.{level-start, level-sols, level-booked, level-other, level-below, lowered-start, lowered-sols, lowered-booked, lowered-other, given-level, levels-put, levels-lowered, levels-given}
+use Rattle.operations.specs.declared.Halt.{Halt}
 use Rattle.operations.specs.declared.Run.{Run}
-use Rattle.operations.specs.State.{reported, outcome_by, state_of, WellFormed, Words, refuse_w, fresh_w, push_w, solve_w, zonk_w, perform_w, Came, Does, Performs, going, stopped, refused_run, made, fresh_run, makes, fresh_words, with_board, Pushes, PushAsk, with_book, Makes, Gives, Made, Solves, SolveAsk}
+use Rattle.operations.specs.State.{reported, halt_of, error_of, refusal_of, outcome_by, state_of, WellFormed, Words, refuse_w, fresh_w, push_w, solve_w, zonk_w, perform_w, Came, Does, Performs, going, stopped, refused_run, made, fresh_run, makes, fresh_words, with_board, Pushes, PushAsk, with_book, Makes, Gives, Made, Solves, SolveAsk}
 
--- a run that goes on was not refused
-pub not-halted : (h : Option TypeError) → going h ≡ true → h ≡ None
-not-halted None e = refl
-not-halted (Some x) e = absurd (true≢false (sym e))
+-- an error's words are those of no other, and none of them is a run that goes on
+halt-is : (e : TypeError) → (going (halt_of e) ≡ false) × (error_of (halt_of e) ≡ e)
+unfolding error_of
+halt-is (UnboundVariable x) = (refl, refl)
+halt-is (UnboundDataConstructor x) = (refl, refl)
+halt-is (NotAFunction n) = (refl, refl)
+halt-is (ArityMismatch e a) = (refl, refl)
+halt-is (SubtypingError l r) = (refl, refl)
+halt-is TypeUnificationError = (refl, refl)
+halt-is (InstantiationError k n) = (refl, refl)
+halt-is (IntrinsicArityMismatch a) = (refl, refl)
+halt-is (UnknownIntrinsic x) = (refl, refl)
+halt-is BoardFull = (refl, refl)
+halt-is TypeTooLong = (refl, refl)
+halt-is NoFreshNumber = (refl, refl)
+halt-is SolutionsFull = (refl, refl)
+halt-is OutOfScope = (refl, refl)
+
+pub halt-stops : (e : TypeError) → going (halt_of e) ≡ false
+halt-stops e = (halt-is e).0
+
+pub error-is : (e : TypeError) → error_of (halt_of e) ≡ e
+error-is e = (halt-is e).1
+
+-- a run that goes on was not refused, one that doesn't was, and by what it was refused for
+pub not-halted : (h : Halt) → going h ≡ true → refusal_of h ≡ None
+unfolding refusal_of
+not-halted h g = rw g refl
+
+pub halted : (h : Halt) → going h ≡ false → refusal_of h ≡ Some (error_of h)
+unfolding refusal_of
+halted h g = rw g refl
+
+pub refused-is : (e : TypeError) (rep : List ℕ) (s : State) → outcome_by (refusal_of (halt_of e)) rep s ≡ refused e (nodes_at rep 0 (reported e)) s
+refused-is e rep s = rw (halted (halt_of e) (halt-stops e), error-is e) refl
 
 -- an outcome, words and levels, each by its own equation
 pub came : {o o' : Outcome} {x x' : Words} {v v' : Levels} → o ≡ o' → x ≡ x' → v ≡ v' → ◌≡◌ {A = Came} (record { outcome = o; words = x; levels = v }) (record { outcome = o'; words = x'; levels = v' })
@@ -55,13 +86,11 @@ words-stay w ls (solve k t p) x g = cond_ind (λ (y : Words). perform_w w ls p y
 words-stay w ls (zonk t f) x g = rw g (words-stay w ls (f (write_out (sols x.book) t)) x g)
 words-stay w ls (look f) x g = words-stay w ls (f (entries_of ls x.board x.run.counters.board.entries)) x g
 
-pub refused-stays : (L : Limits) (h : Option TypeError) → going h ≡ false → (rep : List ℕ) (s : State) (p : Rule) → outcome_by h rep s ≡ perform_o L p (outcome_by h rep s)
-refused-stays L None e rep s p = absurd (true≢false e)
-refused-stays L (Some x) e rep s p = sym (stays L p x (nodes_at rep 0 (reported x)) s)
+pub refused-stays : (L : Limits) (h : Halt) → going h ≡ false → (rep : List ℕ) (s : State) (p : Rule) → outcome_by (refusal_of h) rep s ≡ perform_o L p (outcome_by (refusal_of h) rep s)
+refused-stays L h e rep s p = rw (halted h e) (sym (stays L p (error_of h) (nodes_at rep 0 (reported (error_of h))) s))
 
-pub levels-rest : (L : Limits) (h : Option TypeError) → going h ≡ false → (rep : List ℕ) (s : State) (p : Rule) (v : Levels) → v ≡ perform_l L p (outcome_by h rep s) v
-levels-rest L None e rep s p v = absurd (true≢false e)
-levels-rest L (Some x) e rep s p v = sym (levels-stay L p x (nodes_at rep 0 (reported x)) s v)
+pub levels-rest : (L : Limits) (h : Halt) → going h ≡ false → (rep : List ℕ) (s : State) (p : Rule) (v : Levels) → v ≡ perform_l L p (outcome_by (refusal_of h) rep s) v
+levels-rest L h e rep s p v = rw (halted h e) (sym (levels-stay L p (error_of h) (nodes_at rep 0 (reported (error_of h))) s v))
 
 -- ---- unknowns that were made
 pub older-listed : (t : Ty) {n : ℕ} → n ≤ most_numbers → All (Made n) t → All Listed t
@@ -100,7 +129,7 @@ module _ {b k : List ℕ} {c : Run} (f : WellFormed b k c) (w : Way) (ls : List 
   stops-does g e p q x v = record {
     kept = stopped-kept e;
     taken = refl;
-    outcome = came (q ∙ rw (not-halted c.halt g) refl) x (v ∙ rw (not-halted c.halt g) refl);
+    outcome = came (refused-is e rep (state_of ls b k c) ∙ q ∙ rw (not-halted c.halt g) refl) x (v ∙ rw (not-halted c.halt g) refl);
   }
 
   pub refuse-does : going c.halt ≡ true → (e : TypeError) → Does w ls b k rep c (refuse e (nodes_at rep 0 (reported e))) b k rep (stopped c e)
@@ -260,18 +289,11 @@ abbrev Refuses : Run → TypeError → Run → Type 0
 Refuses c e r = (r ≡ refused_run c e) × Performs c (λ rep. refuse e (nodes_at rep 0 (reported e))) r
 
 -- the first refusal stays
-pub refuse-returns : (c : Run) (e : TypeError) (h : Option TypeError) → h ≡ option_or c.halt (Some e) → Refuses c e (record { counters = c.counters; book = c.book; halt = h })
-refuse-returns c e h q = by c.halt refl
-  where
-    by : (o : Option TypeError) → c.halt ≡ o → Refuses c e (record { counters = c.counters; book = c.book; halt = h })
-    by None p =
-        let g : going c.halt ≡ true = ap going p in
-        let u : h ≡ Some e = q ∙ ap (λ (o : Option TypeError). option_or o (Some e)) p in
-        rw u (sym (refused-run c e g), λ w ls b k rep f. refuse-does f w ls rep g e)
-    by (Some x) p =
-        let g : going c.halt ≡ false = ap going p in
-        let u : h ≡ c.halt = q ∙ ap (λ (o : Option TypeError). option_or o (Some e)) p ∙ sym p in
-        rw u (sym (stays-run c e g), λ w ls b k rep f. stays-does f w ls rep g (refuse e (nodes_at rep 0 (reported e))))
+pub refuse-stays : (c : Run) (e : TypeError) → going c.halt ≡ false → Refuses c e c
+refuse-stays c e g = (sym (stays-run c e g), λ w ls b k rep f. stays-does f w ls rep g (refuse e (nodes_at rep 0 (reported e))))
+
+pub refuse-returns : (c : Run) (e : TypeError) (h : Halt) → going c.halt ≡ true → h ≡ halt_of e → Refuses c e (record { counters = c.counters; book = c.book; halt = h })
+refuse-returns c e h g q = rw q (sym (refused-run c e g), λ w ls b k rep f. refuse-does f w ls rep g e)
 
 -- a fresh number, by the two tests
 module _ (c : Run) where

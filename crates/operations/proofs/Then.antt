@@ -19,10 +19,11 @@ use Rattle.judgment.proofs.SolutionLaws.{other-free}
 use Rattle.board.specs.Board.{entries_of}
 use Rattle.book.specs.Book.{sols, levels_of}
 use Rattle.book.proofs.Holdings.{free_of}
-use Rattle.operations.proofs.Latch.{not-halted, came, words-stay, refused-stays, levels-rest}
+use Rattle.operations.proofs.Latch.{halt-stops, not-halted, came, words-stay, refused-stays, levels-rest}
+use Rattle.operations.specs.declared.Halt.{Halt}
 use Rattle.operations.specs.declared.Run.{Run}
 use Rattle.operations.specs.declared.Zonked.{Zonked}
-use Rattle.operations.specs.State.{outcome_by, state_of, outcome_of, WellFormed, refuse_w, Came, came_to, perform_c, Does, Performs, PerformsOnBoard, PerformsOnBook, going, stopped, refused_run, made, fresh_run, Gives, Solves, SolveAsk, Zonks, Scoped, way_in}
+use Rattle.operations.specs.State.{refusal_of, outcome_by, state_of, outcome_of, WellFormed, refuse_w, Came, came_to, perform_c, Does, Performs, PerformsOnBoard, PerformsOnBook, going, stopped, refused_run, made, fresh_run, Gives, Solves, SolveAsk, Zonks, Scoped, way_in}
 
 -- ---- what an outcome holds, refused or not
 counter-is : (h : Option TypeError) (rep : List ℕ) (Γ : Entries) (σ : Solutions) (n : ℕ) → counter_of (outcome_by h rep (state Γ σ n)) ≡ n
@@ -53,13 +54,13 @@ same-going w ls b k rep c p q e = by (going c.halt) refl
 pub fresh-is : (w : Way) (ls : List Triple) (b k rep : List ℕ) (c : Run) (o : Origin) (f : ℕ → Rule)
     → perform_c w ls (fresh o f) (came_to ls b k rep c) ≡ perform_c w ls (f c.counters.fresh) (perform_c w ls (fresh o (λ n. done)) (came_to ls b k rep c))
 fresh-is w ls b k rep c o f =
-    let n = counter-is c.halt rep (entries_of ls b c.counters.board.entries) (sols k) c.counters.fresh in
+    let n = counter-is (refusal_of c.halt) rep (entries_of ls b c.counters.board.entries) (sols k) c.counters.fresh in
     let O = outcome_of ls b k rep c in
     came (ap (λ (n : ℕ). perform_o (limits_in w) (f n) (fresh_o (limits_in w) O)) n) refl (ap (λ (n : ℕ). perform_l (limits_in w) (f n) (fresh_o (limits_in w) O) (fresh_l (limits_in w) o O (levels_of k))) n)
 
 -- a refusal, whatever follows
 stopped-so : (c : Run) (e : TypeError) → going (refused_run c e).halt ≡ false
-stopped-so c e = cond_ind (λ (r : Run). going r.halt ≡ false) (going c.halt) (λ _. refl) (λ g. g)
+stopped-so c e = cond_ind (λ (r : Run). going r.halt ≡ false) (going c.halt) (λ _. halt-stops e) (λ g. g)
 
 refused-so : (L : Limits) (p : Rule) (e : TypeError) (ts : Ty) (o : Outcome) → perform_o L p (refuse_o L e ts o) ≡ refuse_o L e ts o
 unfolding refuse_o
@@ -97,8 +98,8 @@ module _ {w : Way} {ls : List Triple} {b k rep : List ℕ} {c : Run} {b₂ k₂ 
     taken = d.taken;
     outcome =
         d.outcome
-        ∙ came (ap (λ (Γ : Entries). perform_o (limits_in w) (f Γ) (outcome_of ls b k rep c)) (sym (board-is c.halt rep (entries_of ls b c.counters.board.entries) (sols k) c.counters.fresh))) refl
-        (ap (λ (Γ : Entries). perform_l (limits_in w) (f Γ) (outcome_of ls b k rep c) (levels_of k)) (sym (board-is c.halt rep (entries_of ls b c.counters.board.entries) (sols k) c.counters.fresh)));
+        ∙ came (ap (λ (Γ : Entries). perform_o (limits_in w) (f Γ) (outcome_of ls b k rep c)) (sym (board-is (refusal_of c.halt) rep (entries_of ls b c.counters.board.entries) (sols k) c.counters.fresh))) refl
+        (ap (λ (Γ : Entries). perform_l (limits_in w) (f Γ) (outcome_of ls b k rep c) (levels_of k)) (sym (board-is (refusal_of c.halt) rep (entries_of ls b c.counters.board.entries) (sols k) c.counters.fresh)));
   }
 
   -- a write-out, and then the rest with the type that it left in the report
@@ -113,8 +114,8 @@ module _ {w : Way} {ls : List Triple} {b k rep : List ℕ} {c : Run} {b₂ k₂ 
             d.outcome
             ∙ same-going w ls b k rep₁ z.run (f (nodes_at rep₁ (2 * to) z.nodes)) (f (write_out (sols k) t)) (λ g. ap f (q.nodes g))
             ∙ ap (perform_c w ls (f (write_out (sols k) t))) e.outcome
-            ∙ came (ap (λ (σ : Solutions). perform_o (limits_in w) (f (write_out σ t)) (zonk_o (limits_in w) t (outcome_of ls b k rep c))) (sym (solutions-are c.halt rep (entries_of ls b c.counters.board.entries) (sols k) c.counters.fresh))) refl
-            (ap (λ (σ : Solutions). perform_l (limits_in w) (f (write_out σ t)) (zonk_o (limits_in w) t (outcome_of ls b k rep c)) (levels_of k)) (sym (solutions-are c.halt rep (entries_of ls b c.counters.board.entries) (sols k) c.counters.fresh)));
+            ∙ came (ap (λ (σ : Solutions). perform_o (limits_in w) (f (write_out σ t)) (zonk_o (limits_in w) t (outcome_of ls b k rep c))) (sym (solutions-are (refusal_of c.halt) rep (entries_of ls b c.counters.board.entries) (sols k) c.counters.fresh))) refl
+            (ap (λ (σ : Solutions). perform_l (limits_in w) (f (write_out σ t)) (zonk_o (limits_in w) t (outcome_of ls b k rep c)) (levels_of k)) (sym (solutions-are (refusal_of c.halt) rep (entries_of ls b c.counters.board.entries) (sols k) c.counters.fresh)));
       }
 
   module _ {b₁ k₁ rep₁ : List ℕ} {c₁ : Run} where
@@ -164,9 +165,9 @@ abbrev goes : Outcome → Bool
 goes (finished s) = true
 goes (refused e ts s) = false
 
-goes-is : (h : Option TypeError) (rep : List ℕ) (s : State) → goes (outcome_by h rep s) ≡ going h
-goes-is None rep s = refl
-goes-is (Some e) rep s = refl
+goes-is : (h : Halt) (rep : List ℕ) (s : State) → goes (outcome_by (refusal_of h) rep s) ≡ going h
+unfolding refusal_of
+goes-is h rep s = cond_ind (λ (r : Option TypeError). goes (outcome_by r rep s) ≡ going h) (going h) (λ e. sym e) (λ e. sym e)
 
 goes_back : (L : Limits) (p : Rule) (o : Outcome) → goes (perform_o L p o) ≡ true → goes o ≡ true
 goes_back L p (finished s) e = refl
@@ -215,9 +216,9 @@ counter-grows L (look f) o = counter-grows L (f (board_of o)) o
 pub grows : {w : Way} {ls : List Triple} {b k rep : List ℕ} {c : Run} {p : Rule} {b' k' rep' : List ℕ} {r : Run} → Does w ls b k rep c p b' k' rep' r → c.counters.fresh ≤ r.counters.fresh
 grows {w} {ls} {b} {k} {rep} {c} {p} {b'} {k'} {rep'} {r} d =
     let h = counter-grows (limits_in w) p (outcome_of ls b k rep c) in
-    let x = counter-is c.halt rep (entries_of ls b c.counters.board.entries) (sols k) c.counters.fresh in
+    let x = counter-is (refusal_of c.halt) rep (entries_of ls b c.counters.board.entries) (sols k) c.counters.fresh in
     let y = ap (λ (x : Came). counter_of x.outcome) d.outcome in
-    let z = counter-is r.halt rep' (entries_of ls b' r.counters.board.entries) (sols k') r.counters.fresh in
+    let z = counter-is (refusal_of r.halt) rep' (entries_of ls b' r.counters.board.entries) (sols k') r.counters.fresh in
     omega arith
 
 -- ---- fresh numbers
@@ -241,10 +242,10 @@ kept-sols L (refused e ts s) = refl
 
 pub fresh-sols : {w : Way} {ls : List Triple} {b k rep : List ℕ} {c : Run} {o : Origin} {b' k' rep' : List ℕ} {r : Run} → Does w ls b k rep c (fresh o (λ n. done)) b' k' rep' r → sols k' ≡ sols k
 fresh-sols {w} {ls} {b} {k} {rep} {c} {o} {b'} {k'} {rep'} {r} d =
-    sym (solutions-are r.halt rep' (entries_of ls b' r.counters.board.entries) (sols k') r.counters.fresh)
+    sym (solutions-are (refusal_of r.halt) rep' (entries_of ls b' r.counters.board.entries) (sols k') r.counters.fresh)
     ∙ ap (λ (x : Came). solutions_of x.outcome) d.outcome
     ∙ kept-sols (limits_in w) (outcome_of ls b k rep c)
-    ∙ solutions-are c.halt rep (entries_of ls b c.counters.board.entries) (sols k) c.counters.fresh
+    ∙ solutions-are (refusal_of c.halt) rep (entries_of ls b c.counters.board.entries) (sols k) c.counters.fresh
 
 -- A pair of the number that c makes and of a later one may solve an older unknown; r is the run that solves it, and has
 -- made both; its book has the solutions of before.
@@ -283,5 +284,5 @@ report-free {w} {ls} {b} {k} {rep} {rep₁} {c} {p} g d = record {
   outcome = d.outcome ∙ ap (perform_c w ls p) (came (same c.halt g) refl refl);
 }
   where
-    same : (h : Option TypeError) → going h ≡ true → outcome_by h rep₁ (state_of ls b k c) ≡ outcome_by h rep (state_of ls b k c)
+    same : (h : Halt) → going h ≡ true → outcome_by (refusal_of h) rep₁ (state_of ls b k c) ≡ outcome_by (refusal_of h) rep (state_of ls b k c)
     same h e = rw (not-halted h e) refl

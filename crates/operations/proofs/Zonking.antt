@@ -1,5 +1,4 @@
 -- What a write-out leaves. Assumes nothing.
-use Rattle.judgment.specs.declared.TypeError.{TypeError}
 use Rattle.std.proofs.Common.{Option, Some, None, ◌≡◌, refl, sym, ap, ap₂, ◌∙◌, Bool, true, false, cond, true≢false, List, [], ℕ, ◌+◌, ◌*◌, ◌-◌, ◌≤◌, ◌<◌, arith, length, take, take_all, leb, le-leb, leb-true}
 use Rattle.std.proofs.Math.Seq.{sets, length-sets}
 use borrow.Author.Tests.{lt-leb}
@@ -11,10 +10,11 @@ use Rattle.judgment.specs.Board.{done, zonk}
 use Rattle.judgment.specs.Chain.{zonk_o}
 use Rattle.book.specs.Book.{sols, wrote, written_to}
 use Rattle.book.proofs.Turns.{fits_told, over-told}
+use Rattle.operations.specs.declared.Halt.{Halt}
 use Rattle.operations.specs.declared.Run.{Run}
 use Rattle.operations.specs.declared.Zonked.{Zonked}
-use Rattle.operations.specs.State.{WellFormed, zonk_w, going, stopped, refused_run, zonk_by, zonk_run, zonk_words, ZonkAsk, Zonks}
-use Rattle.operations.proofs.Latch.{not-halted, came, stays-does}
+use Rattle.operations.specs.State.{halt_of, state_of, WellFormed, zonk_w, going, stopped, refused_run, zonk_by, zonk_run, zonk_words, ZonkAsk, Zonks}
+use Rattle.operations.proofs.Latch.{not-halted, refused-is, came, stays-does}
 
 module _ {k : List ℕ} {c : Run} {s : List ℕ} {at n : ℕ} {rep : List ℕ} {to w : ℕ} (a : ZonkAsk k c s at n rep to w) where
   abbrev t : Ty
@@ -43,7 +43,7 @@ module _ {k : List ℕ} {c : Run} {s : List ℕ} {at n : ℕ} {rep : List ℕ} {
     same_length : length rep' ≡ length rep
     same_length = ap length q ∙ length-sets rep (2 * to) (words (take (to + w - to) T))
 
-    moved : {b : List ℕ} (h : Option TypeError) → WellFormed b k c → WellFormed b k (record { counters = c.counters; book = c.book; halt = h })
+    moved : {b : List ℕ} (h : Halt) → WellFormed b k c → WellFormed b k (record { counters = c.counters; book = c.book; halt = h })
     moved h f = record {
       board = f.board;
       book = f.book;
@@ -84,9 +84,9 @@ module _ {k : List ℕ} {c : Run} {s : List ℕ} {at n : ℕ} {rep : List ℕ} {
           rw g q,
           record {
             does = λ z ls b f. record {
-              kept = moved (Some TypeTooLong) f;
+              kept = moved (halt_of TypeTooLong) f;
               taken = refl;
-              outcome = came (rw (not-halted c.halt g, lt-leb (length T) w many)) (rw (g, lt-leb (length T) w many)) refl;
+              outcome = came (refused-is TypeTooLong rep' (state_of ls b k c) ∙ rw (not-halted c.halt g, lt-leb (length T) w many)) (rw (g, lt-leb (length T) w many)) refl;
             };
             nodes = λ z. absurd (true≢false (sym z));
             within = let r = a.room in omega (arith, same_length);

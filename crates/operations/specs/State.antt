@@ -1,6 +1,6 @@
 -- What the words of board, book and report and a run's counters stand for, and what an operation leaves of them.
 -- Assumes nothing: these are definitions.
-use Rattle.std.specs.Prelude.{◌≡◌, ◌≢◌, Bool, true, false, cond, List, ◌∷◌, ℕ, ◌+◌, ◌*◌, ◌-◌, ◌≤◌, ◌<◌, length, leb, ltb, Option, Some, None}
+use Rattle.std.specs.Prelude.{◌≡◌, ◌≢◌, Bool, true, false, cond, List, ◌∷◌, ℕ, ◌+◌, ◌*◌, ◌-◌, ◌≤◌, ◌<◌, length, eqb, leb, ltb, Option, Some, None}
 use Rattle.sizes.specs.Sizes.{most_numbers, book_base}
 use Rattle.nodes.specs.Nodes.{Node, node, Ty, kind, number, nodes_at}
 use Rattle.nodes.specs.Lists.{All}
@@ -10,7 +10,7 @@ use Rattle.judgment.specs.declared.TypeError.TheVariants.{UnboundVariable, Unbou
 use Rattle.judgment.specs.Solutions.{write_out, solved_unknowns}
 use Rattle.judgment.specs.Board.{Entry, Origin, own, universal, splits, Rule, done, refuse, fresh, push, solve, zonk, look, State, state, Outcome, finished, refused}
 use Rattle.judgment.specs.Chain.{perform_o, perform_l}
-use Rattle.judgment.specs.Result.{Way, limits_in, way_of}
+use Rattle.judgment.specs.Result.{error_number, error_details, Way, limits_in, way_of}
 use Rattle.judgment.specs.Levels.{Levels, Mode, first_call, strict_call}
 use Rattle.judgment.specs.Good.{Free}
 use Rattle.board.specs.declared.Board.{Board}
@@ -19,6 +19,7 @@ use Rattle.board.specs.Board.{fitting as fits_board, laid, grown as board_grown}
 use Rattle.book.specs.declared.Book.{Book}
 use Rattle.book.specs.Book.{start_of, sols, level_word_of, level_of, levels_of, levelled, lowered, Booked, wrote, written_to}
 use Rattle.book.specs.Book.{fitting as fits_book, given, grown as book_grown}
+use Rattle.operations.specs.declared.Halt.{Halt}
 use Rattle.operations.specs.declared.Run.{Run}
 use Rattle.operations.specs.declared.Zonked.{Zonked}
 
@@ -40,10 +41,36 @@ reported NoFreshNumber = 0
 reported SolutionsFull = 0
 reported OutOfScope = 0
 
--- not refused
-abbrev pub going : Option TypeError → Bool
-going None = true
-going (Some e) = false
+-- a refusal in words: the number of its error and the two details. 0 is none
+abbrev pub no_halt : Halt
+no_halt = record { number = 0; first = 0; second = 0 }
+
+abbrev pub halt_of : TypeError → Halt
+halt_of e = record { number = error_number e; first = (error_details e).0; second = (error_details e).1 }
+
+abbrev pub going : Halt → Bool
+going h = eqb h.number 0
+
+-- the error that has these numbers (`error-is` in proofs/Latch.antt: `error_of (halt_of e)` is e)
+unfoldable pub error_of : Halt → TypeError
+error_of h =
+    cond (eqb h.number 11) (UnboundVariable h.first)
+    (cond (eqb h.number 12) (UnboundDataConstructor h.first)
+    (cond (eqb h.number 13) (NotAFunction h.first)
+    (cond (eqb h.number 14) (ArityMismatch h.first h.second)
+    (cond (eqb h.number 15) (SubtypingError h.first h.second)
+    (cond (eqb h.number 16) TypeUnificationError
+    (cond (eqb h.number 17) (InstantiationError h.first h.second)
+    (cond (eqb h.number 18) (IntrinsicArityMismatch h.second)
+    (cond (eqb h.number 19) (UnknownIntrinsic h.first)
+    (cond (eqb h.number 22) BoardFull
+    (cond (eqb h.number 23) TypeTooLong
+    (cond (eqb h.number 24) NoFreshNumber
+    (cond (eqb h.number 39) OutOfScope SolutionsFull))))))))))))
+
+-- why a run was refused, if it was
+unfoldable pub refusal_of : Halt → Option TypeError
+refusal_of h = cond (going h) None (Some (error_of h))
 
 abbrev pub outcome_by : Option TypeError → List ℕ → State → Outcome
 outcome_by None rep s = finished s
@@ -53,7 +80,7 @@ abbrev pub state_of : List Triple → List ℕ → List ℕ → Run → State
 state_of ls b k c = state (entries_of ls b c.counters.board.entries) (sols k) c.counters.fresh
 
 abbrev pub outcome_of : List Triple → List ℕ → List ℕ → List ℕ → Run → Outcome
-outcome_of ls b k rep c = outcome_by c.halt rep (state_of ls b k c)
+outcome_of ls b k rep c = outcome_by (refusal_of c.halt) rep (state_of ls b k c)
 
 -- Kept by every operation, also after a refusal: b and k are the words of board and book. The report may hold anything.
 pub record WellFormed (b k : List ℕ) (c : Run) : Type 0 where
@@ -68,7 +95,7 @@ Bookable b c = (k : List ℕ) × WellFormed b k c
 
 -- ---- the operations on words: a refused run stays as it is
 abbrev pub stopped : Run → TypeError → Run
-stopped c e = record { counters = c.counters; book = c.book; halt = Some e }
+stopped c e = record { counters = c.counters; book = c.book; halt = halt_of e }
 
 abbrev pub refused_run : Run → TypeError → Run
 refused_run c e = cond (going c.halt) (stopped c e) c

@@ -9,11 +9,55 @@ ghost use Rattle.judgment.specs.Board.{refuse as refuse_rule, own, universal, sp
 ghost use Rattle.board.specs.Board.{term_at, entry_of, Stacked};
 ghost use Rattle.sizes.specs.Sizes.{most_numbers};
 ghost use Rattle.book.specs.Book.{sols, Booked};
-ghost use Rattle.operations.specs.State.{reported, Performs, going, refused_run, fresh_run, makes, Makes, Pushes, PushAsk, Gives, SolveAsk, zonk_run, zonk_words, ZonkAsk, Zonks};
+ghost use Rattle.operations.specs.State.{reported, no_halt, halt_of, error_of, refusal_of, Performs, going, refused_run, fresh_run, makes, Makes, Pushes, PushAsk, Gives, SolveAsk, zonk_run, zonk_words, ZonkAsk, Zonks};
 
 use board::Board;
 use book::{Book, level, lower, set_level, write_out};
-use judgment::TypeError;
+use judgment::{Details, TypeError, error_details, error_number};
+
+// Why a run was refused: the number of the error and its two details. The number 0 is none.
+#[derive(Clone, Copy)]
+pub struct Halt {
+    pub number: u32,
+    pub first: u32,
+    pub second: u32,
+}
+
+impl Halt {
+    pub fn none() -> Halt
+        ensures { result ≡ no_halt }
+    {
+        Halt {
+            number: 0,
+            first: 0,
+            second: 0,
+        }
+    }
+
+    // Why the run was refused, if it was.
+    #[tactic(auto, unfolding(crate::specs::State::refusal_of))]
+    pub fn refusal(self) -> Option<TypeError>
+        ensures { result ≡ refusal_of self }
+    {
+        if is_going(self) {
+            return None;
+        }
+        Some(error_of(self))
+    }
+}
+
+impl From<TypeError> for Halt {
+    ghost from_gives = { λ e r. r ≡ halt_of e };
+
+    fn from(e: TypeError) -> Halt {
+        let Details(first, second) = error_details(e);
+        Halt {
+            number: error_number(e),
+            first,
+            second,
+        }
+    }
+}
 
 // The counters of a run: entries taken, fresh numbers, the board's entries and their nodes. A step is lent them.
 #[derive(Clone, Copy)]
@@ -33,12 +77,12 @@ pub enum Entry {
     InfApp = 6,
 }
 
-// What the rules hand on: the counters, the nodes of the book, and why the run was refused, if it was.
+// What the rules hand on: the counters, the nodes of the book, and the refusal.
 #[derive(Clone, Copy)]
 pub struct Run {
     pub counters: Counters,
     pub book: Book,
-    pub halt: Option<TypeError>,
+    pub halt: Halt,
 }
 
 // A type written out: the run after it, and its nodes.
@@ -48,18 +92,44 @@ pub struct Zonked {
     pub nodes: usize,
 }
 
-pub fn is_going(h: Option<TypeError>) -> bool
+pub fn is_going(h: Halt) -> bool
     ensures { result ≡ going h }
 {
-    h.is_none()
+    h.number == 0
+}
+
+// The error of a run that was refused. A number that no error has is read as that of SolutionsFull.
+#[tactic(auto, unfolding(crate::specs::State::error_of))]
+pub fn error_of(h: Halt) -> TypeError
+    ensures { result ≡ error_of h }
+{
+    match h.number {
+        11 => TypeError::UnboundVariable(h.first),
+        12 => TypeError::UnboundDataConstructor(h.first),
+        13 => TypeError::NotAFunction(h.first),
+        14 => TypeError::ArityMismatch(h.first, h.second),
+        15 => TypeError::SubtypingError(h.first, h.second),
+        16 => TypeError::TypeUnificationError,
+        17 => TypeError::InstantiationError(h.first, h.second),
+        18 => TypeError::IntrinsicArityMismatch(h.second),
+        19 => TypeError::UnknownIntrinsic(h.first),
+        22 => TypeError::BoardFull,
+        23 => TypeError::TypeTooLong,
+        24 => TypeError::NoFreshNumber,
+        39 => TypeError::OutOfScope,
+        _ => TypeError::SolutionsFull,
+    }
 }
 
 // Refuses; the first refusal of a run stays. The types that the error names stand at the front of the report.
 pub fn refuse(c: Run, e: TypeError) -> Run
     ensures { (result ≡ refused_run c e) × Performs c (λ rep. refuse_rule e (nodes_at rep 0 (reported e))) result }
 {
+    if !is_going(c.halt) {
+        return c;
+    }
     Run {
-        halt: c.halt.or(Some(e)),
+        halt: Halt::from(e),
         ..c
     }
 }

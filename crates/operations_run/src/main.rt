@@ -16,8 +16,8 @@ use book::{Book, Rest, Unlike, clear_book, compare, solve, write_out};
 use judgment::TypeError;
 use nodes::{clear_words, wide};
 use operations::{
-    Counters, Run, Zonked, fresh_evar, is_going, push_sub, push_tvar, push_var, refuse, solve_evar,
-    zonk,
+    Counters, Halt, Run, Zonked, fresh_evar, is_going, push_sub, push_tvar, push_var, refuse,
+    solve_evar, zonk,
 };
 use sizes::{BOARD_SIZE, BOOK_SIZE, USUAL_LIMIT, USUAL_REPORT};
 
@@ -115,7 +115,7 @@ fn run(rt: &HostRuntime, board: &mut [u32], book: &mut [u32], report: &mut [u32]
     let start = Run {
         counters,
         book: Book::new(),
-        halt: None,
+        halt: Halt::none(),
     };
     let c1 = script(board, book, report, start);
     let c2 = script(board, book, report, c1);

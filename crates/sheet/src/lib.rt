@@ -19,7 +19,7 @@ ghost use Rattle.sheet.specs.Binders.{put_names, binder_by, TellsPlaces, UpTo, m
 ghost use Rattle.sheet.specs.Fit.{is_plan, forms, parts_after, WalksOver, walked, line_fits, all_fit};
 
 use grammar::in_order;
-use kinds::{Row, Sort, fields_ok, is_leaf, table_words, unpacked, word_in};
+use kinds::{Row, Sort, fields_ok, is_leaf, row_in, table_words, word_in};
 use sizes::{HIGHEST_NAME, LINE_LENGTH};
 use spelling::{Triple, few_at, line_at};
 
@@ -148,7 +148,7 @@ impl Walk<'_> {
         requires { 2 * i + 1 < length self.sheet.now }
         ensures { result ≡ same_sort (row_of (get_or self.entry.sheet.now (2 * i + 1) 0 % 1024)).sort sort }
     {
-        unpacked(word_in(self.table, self.sheet[2 * i + 1] % 1024)).sort == sort
+        row_in(word_in(self.table, self.sheet[2 * i + 1] % 1024)).sort == sort
     }
 
     // n parts of one sort.
@@ -214,7 +214,7 @@ impl Walk<'_> {
         if is_leaf(word) {
             return here;
         }
-        self.over_parts(here, t.count, unpacked(word))
+        self.over_parts(here, t.count, row_in(word))
     }
 }
 

@@ -23,7 +23,7 @@ use Rattle.judgment.proofs.Plans.{plan-env}
 use Rattle.board.specs.Board.{entries_of}
 use Rattle.book.specs.Book.{sols}
 use Rattle.operations.specs.declared.Run.{Run}
-use Rattle.operations.specs.State.{outcome_by, outcome_of, WellFormed, Made}
+use Rattle.operations.specs.State.{refusal_of, outcome_by, outcome_of, WellFormed, Made}
 use Rattle.subtyping.specs.Subtyping.{Sound}
 use Rattle.applying.specs.Applying.{env_on}
 use Rattle.stepping.specs.Stepping.{longest, EntrySound, Standing}
@@ -95,14 +95,14 @@ stands m L {s} {b} {k} rep {c} {b'} {k'} rep' {q} l h f e =
     let w = read_whole h.plan in
     let z = longest m s in
     let a : Outcome = outcome_of (rows s) b k rep c in
-    let g : OutcomeOK ⊥ a = to-outcome ⊥ c.halt rep _ _ _ h.good in
+    let g : OutcomeOK ⊥ a = to-outcome ⊥ (refusal_of c.halt) rep _ _ _ h.good in
     let v = plan-short z (rows s) (le-max_right m (length (rows s))) in
     let two : 2 ≤ z = le_trans (read_some h.plan) (le-max_right m (length (rows s))) in
     record {
       plan = h.plan;
       formed = f;
-      good = of-outcome ⊥ q.halt rep' (entries_of (rows s) b' q.counters.board.entries) (sols k') q.counters.fresh
+      good = of-outcome ⊥ (refusal_of q.halt) rep' (entries_of (rows s) b' q.counters.board.entries) (sols k') q.counters.fresh
           (subst⁻¹ (OutcomeOK ⊥) e (step_ok ⊥ L (env_on s) (plan-env p (read-good h.plan)) w.0 a g));
-      short = of-short z q.halt rep' (entries_of (rows s) b' q.counters.board.entries) (sols k') q.counters.fresh
-          (subst⁻¹ (OutcomeShort z) e (step-short z two (env_on s) v.0 L l a (whole_of ⊥ a g) (to-short z c.halt rep _ _ _ h.short)));
+      short = of-short z (refusal_of q.halt) rep' (entries_of (rows s) b' q.counters.board.entries) (sols k') q.counters.fresh
+          (subst⁻¹ (OutcomeShort z) e (step-short z two (env_on s) v.0 L l a (whole_of ⊥ a g) (to-short z (refusal_of c.halt) rep _ _ _ h.short)));
     }

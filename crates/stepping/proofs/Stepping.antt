@@ -20,7 +20,7 @@ use Rattle.board.specs.Board.{entries_of, Stacked, top_of}
 use Rattle.board.proofs.Stacks.{top-size, top-entries, top-stacked, top_within}
 use Rattle.book.specs.Book.{sols, levels_of}
 use Rattle.operations.specs.declared.Run.{Run}
-use Rattle.operations.specs.State.{Words, Came, perform_w, outcome_by, outcome_of, state_of, WellFormed, Does, way_in}
+use Rattle.operations.specs.State.{Words, Came, perform_w, refusal_of, outcome_by, outcome_of, state_of, WellFormed, Does, way_in}
 use Rattle.applying.specs.Applying.{env_on}
 use Rattle.stepping.specs.Rooms.{Room, room, judged_room}
 use Rattle.stepping.specs.Stepping.{longest, top_entry, taking, JudgeAsk, Stepping, StepAsk}
@@ -86,9 +86,9 @@ module _ {m : ℕ} {s b k rep : List ℕ} {c : Run} {t l r w v : List ℕ} (a : 
       let g = a.goes in
       let n : Entry = top_entry ls b o in
       let σ = sols k in
-      let one : perform_o (limits_in (way_in strict m k)) (rule E n) (outcome_by c.halt rep (state below σ c.counters.fresh)) ≡ step_o (limits_in (way_in strict m k)) E (outcome_by c.halt rep (state_of ls b k c))
+      let one : perform_o (limits_in (way_in strict m k)) (rule E n) (outcome_by (refusal_of c.halt) rep (state below σ c.counters.fresh)) ≡ step_o (limits_in (way_in strict m k)) E (outcome_by (refusal_of c.halt) rep (state_of ls b k c))
       = rw (not-halted c.halt g, entries-are) (performs (limits_in (way_in strict m k)) (rule E n) below σ c.counters.fresh) in
-      let two : perform_l (limits_in (way_in strict m k)) (rule E n) (outcome_by c.halt rep (state below σ c.counters.fresh)) (levels_of k) ≡ step_l (limits_in (way_in strict m k)) E (outcome_by c.halt rep (state_of ls b k c)) (levels_of k)
+      let two : perform_l (limits_in (way_in strict m k)) (rule E n) (outcome_by (refusal_of c.halt) rep (state below σ c.counters.fresh)) (levels_of k) ≡ step_l (limits_in (way_in strict m k)) E (outcome_by (refusal_of c.halt) rep (state_of ls b k c)) (levels_of k)
       = rw (not-halted c.halt g, entries-are) (levels-performed (limits_in (way_in strict m k)) (rule E n) below σ c.counters.fresh (levels_of k)) in
       let f : outcome_of ls b' k' rep' q ≡ step_o (limits_in (way_in strict m k)) E (outcome_of ls b k rep c) = ap (λ (x : Came). x.outcome) d.outcome ∙ one in
       record {

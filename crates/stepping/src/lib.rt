@@ -15,16 +15,15 @@ use board::{Top, pop};
 use book::Book;
 use checking::solve_checking;
 use inferring::solve_inference;
-use judgment::TypeError;
 use nodes::copy_nodes;
-use operations::{Counters, Run};
+use operations::{Counters, Halt, Run};
 use subtyping::solve_subtype;
 
 // What a run has beside its counters, the nodes that it writes out at most, and whether the strict call began it.
 #[derive(Clone, Copy)]
 struct Kept {
     book: Book,
-    halt: Option<TypeError>,
+    halt: Halt,
     limit: usize,
     strict: bool,
 }

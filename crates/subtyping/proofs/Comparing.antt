@@ -1,8 +1,7 @@
 -- Sub by what a comparison has met. Assumes nothing.
-use Rattle.judgment.specs.declared.TypeError.{TypeError}
 use Rattle.book.specs.declared.Unlike.TheVariants.{Differ, Over}
 use Rattle.book.specs.declared.Unlike.{Unlike}
-use Rattle.std.proofs.Common.{Result, Ok, Err, Option, ◌≡◌, refl, sym, ap, ap₂, ◌∙◌, ◌≢◌, Bool, true, false, cond, true≢false, List, ℕ, suc, ◌+◌, ◌*◌, ◌≤◌, ◌<◌, arith, length, take, le-leb}
+use Rattle.std.proofs.Common.{Result, Ok, Err, ◌≡◌, refl, sym, ap, ap₂, ◌∙◌, ◌≢◌, Bool, true, false, cond, true≢false, List, ℕ, suc, ◌+◌, ◌*◌, ◌≤◌, ◌<◌, arith, length, take, le-leb}
 use mathlib.Core.Path.{subst⁻¹}
 use borrow.Author.Tests.{lt-leb}
 use Rattle.nodes.specs.Nodes.{Ty, node_parts, nodes_at}
@@ -20,9 +19,10 @@ use Rattle.judgment.proofs.TypeLaws.{eq_ty-same, eq_ty-not}
 use Rattle.judgment.specs.Levels.{Levels}
 use Rattle.board.specs.Board.{entries_of}
 use Rattle.book.specs.Book.{sols, levels_of}
+use Rattle.operations.specs.declared.Halt.{Halt}
 use Rattle.operations.specs.declared.Run.{Run}
-use Rattle.operations.specs.State.{outcome_by, zonk_w, perform_w, Does, going, stopped, refused_run, Zonks}
-use Rattle.operations.proofs.Latch.{not-halted, came, stays-does}
+use Rattle.operations.specs.State.{refusal_of, outcome_by, state_of, zonk_w, perform_w, Does, going, stopped, refused_run, Zonks}
+use Rattle.operations.proofs.Latch.{not-halted, refused-is, came, stays-does}
 use Rattle.operations.proofs.Then.{does-as, done-does, zonk-then}
 use Rattle.book.specs.declared.Rest.{Rest}
 use Rattle.book.specs.Compared.{parts_from, verdict, passed, compared, MeetAsk}
@@ -31,13 +31,13 @@ use Rattle.subtyping.specs.Subtyping.{differ_report, subtype_report, SubtypeAsk}
 use Rattle.subtyping.proofs.Outs.{written_sub, same-done}
 
 -- ---- a write-out that is judged and not made
-fits_out : (w : Way) (h : Option TypeError) → going h ≡ true → (rep : List ℕ) (Γ : Entries) (σ : Solutions) (n : ℕ) (t : Ty) (f : Ty → Rule) → length (write_out σ t) ≤ w.written
-    → perform_o (limits_in w) (f (write_out σ t)) (outcome_by h rep (state Γ σ n)) ≡ perform_o (limits_in w) (zonk t f) (outcome_by h rep (state Γ σ n))
+fits_out : (w : Way) (h : Halt) → going h ≡ true → (rep : List ℕ) (Γ : Entries) (σ : Solutions) (n : ℕ) (t : Ty) (f : Ty → Rule) → length (write_out σ t) ≤ w.written
+    → perform_o (limits_in w) (f (write_out σ t)) (outcome_by (refusal_of h) rep (state Γ σ n)) ≡ perform_o (limits_in w) (zonk t f) (outcome_by (refusal_of h) rep (state Γ σ n))
 unfolding zonk_o
 fits_out w h g rep Γ σ n t f few = rw (not-halted h g, le-leb (length (write_out σ t)) w.written few) refl
 
-fits-levels : (w : Way) (h : Option TypeError) → going h ≡ true → (rep : List ℕ) (Γ : Entries) (σ : Solutions) (n : ℕ) (t : Ty) (f : Ty → Rule) (v : Levels) → length (write_out σ t) ≤ w.written
-    → perform_l (limits_in w) (f (write_out σ t)) (outcome_by h rep (state Γ σ n)) v ≡ perform_l (limits_in w) (zonk t f) (outcome_by h rep (state Γ σ n)) v
+fits-levels : (w : Way) (h : Halt) → going h ≡ true → (rep : List ℕ) (Γ : Entries) (σ : Solutions) (n : ℕ) (t : Ty) (f : Ty → Rule) (v : Levels) → length (write_out σ t) ≤ w.written
+    → perform_l (limits_in w) (f (write_out σ t)) (outcome_by (refusal_of h) rep (state Γ σ n)) v ≡ perform_l (limits_in w) (zonk t f) (outcome_by (refusal_of h) rep (state Γ σ n)) v
 unfolding zonk_o
 fits-levels w h g rep Γ σ n t f v few = rw (not-halted h g, le-leb (length (write_out σ t)) w.written few) refl
 
@@ -112,7 +112,7 @@ module _ {b k rep : List ℕ} {c : Run} {at ln rn w : ℕ} (p : SubtypeAsk b k r
     does = λ z ls b f. record {
       kept = record { board = f.board; book = f.book; numbers = f.numbers; unmade = f.unmade };
       taken = refl;
-      outcome = came (rw (not-halted c.halt g, lt-leb (length L) w many)) (rw (g, lt-leb (length L) w many)) refl;
+      outcome = came (refused-is TypeTooLong rep (state_of ls b k c) ∙ rw (not-halted c.halt g, lt-leb (length L) w many)) (rw (g, lt-leb (length L) w many)) refl;
     };
     nodes = λ z. absurd (true≢false (sym z));
     within = omega arith;

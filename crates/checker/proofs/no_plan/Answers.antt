@@ -1,5 +1,5 @@
 use Rattle.checker.proofs.Answering.{line_word}
-use Rattle.std.proofs.Common.{rules, sym, ◌∙◌}
+use Rattle.std.proofs.Common.{rules}
 use Rattle.checker.proofs.no_plan.Goals as goal
 
 pub overflow_cast-line : goal.overflow_cast-line

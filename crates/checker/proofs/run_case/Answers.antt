@@ -1,4 +1,4 @@
-use Rattle.std.proofs.Common.{rules, arith}
+use Rattle.std.proofs.Common.{arith}
 use Rattle.stepping.proofs.Reading.{read-few}
 use Rattle.checker.proofs.run_case.Goals as goal
 

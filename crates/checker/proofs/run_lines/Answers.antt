@@ -1,5 +1,4 @@
 use Rattle.std.proofs.Common.{rules}
-use Rattle.checker.proofs.Reading.{rows-asks}
 use Rattle.checker.proofs.run_lines.Goals as goal
 
 pub whole_as_front-run_rows : goal.whole_as_front-run_rows

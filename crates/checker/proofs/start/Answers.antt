@@ -1,4 +1,3 @@
-use Rattle.std.proofs.Common.{refl}
 use Prim.Native.Nat.{◌<◌}
 use Rattle.checker.proofs.Starting.{begins, copy-asks, line_word, push-asks, begun-is}
 use borrow.Author.Rules.{rules}
@@ -24,4 +23,4 @@ push-board-requires c = let p = c.requires in
 
 pub returns : goal.returns
 returns c = let p = c.requires in
-    begun-is p c.find_places-places.ensures c.part_line.ensures c.copy_type.ensures c.copy_type.auto.dst c.new.ensures c.push-board.ensures c.clear_book.ensures c.new-2.ensures refl
+    begun-is p c.find_places-places.ensures c.part_line.ensures c.copy_type.ensures c.copy_type.auto.dst c.new.ensures c.push-board.ensures c.clear_book.ensures c.new-2.ensures c.none.ensures

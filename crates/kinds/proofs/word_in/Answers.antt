@@ -1,7 +1,7 @@
 use Rattle.std.proofs.Common.{◌≡◌, get_or, arith, ap, ◌∙◌}
 use Rattle.std.proofs.lemmas.Grind.{common_steps}
 use Rattle.std.proofs.lemmas.Option.{gets}
-use Rattle.kinds.specs.Kinds.{row_in, row_of, word_of}
+use Rattle.kinds.specs.Kinds.{row_in}
 use Rattle.kinds.proofs.Rows.{word-read, word-row}
 use Rattle.kinds.proofs.word_in.Goals as goal
 

@@ -12,7 +12,7 @@ script-c1-requires c = let p = c.requires in
     let lr = c.clear_words.auto.dst in
     let x = p.0 in
     let y = p.2 in
-    rw (c.new.ensures, c.new-2.ensures, c.clear_book.ensures) (start-formed _ _ (omega arith) p.1, omega arith)
+    rw (c.new.ensures, c.new-2.ensures, c.none.ensures, c.clear_book.ensures) (start-formed _ _ (omega arith) p.1, omega arith)
 
 pub script-c2-requires : goal.script-c2-requires
 script-c2-requires c = let p = c.requires in

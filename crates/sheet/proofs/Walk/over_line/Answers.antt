@@ -10,5 +10,5 @@ returns-then-is_leaf c = λ ls h. leaf_walked ls c.args.i c.args.t c.word_in-wor
 pub returns : goal.returns
 returns c = λ ls h.
     (let a = c.args in
-    let u = c.unpacked.ensures in
+    let u = c.row_in.ensures in
     line-walked ls a.i a.t (u ∙ c.word_in-word.ensures.row) (c.fields_ok.ensures ∙ ap (λ (r : Row). fields_ok r a.t) (sym u)) (c.over_parts.ensures ls h))
