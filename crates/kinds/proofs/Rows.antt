@@ -149,13 +149,23 @@ word-read w k e h = go (ltb k 44) refl
         let z : get_or w k 0 ≡ 0 = get_or-eq_default w 0 (omega arith) in
         rw (z, above k table l) refl
 
-pub word-row : (k : ℕ) → row_in (word_of (row_of k)) ≡ row_of k
+-- the row alone, of any words that hold those rows
+pub row-read : (w : List ℕ) (k : ℕ) → length w ≡ 44 → ((j : ℕ) → j < 44 → row_in (get_or w j 0) ≡ row_of j) → row_in (get_or w k 0) ≡ row_of k
 unfolding row_of table
-word-row k = go (ltb k 44) refl
+row-read w k e h = go (ltb k 44) refl
   where
-    go : (t : Bool) → ltb k 44 ≡ t → row_in (word_of (row_of k)) ≡ row_of k
-    go true q = row-held k (ltb-true k 44 q)
-    go false q = let l = ltb-false k 44 q in rw (above k table l) (refl {a = unlisted})
+    go : (t : Bool) → ltb k 44 ≡ t → row_in (get_or w k 0) ≡ row_of k
+    go true q = h k (ltb-true k 44 q)
+    go false q =
+        let l = ltb-false k 44 q in
+        let z : get_or w k 0 ≡ 0 = get_or-eq_default w 0 (omega arith) in
+        rw (z, above k table l) (refl {a = unlisted})
+
+pub word-row : (k : ℕ) → row_in (word_of (row_of k)) ≡ row_of k
+unfolding tabled
+word-row k =
+    let w = tabled kind_word 0 44 in
+    ap row_in (sym (word-read w k refl words-tabled)) ∙ row-read w k refl (λ j h. ap row_in (words-tabled j h) ∙ row-held j h)
 
 -- its last three digits are those of what follows
 two_digits : (v : ℕ) → v % 256 ≡ 16 * (v / 16 % 16) + v % 16
